@@ -1,0 +1,30 @@
+-- Whole numbers as octets, the most significant one first: X.690, sections 8.1.3.5 and 8.3.
+use Rattle.std.specs.Prelude.{◌≡◌, ℕ, zero, suc, ◌+◌, ◌-◌, ◌*◌, ◌/◌, ◌%◌, ◌^◌, List, [], ◌∷◌, Bool, nat_lt, length, map, if◌then◌else◌, ℤ, pos, negsuc}
+
+-- the number that octets stand for
+abbrev pub number : List ℕ → ℕ
+number [] = 0
+number (octet ∷ octets) = octet * 256 ^ length octets + number octets
+
+-- a number below 256 ^ count in count octets
+abbrev pub octets : ℕ → ℕ → List ℕ
+octets zero n = []
+octets (suc count) n = (n / 256 ^ count % 256) ∷ octets count n
+
+-- how many octets a number below 2 ^ 64 takes without a sign, at least one
+abbrev pub count_unsigned : ℕ → ℕ
+count_unsigned n =
+    if nat_lt n (256 ^ 1) then 1 else (if nat_lt n (256 ^ 2) then 2 else (if nat_lt n (256 ^ 3) then 3 else (if nat_lt n (256 ^ 4) then 4
+    else (if nat_lt n (256 ^ 5) then 5 else (if nat_lt n (256 ^ 6) then 6 else (if nat_lt n (256 ^ 7) then 7 else 8))))))
+
+-- how many octets leave the first bit of a number below 2 ^ 63 zero
+abbrev pub count_signed : ℕ → ℕ
+count_signed n =
+    if nat_lt n (2 ^ 7) then 1 else (if nat_lt n (2 ^ 15) then 2 else (if nat_lt n (2 ^ 23) then 3 else (if nat_lt n (2 ^ 31) then 4
+    else (if nat_lt n (2 ^ 39) then 5 else (if nat_lt n (2 ^ 47) then 6 else (if nat_lt n (2 ^ 55) then 7 else 8))))))
+
+-- the contents octets of an INTEGER of 64 bits: two's complement, in as few octets as hold it. That of -(n + 1) is n with
+-- each bit turned. X.690, section 8.3.
+unfoldable pub integer_contents : ℤ → List ℕ
+integer_contents (pos n) = octets (count_signed n) n
+integer_contents (negsuc n) = map (λ octet. 255 - octet) (octets (count_signed n) n)

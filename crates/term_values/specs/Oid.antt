@@ -1,0 +1,33 @@
+-- Object identifiers and their contents octets: X.660, clause 7; X.690, section 8.19.
+use Rattle.std.specs.Prelude.{ℕ, zero, suc, ◌+◌, ◌*◌, ◌/◌, ◌%◌, ◌^◌, List, [], ◌∷◌, ◌++◌, Bool, true, false, ◌&&◌, ◌||◌, ◌==◌, nat_lt, nat_le, length, flat_map, if◌then◌else◌}
+
+-- the first two arcs of an identifier
+abbrev pub begins : ℕ → ℕ → Bool
+begins first second = nat_lt first 2 && nat_lt second 40 || first == 2 && nat_le second 4294967215
+
+-- these arcs are an identifier
+abbrev pub is_oid : List ℕ → Bool
+is_oid [] = false
+is_oid (first ∷ []) = false
+is_oid (first ∷ second ∷ others) = nat_le (length others) 62 && begins first second
+
+-- the last seven bits of a number, and before them that many groups of seven, each with the bit that says that more follow
+abbrev pub groups : ℕ → ℕ → List ℕ
+groups zero n = n % 128 ∷ []
+groups (suc more) n = (128 + (n / 128 ^ (more + 1)) % 128) ∷ groups more n
+
+-- how many groups stand before the last one, as few as hold the number, which is below 2 ^ 32
+abbrev pub groups_before : ℕ → ℕ
+groups_before n =
+    if nat_lt n 128 then 0
+    else (if nat_lt n (128 ^ 2) then 1 else (if nat_lt n (128 ^ 3) then 2 else (if nat_lt n (128 ^ 4) then 3 else 4)))
+
+-- a subidentifier: X.690, section 8.19.2
+unfoldable pub subidentifier : ℕ → List ℕ
+subidentifier n = groups (groups_before n) n
+
+-- the contents octets: X.690, section 8.19.3 and 8.19.4
+abbrev pub oid_contents : List ℕ → List ℕ
+oid_contents [] = []
+oid_contents (first ∷ []) = []
+oid_contents (first ∷ second ∷ others) = subidentifier (first * 40 + second) ++ flat_map subidentifier others

@@ -1,0 +1,12 @@
+//! Identifiers, tags, trees of tagged values, syntaxes and typed values: X.680 and X.690.
+#![tactic(auto)]
+
+pub mod bytes;
+pub mod oid;
+pub mod tag;
+pub mod tree;
+
+pub use bytes::Bytes;
+pub use oid::Oid;
+pub use tag::Tag;
+pub use tree::{Body, Tree, Trees};
