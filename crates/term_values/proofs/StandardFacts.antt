@@ -1,7 +1,7 @@
 -- Examples of X.690, computed from the definitions.
 use Rattle.std.specs.Prelude.{◌≡◌, [], ◌∷◌, List, ℕ, true, false, pos, negsuc, Some, None, refl}
-use Rattle.term_values.specs.Octets.{integer_contents, octets}
-use Rattle.term_values.specs.Oid.{oid_contents, subidentifier, is_oid}
+use Rattle.term_values.specs.Octets.{integer_contents, integer_in}
+use Rattle.term_values.specs.Oid.{oid_contents, subidentifier, oid_in}
 use Rattle.term_values.specs.Der.{written, identifier_octets, length_octets}
 use Rattle.term_values.specs.BerReading.{tree_in, front_of, length_at, identifier_of}
 use Rattle.term_values.specs.Tree.TreeValue.{Primitive, Constructed}
@@ -39,3 +39,20 @@ example_read = refl
 example_truncated : tree_in (0x02 ∷ 0x02 ∷ []) ≡ None
 unfolding front_of length_at identifier_of
 example_truncated = refl
+
+example_oid_read : oid_in (0x88 ∷ 0x37 ∷ 0x03 ∷ []) ≡ Some (2 ∷ 999 ∷ 3 ∷ [])
+unfolding oid_in
+example_oid_read = refl
+
+-- a leading 80 is not as few octets as hold the number
+example_oid_padded : oid_in (0x88 ∷ 0x37 ∷ 0x80 ∷ 0x03 ∷ []) ≡ None
+unfolding oid_in
+example_oid_padded = refl
+
+example_integer_read : integer_in (0xFF ∷ 0x7F ∷ []) ≡ Some (negsuc 128)
+unfolding integer_in
+example_integer_read = refl
+
+example_integer_padded : integer_in (0x00 ∷ 0x01 ∷ []) ≡ None
+unfolding integer_in
+example_integer_padded = refl

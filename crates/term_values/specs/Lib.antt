@@ -1,8 +1,11 @@
 pub mod Ber
 pub mod BerReading
 pub mod Der
+pub mod Fits
 pub mod Octets
 pub mod Oid
 pub mod Tree
 pub mod TreeDepth
 pub mod TreeView
+pub mod Typed
+pub mod TypedView

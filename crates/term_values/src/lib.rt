@@ -3,10 +3,14 @@
 
 pub mod bytes;
 pub mod oid;
+pub mod syntax;
 pub mod tag;
 pub mod tree;
+pub mod value;
 
 pub use bytes::Bytes;
 pub use oid::Oid;
+pub use syntax::{Syntax, SyntaxForm};
 pub use tag::Tag;
 pub use tree::{Body, Tree, Trees};
+pub use value::{Value, ValueForm};
