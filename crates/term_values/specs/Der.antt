@@ -21,6 +21,10 @@ identifier_octets constructed tag =
 unfoldable pub length_octets : ℕ → List ℕ
 length_octets n = if nat_lt n 128 then n ∷ [] else (128 + count_unsigned n) ∷ octets (count_unsigned n) n
 
+-- a value of this form and tag with these contents octets
+abbrev pub encoded : Bool → Tag → List ℕ → List ℕ
+encoded constructed tag contents = identifier_octets constructed tag ++ (length_octets (length contents) ++ contents)
+
 abbrev mutual
   pub written : TreeValue → List ℕ
   written (Primitive tag contents) = identifier_octets false tag ++ (length_octets (length contents) ++ contents)

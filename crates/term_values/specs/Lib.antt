@@ -4,6 +4,7 @@ pub mod Der
 pub mod Fits
 pub mod Octets
 pub mod Oid
+pub mod Tag
 pub mod Tree
 pub mod TreeDepth
 pub mod TreeView

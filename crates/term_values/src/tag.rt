@@ -42,6 +42,11 @@ impl Tag {
         number: 17,
     };
 
+    pub const GENERALIZED_TIME: Tag = Tag {
+        class: UNIVERSAL,
+        number: 24,
+    };
+
     /// The context-specific tag with this number.
     pub const fn context(number: u32) -> Tag
         ensures { result ≡ record { class = 2; number = number } }

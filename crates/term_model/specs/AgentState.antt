@@ -1,0 +1,63 @@
+-- The state of the one-manager agent: what it starts from, and what it holds of associations and operations.
+use Rattle.std.specs.Prelude.{ℕ, suc, zero, ◌+◌, ◌-◌, ◌==◌, ◌&&◌, Bool, true, false, not, List, [], ◌∷◌, length, map, count_by, slice_get, slice_set, Option, None, Some, option_and_then, is_some, if◌then◌else◌}
+use Rattle.std.specs.Option.{option_map, option_map_or}
+use Rattle.term_model.specs.declared.agent_state.AgentState.{AgentState}
+use Rattle.term_model.specs.declared.agent_state.Association.{Association}
+use Rattle.term_model.specs.declared.agent_state.AssociationState.{AssociationState}
+use Rattle.term_model.specs.declared.agent_state.AssociationState.TheVariants as association
+use Rattle.term_model.specs.declared.agent_state.NamedObject.{NamedObject}
+use Rattle.term_model.specs.declared.agent_state.Operation.{Operation}
+use Rattle.term_model.specs.declared.agent_state.OperationState.{OperationState}
+use Rattle.term_model.specs.declared.agent_state.OperationState.TheVariants as operation
+use Rattle.term_model.specs.declared.schema.InstRec.{InstRec}
+use Rattle.term_model.specs.declared.schema.Set.{Set}
+
+-- the object that an instance states
+abbrev pub opened_object : InstRec → NamedObject
+opened_object instance = record { name = instance.name; object = record { class = instance.class; binding = None; chosen = []; attrs = instance.given } }
+
+-- the agent before any entry: the objects at the opening, and nothing else
+abbrev pub start : Set → AgentState
+start schema = record { schema = schema; objects = map opened_object schema.instances; associations = []; operations = []; entries = 0 }
+
+-- what stands under a number, which counts from 1
+abbrev pub numbered : {T : Type 0} → List T → ℕ → Option T
+numbered items number = if number == 0 then None else slice_get items (number - 1)
+
+abbrev pub association_of : AgentState → ℕ → Option Association
+association_of agent number = numbered agent.associations number
+
+abbrev pub operation_of : AgentState → ℕ → Option Operation
+operation_of agent number = numbered agent.operations number
+
+abbrev pub is_live_state : AssociationState → Bool
+is_live_state association.Live = true
+is_live_state _ = false
+
+abbrev pub is_finished_state : AssociationState → Bool
+is_finished_state association.Finished = true
+is_finished_state _ = false
+
+abbrev pub is_closed_state : AssociationState → Bool
+is_closed_state (association.Closed why) = true
+is_closed_state _ = false
+
+abbrev pub is_waiting_state : OperationState → Bool
+is_waiting_state operation.Waiting = true
+is_waiting_state _ = false
+
+abbrev pub is_ended_state : OperationState → Bool
+is_ended_state (operation.Ended place) = true
+is_ended_state _ = false
+
+abbrev pub granted_moment : OperationState → Option ℕ
+granted_moment (operation.Granted moment) = Some moment
+granted_moment _ = None
+
+-- how many operations of an association have not ended
+abbrev pub outstanding : AgentState → ℕ → ℕ
+outstanding agent number = count_by (λ (operation_ : Operation). operation_.association == number && not (is_ended_state operation_.state)) agent.operations
+
+-- how many bytes are placed and not taken; of a closed association nothing is left to take
+abbrev pub left_to_take : Association → ℕ
+left_to_take association_ = if is_closed_state association_.state then 0 else length association_.placed - association_.taken

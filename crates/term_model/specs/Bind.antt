@@ -1,0 +1,36 @@
+-- The exchange that opens an association: BIND ::= SEQUENCE { title OBJECT IDENTIFIER }, and its answer
+-- SEQUENCE { ENUMERATED { accepted(0), titleInUse(1), badBind(2), tooMany(3) }, INTEGER association }.
+use Rattle.std.specs.Prelude.{ℕ, pos, List, [], ◌∷◌, ◌++◌, true, false, ◌&&◌, if◌then◌else◌, Option, None, Some, option_and_then}
+use Rattle.term_values.specs.declared.tag.TheConstants.Tag.{ENUMERATED, OBJECT_IDENTIFIER, SEQUENCE}
+use Rattle.term_values.specs.BerReading.{tree_in}
+use Rattle.term_values.specs.Der.{encoded}
+use Rattle.term_values.specs.Octets.{integer_contents}
+use Rattle.term_values.specs.Oid.{oid_contents, oid_in}
+use Rattle.term_values.specs.Tag.{is_same_tag}
+use Rattle.term_values.specs.Tree.{TreeValue}
+use Rattle.term_values.specs.Tree.TreeValue.{Primitive, Constructed}
+use Rattle.term_values.specs.Tree.TreeValues.{Nothing, Then}
+use Rattle.term_model.specs.RemoteOperation.{integer}
+
+-- the written BIND of a manager with this title
+abbrev pub bind : List ℕ → List ℕ
+bind title = encoded true SEQUENCE (encoded false OBJECT_IDENTIFIER (oid_contents title))
+
+-- the title in a BIND
+abbrev pub title_of : TreeValue → Option (List ℕ)
+title_of (Constructed tag (Then (Primitive inner contents) Nothing)) = if is_same_tag tag SEQUENCE && is_same_tag inner OBJECT_IDENTIFIER then oid_in contents else None
+title_of _ = None
+
+abbrev pub title_in : List ℕ → Option (List ℕ)
+title_in bytes = option_and_then title_of (tree_in bytes)
+
+-- the results of a BIND
+abbrev pub accepted : ℕ
+accepted = 0
+
+abbrev pub bad_bind : ℕ
+bad_bind = 2
+
+-- the answer to the BIND of an association with this number
+abbrev pub bind_answer : ℕ → ℕ → List ℕ
+bind_answer result association = encoded true SEQUENCE (encoded false ENUMERATED (integer_contents (pos result)) ++ integer (pos association))

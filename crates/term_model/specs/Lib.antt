@@ -1,0 +1,13 @@
+pub mod AgentState
+pub mod Bind
+pub mod Comparing
+pub mod GetRequest
+pub mod History
+pub mod Moment
+pub mod ObjectOperation
+pub mod Operation
+pub mod Played
+pub mod RemoteOperation
+pub mod Rising
+pub mod Step
+pub mod Texts

@@ -1,0 +1,64 @@
+-- Remote operations in frames: X.229, section 9. A frame is four octets of length and an APDU.
+use Rattle.std.specs.Prelude.{ℕ, ℤ, pos, negsuc, List, [], ◌∷◌, ◌++◌, Bool, true, false, ◌^◌, nat_lt, length, if◌then◌else◌, Option, None, Some, option_and_then}
+use Rattle.term_values.specs.declared.tag.Tag.{Tag}
+use Rattle.term_values.specs.declared.tag.TheConstants.Tag.{INTEGER, SEQUENCE}
+use Rattle.term_values.specs.Der.{encoded}
+use Rattle.term_values.specs.Octets.{octets, integer_contents, integer_in}
+use Rattle.term_values.specs.Tag.{context, is_same_tag}
+use Rattle.term_values.specs.Tree.{TreeValue, TreeValues}
+use Rattle.term_values.specs.Tree.TreeValue.{Primitive, Constructed}
+use Rattle.term_values.specs.Tree.TreeValues.{Nothing, Then}
+
+-- the tags of the APDUs
+abbrev pub invoke_tag : Tag
+invoke_tag = context 1
+
+abbrev pub result_tag : Tag
+result_tag = context 2
+
+abbrev pub error_tag : Tag
+error_tag = context 3
+
+-- an APDU in its frame
+abbrev pub frame : List ℕ → List ℕ
+frame apdu = octets 4 (length apdu) ++ apdu
+
+abbrev pub integer : ℤ → List ℕ
+integer n = encoded false INTEGER (integer_contents n)
+
+-- RORS: the invoke id, the operation and the result
+abbrev pub result_apdu : ℤ → ℤ → List ℕ → List ℕ
+result_apdu invoke operation result = encoded true result_tag (integer invoke ++ encoded true SEQUENCE (integer operation ++ result))
+
+-- ROER: the invoke id, the error and its parameter
+abbrev pub error_apdu : ℤ → ℤ → List ℕ → List ℕ
+error_apdu invoke error parameter = encoded true error_tag (integer invoke ++ (integer error ++ parameter))
+
+-- ROIV: the invoke id, the operation and its argument
+pub record Invoke : Type 0 where
+  pub id : ℤ
+  pub operation : ℤ
+  pub argument : TreeValue
+
+-- an INTEGER
+abbrev pub integer_of : TreeValue → Option ℤ
+integer_of (Primitive tag contents) = if is_same_tag tag INTEGER then integer_in contents else None
+integer_of (Constructed tag inside) = None
+
+abbrev pub is_within_32_bits : ℤ → Bool
+is_within_32_bits (pos n) = nat_lt n (2 ^ 31)
+is_within_32_bits (negsuc n) = nat_lt n (2 ^ 31)
+
+-- an invoke id, which has at most 32 bits
+abbrev pub id_of : TreeValue → Option ℤ
+id_of tree = option_and_then (λ n. if is_within_32_bits n then Some n else None) (integer_of tree)
+
+-- what an APDU invokes, without a linked id and with an argument
+abbrev pub invoke_parts : TreeValues → Option Invoke
+invoke_parts (Then id (Then operation (Then argument Nothing))) =
+    option_and_then (λ i. option_and_then (λ o. Some (record { id = i; operation = o; argument = argument })) (integer_of operation)) (id_of id)
+invoke_parts _ = None
+
+abbrev pub invoke_of : TreeValue → Option Invoke
+invoke_of (Constructed tag inside) = if is_same_tag tag invoke_tag then invoke_parts inside else None
+invoke_of (Primitive tag contents) = None

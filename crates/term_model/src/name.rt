@@ -1,0 +1,42 @@
+//! Distinguished names relative to the root of the naming tree: X.501 and X.720.
+
+ghost use Rattle.std.specs.Prelude.{◌==◌, ◌≡◌, []};
+
+use std::alloc::Global;
+use std::cmp::{Eq, PartialEq};
+use std::marker::Model;
+use term_values::{Bytes, Oid};
+
+/// A relative distinguished name of one attribute value assertion.
+#[derive(PartialEq, Eq, Drop)]
+pub struct Rdn {
+    pub attribute: Oid,
+    /// The asserted value in its written encoding.
+    pub value: Bytes,
+}
+
+/// A name below the root, its superior's part first. The root's own name is empty.
+#[derive(Drop)]
+pub struct Name {
+    pub parts: Vec<Rdn>,
+}
+
+impl Model for Name {
+    ghost use Rattle.std.specs.Prelude.{List};
+    ghost use Rattle.term_model.specs.declared.name.Rdn.{Rdn};
+
+    ghost Value = { List Rdn };
+
+    ghost view = { λ name. name.parts.items };
+}
+
+impl Name {
+    /// The name of the root.
+    pub fn root(alloc: Global) -> Name
+        ensures { result ≡ [] }
+    {
+        Name {
+            parts: Vec::new(alloc),
+        }
+    }
+}

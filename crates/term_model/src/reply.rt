@@ -1,0 +1,22 @@
+//! Replies: X.711, sections 7 and 8.
+
+use term_values::Bytes;
+
+/// noSuchObjectInstance: X.711, section 7.5.
+pub const NO_SUCH_OBJECT_INSTANCE: i64 = 1;
+
+/// An error of CMIP.
+#[derive(Drop)]
+pub struct CmisError {
+    pub code: i64,
+    /// The written encoding of the parameter.
+    pub parameter: Option<Bytes>,
+}
+
+/// What is answered to a request.
+#[derive(Drop)]
+pub enum Reply {
+    /// The written encoding of the result.
+    Single(Bytes),
+    Error(CmisError),
+}

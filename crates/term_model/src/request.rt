@@ -1,0 +1,40 @@
+//! Requests: X.711, section 7.
+
+use crate::name::Name;
+use term_values::{Bytes, Oid};
+
+/// An identifier as a request has it: X.711, types ObjectClass and AttributeId.
+#[derive(Drop)]
+pub enum IdRef {
+    /// globalForm
+    Global(Oid),
+}
+
+/// What an ObjectInstance names.
+#[derive(Drop)]
+pub enum Named {
+    /// An object of the system or the place of one, by its name relative to the root.
+    Object(Name),
+}
+
+/// An ObjectInstance: X.711.
+#[derive(Drop)]
+pub struct Instance {
+    /// As it is given back: with the shortest definite lengths.
+    pub raw: Bytes,
+    pub named: Named,
+}
+
+/// The base object of a request.
+#[derive(Drop)]
+pub struct Head {
+    pub class: IdRef,
+    pub base: Instance,
+}
+
+/// A request: X.711, section 7.
+#[derive(Drop)]
+pub enum Request {
+    /// m-Get of the base object alone, for all its attributes.
+    Get { head: Head },
+}
