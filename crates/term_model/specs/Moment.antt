@@ -40,7 +40,7 @@ digits_of (suc count) n = digits_of count (n / 10) ++ (48 + n % 10) ∷ []
 abbrev pub date_text : Date → List ℕ
 date_text date = digits_of 4 date.year ++ digits_of 2 date.month ++ digits_of 2 date.day
 
--- so many seconds since 1970, up to the end of the year 9999; the last octet is Z
+-- so many seconds since 1970, up to the end of the year 9998; the last octet is Z
 unfoldable pub moment_text : ℕ → List ℕ
 moment_text seconds =
     date_text (date_from 8029 1970 (seconds / 86400))

@@ -1,0 +1,71 @@
+-- Worked runs, computed from the definitions alone: a Get of the root, and a Get of an object that is not there.
+use Rattle.std.specs.Prelude.{◌≡◌, ℕ, pos, true, false, List, [], ◌∷◌, ◌++◌, codes, Option, None, Some, refl}
+use Rattle.std.specs.Fmt.{digits}
+use Rattle.hex.specs.Hex.{encode_with}
+use Rattle.term_values.specs.Typed.TypeSyntax.{Integer}
+use Rattle.term_values.specs.Typed.TypedValue.{Int}
+use Rattle.term_values.specs.Oid.{subidentifier, oid_in}
+use Rattle.term_values.specs.Octets.{integer_contents, integer_in}
+use Rattle.term_values.specs.Der.{identifier_octets, length_octets}
+use Rattle.term_values.specs.BerReading.{identifier_of, length_at, front_of}
+use Rattle.term_model.specs.declared.schema.Set.{Set}
+use Rattle.term_model.specs.declared.schema.Rules.{Rules}
+use Rattle.term_model.specs.Moment.{moment_text}
+use Rattle.term_model.specs.Played.{ScriptLine, played, run_text}
+use Rattle.term_model.specs.Played.ScriptLine.{Open, Send}
+use Rattle.term_model.specs.Step.{step}
+
+-- 2.999.3.1 and the attributes 2.999.7.1 and 2.999.7.2 of an element
+abbrev element : List ℕ
+element = 2 ∷ 999 ∷ 3 ∷ 1 ∷ []
+
+abbrev element_id : List ℕ
+element_id = 2 ∷ 999 ∷ 7 ∷ 1 ∷ []
+
+abbrev load : List ℕ
+load = 2 ∷ 999 ∷ 7 ∷ 2 ∷ []
+
+abbrev ordered : Rules
+ordered = record { equality = true; ordering = true; substrings = false; comparison = false; intersection = false }
+
+-- a class of two attributes, and a root of it with the values 1 and 7
+abbrev network : Set
+network = record {
+  classes = record {
+    id = element;
+    label = codes "element";
+    properties = record { attribute = element_id; get = true; replace = false } ∷ record { attribute = load; get = true; replace = true } ∷ [];
+  } ∷ [];
+  attributes = record { id = element_id; label = codes "elementId"; syntax = Integer; rules = ordered } ∷ record { id = load; label = codes "load"; syntax = Integer; rules = ordered } ∷ [];
+  instances = record { class = element; name = []; given = record { id = element_id; value = Int (pos 1) } ∷ record { id = load; value = Int (pos 7) } ∷ [] } ∷ [];
+  system = record { attribute = element_id; value = 2 ∷ 1 ∷ 1 ∷ [] } ∷ [];
+}
+
+-- title 2.999.11.1
+abbrev bind_octets : List ℕ
+bind_octets = 0x30 ∷ 0x06 ∷ 0x06 ∷ 0x04 ∷ 0x88 ∷ 0x37 ∷ 0x0B ∷ 0x01 ∷ []
+
+-- m-Get of the root with invoke id 1
+abbrev get_root : List ℕ
+get_root =
+    0xA1 ∷ 0x10 ∷ 0x02 ∷ 0x01 ∷ 0x01 ∷ 0x02 ∷ 0x01 ∷ 0x03 ∷ 0x30 ∷ 0x08 ∷ 0x80 ∷ 0x04 ∷ 0x88 ∷ 0x37 ∷ 0x03 ∷ 0x01 ∷ 0xA4 ∷ 0x00 ∷ []
+
+run_of_the_root : run_text network (Open bind_octets ∷ Send 1 get_root ∷ []) ≡
+    codes "opened 1 3006060488370B01\ntaken 1 12\narrived 1 A1100201010201033008800488370301A400\ngranted 1 0\ncommitted 1\ntaken 1 65\nfinished 1\nclosed 1 end\n--\nout 1 0000000830060A01000201010000003DA23B02010130360201033031800488370301A400850F31393730303130313030303030305AA61630098004883707010201013009800488370702020107\nobjects 1\n"
+unfolding digits encode_with subidentifier oid_in integer_contents integer_in identifier_octets length_octets identifier_of length_at front_of moment_text played step
+run_of_the_root = refl
+
+-- m-Get of the object 5 with invoke id 1, which is not there
+abbrev get_five : List ℕ
+get_five =
+    0xA1 ∷ 0x1D ∷ 0x02 ∷ 0x01 ∷ 0x01 ∷ 0x02 ∷ 0x01 ∷ 0x03 ∷ 0x30 ∷ 0x15 ∷ 0x80 ∷ 0x04 ∷ 0x88 ∷ 0x37 ∷ 0x03 ∷ 0x01 ∷ 0xA4 ∷ 0x0D ∷ 0x31 ∷ 0x0B ∷ 0x30 ∷ 0x09 ∷ 0x06 ∷ 0x04 ∷ 0x88 ∷ 0x37 ∷ 0x07 ∷ 0x01 ∷ 0x02 ∷ 0x01 ∷ 0x05 ∷ []
+
+run_of_five : run_text network (Open bind_octets ∷ Send 1 get_five ∷ []) ≡
+    codes "opened 1 3006060488370B01\ntaken 1 12\narrived 1 A11D0201010201033015800488370301A40D310B3009060488370701020105\ngranted 1 0\ncommitted 1\ntaken 1 27\nfinished 1\nclosed 1 end\n--\nout 1 0000000830060A010002010100000017A315020101020101A40D310B3009060488370701020105\nobjects 1\n"
+unfolding digits encode_with subidentifier oid_in integer_contents integer_in identifier_octets length_octets identifier_of length_at front_of moment_text played step
+run_of_five = refl
+
+-- the last second that the text can tell
+end_of_9998 : moment_text 253370764799 ≡ codes "99981231235959Z"
+unfolding moment_text
+end_of_9998 = refl
