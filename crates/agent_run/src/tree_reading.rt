@@ -1,0 +1,257 @@
+//! Reads trees and contents octets, with tags of one octet and lengths in a definite form: X.690, sections 8.1 to 8.3 and 8.19.
+
+use std::alloc::{AllocError, Global};
+use term_values::{Bytes, Oid, Tag, Tree, Trees};
+
+/// The most constructed values inside one another that are read, the outermost counted.
+const MOST_DEPTH: u32 = 32;
+
+/// A number of this much or more in an identifier octet says that the tag goes on in further octets.
+const HIGH_NUMBER: u8 = 31;
+
+/// A length octet below this number is the length. Another one is this number and the number of length octets behind it.
+const LONG_LENGTH: u8 = 128;
+
+/// The count of length octets that X.690, section 8.1.3.5, reserves.
+const RESERVED_COUNT: usize = 127;
+
+/// The greatest length that is read.
+const MOST_LENGTH: u64 = 0xFFFF_FFFF;
+
+/// The most octets of an INTEGER of 64 bits.
+const MOST_INTEGER_OCTETS: usize = 8;
+
+/// The most octets of a subidentifier of 32 bits.
+const MOST_SUBIDENTIFIER_OCTETS: usize = 5;
+
+/// The first octet of a subidentifier is another one, since there are as few octets as hold the number.
+const EMPTY_GROUP: u8 = 128;
+
+/// The most arcs that an identifier has.
+const MOST_ARCS: usize = 64;
+
+/// What stands before the contents octets of a value, and where these are.
+#[derive(Clone, Copy)]
+struct Header {
+    constructed: bool,
+    tag: Tag,
+    start: usize,
+    end: usize,
+}
+
+/// The form and the tag of an identifier octet, or none where the tag goes on or is that of the end of contents.
+fn read_identifier(octet: u8) -> Option<(bool, Tag)> {
+    let class = octet / 64;
+    let number = octet % 32;
+    if number == HIGH_NUMBER || class + number == 0 {
+        return None;
+    }
+    Some((
+        octet / 32 % 2 == 1,
+        Tag {
+            class,
+            number: u32::from(number),
+        },
+    ))
+}
+
+/// The number that octets stand for, the most significant one first, or none above 32 bits.
+fn read_number(octets: &[u8]) -> Option<u64> {
+    let mut number = 0u64;
+    for octet in octets {
+        number = number * 256 + u64::from(*octet);
+        if number > MOST_LENGTH {
+            return None;
+        }
+    }
+    Some(number)
+}
+
+/// The length at the front of the octets, and how many octets spell it.
+fn read_length(octets: &[u8]) -> Option<(usize, usize)> {
+    let (first, more) = octets.split_first()?;
+    if *first < LONG_LENGTH {
+        return Some((*first as usize, 1));
+    }
+    let count = (*first - LONG_LENGTH) as usize;
+    if count == 0 || count >= RESERVED_COUNT || count > more.len() {
+        return None;
+    }
+    let size = read_number(&more[..count])?;
+    Some((size as usize, count + 1))
+}
+
+/// The form, the tag and the place of the contents octets of the value at the front.
+fn read_header(bytes: &[u8]) -> Option<Header> {
+    let (octet, octets) = bytes.split_first()?;
+    let (constructed, tag) = read_identifier(*octet)?;
+    let (size, before) = read_length(octets)?;
+    if size > octets.len() - before {
+        return None;
+    }
+    Some(Header {
+        constructed,
+        tag,
+        start: before + 1,
+        end: before + 1 + size,
+    })
+}
+
+/// The value at the front, with at most so many constructed values inside one another, and how many octets spell it.
+#[cycle(reading)]
+fn read_within(alloc: Global, bytes: &[u8], depth: u32) -> Result<Option<(Tree, usize)>, AllocError> {
+    let header = match read_header(bytes) {
+        None => return Ok(None),
+        Some(header) => header,
+    };
+    let contents = &bytes[header.start..header.end];
+    if !header.constructed {
+        let tree = Tree::primitive(header.tag, Bytes::from_slice(alloc, contents)?);
+        return Ok(Some((tree, header.end)));
+    }
+    if depth == 0 {
+        return Ok(None);
+    }
+    match read_inside(alloc, contents, depth - 1)? {
+        None => Ok(None),
+        Some(inside) => Ok(Some((Tree::constructed(header.tag, inside), header.end))),
+    }
+}
+
+/// The values that fill the octets, each with at most so many constructed values inside one another.
+#[cycle(reading)]
+fn read_inside(alloc: Global, contents: &[u8], depth: u32) -> Result<Option<Trees>, AllocError> {
+    let mut items = Vec::new(alloc);
+    let mut at = 0;
+    while at < contents.len() {
+        match read_within(alloc, &contents[at..], depth)? {
+            None => return Ok(None),
+            Some((tree, size)) => {
+                items.push(tree)?;
+                at += size;
+            }
+        }
+    }
+    Ok(Some(Trees { items }))
+}
+
+/// The tree that the front of the bytes spells, and how many bytes spell it; none where no front spells a tree
+/// with at most 32 constructed values inside one another. Each octet is looked at once for each value that it is inside of,
+/// and contents octets are copied once. The only error is want of memory. X.690, sections 8.1.2 to 8.1.4.
+pub(crate) fn read_tree(alloc: Global, bytes: &[u8]) -> Result<Option<(Tree, usize)>, AllocError> {
+    read_within(alloc, bytes, MOST_DEPTH)
+}
+
+/// The first bit of the octet, which is the sign of an INTEGER.
+fn is_negative(octet: u8) -> bool {
+    octet >= 128
+}
+
+/// The value of an INTEGER's contents octets, or none where they are not the least octets that hold a value of 64 bits in
+/// two's complement. X.690, section 8.3.
+pub(crate) fn read_integer_contents(octets: &[u8]) -> Option<i64> {
+    if octets.len() > MOST_INTEGER_OCTETS {
+        return None;
+    }
+    let (first, others) = octets.split_first()?;
+    let negative = is_negative(*first);
+    if let Some(second) = others.first() {
+        let filler = if negative { 255 } else { 0 };
+        if *first == filler && is_negative(*second) == negative {
+            return None;
+        }
+    }
+    let mut number = 0u64;
+    for octet in octets {
+        let bits = if negative { 255 - *octet } else { *octet };
+        number = number * 256 + u64::from(bits);
+    }
+    Some(if negative { -1 - number as i64 } else { number as i64 })
+}
+
+/// The subidentifier at the front, and how many octets spell it; none where it is cut off, takes more octets than hold it or
+/// is above 32 bits. X.690, section 8.19.2.
+fn read_subidentifier(octets: &[u8]) -> Option<(u32, usize)> {
+    let mut number = 0u64;
+    for (i, octet) in octets.iter().enumerate() {
+        if i == MOST_SUBIDENTIFIER_OCTETS || (i == 0 && *octet == EMPTY_GROUP) {
+            return None;
+        }
+        number = number * 128 + u64::from(*octet % 128);
+        if *octet < 128 {
+            return u32::try_from(number).ok().map(|number| (number, i + 1));
+        }
+    }
+    None
+}
+
+/// The first two arcs, which one subidentifier holds. X.690, section 8.19.4.
+fn first_arcs(number: u32) -> (u32, u32) {
+    if number < 40 {
+        (0, number)
+    } else if number < 80 {
+        (1, number - 40)
+    } else {
+        (2, number - 80)
+    }
+}
+
+/// The identifier whose contents octets these are, or none where they are those of no identifier of 2 to 64 arcs. The only
+/// error is want of memory. X.690, section 8.19.
+pub(crate) fn read_oid_contents(alloc: Global, octets: &[u8]) -> Result<Option<Oid>, AllocError> {
+    let (number, size) = match read_subidentifier(octets) {
+        None => return Ok(None),
+        Some(front) => front,
+    };
+    let (first, second) = first_arcs(number);
+    let mut arcs = vec![in alloc; first, second]?;
+    let mut at = size;
+    while at < octets.len() {
+        match read_subidentifier(&octets[at..]) {
+            Some((arc, size)) if arcs.len() < MOST_ARCS => {
+                arcs.push(arc)?;
+                at += size;
+            }
+            _ => return Ok(None),
+        }
+    }
+    Ok(Oid::from_arcs(arcs))
+}
+
+#[cfg(test)]
+mod tests {
+    use super::*;
+    use std::test::Fail;
+
+    #[test]
+    fn octets_give_the_trees_that_they_spell(rt: HostRuntime) -> Result<(), Fail> {
+        let alloc = rt.alloc();
+        let short = [0x30u8, 0x04, 0x02, 0x02, 0x00, 0x80, 0x05];
+        let (_, size) = read_tree(alloc, &short)?.ok_or("short")?;
+        assert_eq!(rt; size, 6);
+        let long = [0x02u8, 0x81, 0x02, 0x00, 0x80];
+        let (_, size) = read_tree(alloc, &long)?.ok_or("long")?;
+        assert_eq!(rt; size, 5);
+        assert!(rt; read_tree(alloc, &[0x02, 0x02, 0x00])?.is_none());
+        assert!(rt; read_tree(alloc, &[0x30, 0x80, 0x00, 0x00])?.is_none());
+        assert!(rt; read_tree(alloc, &[0x1F, 0x1F, 0x00])?.is_none());
+        assert!(rt; read_tree(alloc, &[0x00, 0x00])?.is_none());
+        Ok(())
+    }
+
+    #[test]
+    fn contents_octets_give_the_values(rt: HostRuntime) -> Result<(), Fail> {
+        assert_eq!(rt; read_integer_contents(&[0x00, 0x80]), Some(128));
+        assert_eq!(rt; read_integer_contents(&[0xFF, 0x7F]), Some(-129));
+        assert_eq!(rt; read_integer_contents(&[0x80]), Some(-128));
+        assert_eq!(rt; read_integer_contents(&[0x80, 0, 0, 0, 0, 0, 0, 0]), Some(i64::MIN));
+        assert_eq!(rt; read_integer_contents(&[0xFF, 0x80]), None);
+        assert_eq!(rt; read_integer_contents(&[0x00, 0x7F]), None);
+        assert_eq!(rt; read_integer_contents(&[]), None);
+        let oid = read_oid_contents(rt.alloc(), &[0x88, 0x37, 0x03])?.ok_or("oid")?;
+        assert_eq!(rt; oid.arcs(), [2, 999, 3].as_slice());
+        assert!(rt; read_oid_contents(rt.alloc(), &[0x80, 0x01])?.is_none());
+        assert!(rt; read_oid_contents(rt.alloc(), &[0x88])?.is_none());
+        Ok(())
+    }
+}
