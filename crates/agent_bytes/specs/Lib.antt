@@ -1,0 +1,3 @@
+-- The definitions that the contracts of agent_bytes cite.
+pub mod Faults
+pub mod Told

@@ -1,0 +1,17 @@
+//! The outside of the agent: where bytes are read and written, and which files it has.
+//!
+//! The traits `Source`, `Sink` and `Files` have adapters over the runtime and adapters in memory.
+//! Each counts its faults, and a call answers `Failed` only where that count rose.
+#![tactic(auto)]
+
+mod failed;
+mod files;
+mod sink;
+mod source;
+mod writing;
+
+pub use failed::{Failed, FileRefusal};
+pub use files::Files;
+pub use sink::Sink;
+pub use source::Source;
+pub use writing::write_all;
