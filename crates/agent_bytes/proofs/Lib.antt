@@ -1,1 +1,2 @@
 -- Lemmas of agent_bytes.
+pub mod ToldLemmas
