@@ -6,12 +6,14 @@
 
 mod failed;
 mod files;
+mod mem_sink;
 mod sink;
 mod source;
 mod writing;
 
 pub use failed::{Failed, FileRefusal};
 pub use files::Files;
+pub use mem_sink::MemSink;
 pub use sink::Sink;
 pub use source::Source;
 pub use writing::write_all;
