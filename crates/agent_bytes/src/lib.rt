@@ -6,6 +6,7 @@
 
 mod failed;
 mod files;
+mod mem_files;
 mod mem_sink;
 mod sink;
 mod source;
@@ -13,6 +14,7 @@ mod writing;
 
 pub use failed::{Failed, FileRefusal};
 pub use files::Files;
+pub use mem_files::MemFiles;
 pub use mem_sink::MemSink;
 pub use sink::Sink;
 pub use source::Source;
