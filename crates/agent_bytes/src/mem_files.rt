@@ -123,3 +123,39 @@ impl MemFiles {
         }
     }
 }
+
+impl Files for MemFiles {
+    ghost files = { λ state. Some (bytes_named state.files) };
+
+    ghost faults = { λ state. state.faults };
+
+    fn read_file(&mut self, alloc: Global, name: &str, limit: u64) -> Result<Vec<u8>, FileRefusal>
+        // It fails exactly where `ReadFails` says, and finds too much as `FindsTooLarge` says.
+        // Otherwise it gives the file's bytes, if there is memory.
+        ensures fails { IsErrOf result FileRefusal.Failed ↔ ReadFails self.old name.now }
+        ensures longer { IsErrOf result FileRefusal.TooLarge ↔
+            FindsTooLarge self.old name.now limit }
+        ensures read { IfOk result (λ bytes.
+            bytes_named self.old.files name.now ≡ Some bytes.items) }
+        ensures within { IfOk result (λ bytes. vec_len bytes ≤ limit) }
+
+        // Each call is counted, and nothing else changes.
+        ensures called { result ≢ Err FileRefusal.Failed →
+            self.new ≡ record self.old { calls = one_more self.old.calls } }
+        ensures refused { result ≡ Err FileRefusal.Failed → self.new ≡ record self.old {
+          calls = one_more self.old.calls;
+          faults = one_more self.old.faults;
+        } }
+
+        // As all files.
+        ensures failed { result ≡ Err FileRefusal.Failed → Rose self.old.faults self.new.faults }
+        ensures counted { self.old.faults ≤ self.new.faults }
+    {
+        let answer = self.answer(alloc, name, limit);
+        self.calls = self.calls.saturating_add(1);
+        if let Err(FileRefusal::Failed) = answer {
+            self.faults = self.faults.saturating_add(1);
+        }
+        answer
+    }
+}
