@@ -45,3 +45,14 @@ abbrev pub FindsTooLarge : FilesState → List ℕ → ℕ → Type 0
 FindsTooLarge files name limit =
     (¬ Contains files.failing files.calls)
     × IsSomeAnd (bytes_named files.files name) (λ bytes. limit < length bytes)
+
+-- a source in memory
+pub record SourceState : Type 0 where
+  -- the bytes that are left, and the most that one call gives
+  pub left : List ℕ
+  pub turn : ℕ
+  -- the numbers of the calls that are to fail
+  pub failing : List ℕ
+  -- how many calls there were, and how many of them failed
+  pub calls : ℕ
+  pub faults : ℕ

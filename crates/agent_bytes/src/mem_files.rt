@@ -102,8 +102,8 @@ impl MemFiles {
         ensures read { IfOk result (λ bytes.
             bytes_named self.now.files name.now ≡ Some bytes.items) }
         ensures within { IfOk result (λ bytes. vec_len bytes ≤ limit) }
-        ensures fails { IsErrOf result FileRefusal.Failed ↔ ReadFails self.now name.now }
-        ensures too_large { IsErrOf result FileRefusal.TooLarge ↔
+        ensures fails { (result ≡ Err FileRefusal.Failed) ↔ ReadFails self.now name.now }
+        ensures too_large { (result ≡ Err FileRefusal.TooLarge) ↔
             FindsTooLarge self.now name.now limit }
     {
         if self.failing.contains(&self.calls) {
@@ -132,8 +132,8 @@ impl Files for MemFiles {
     fn read_file(&mut self, alloc: Global, name: &str, limit: u64) -> Result<Vec<u8>, FileRefusal>
         // It fails exactly where `ReadFails` says, and finds too much as `FindsTooLarge` says.
         // Otherwise it gives the file's bytes, if there is memory.
-        ensures fails { IsErrOf result FileRefusal.Failed ↔ ReadFails self.old name.now }
-        ensures longer { IsErrOf result FileRefusal.TooLarge ↔
+        ensures fails { (result ≡ Err FileRefusal.Failed) ↔ ReadFails self.old name.now }
+        ensures longer { (result ≡ Err FileRefusal.TooLarge) ↔
             FindsTooLarge self.old name.now limit }
         ensures read { IfOk result (λ bytes.
             bytes_named self.old.files name.now ≡ Some bytes.items) }

@@ -14,7 +14,8 @@ pub trait Source {
     ghost faults: { Self → ℕ };
 
     /// Moves bytes to the front of `into`, and answers how many: at least one, or 0 at the end of
-    /// the input and for an empty slice. A failed call moves none; what `into` holds then is open.
+    /// the input and for an empty slice. A failed call moves none. What `into` holds behind the
+    /// bytes that were moved is open.
     fn read(&mut self, into: &mut [u8]) -> Result<usize, Failed>
         ensures within { IfOk result (λ count. count ≤ length into.new) }
 
@@ -22,6 +23,7 @@ pub trait Source {
         ensures read { IfOk result (λ count.
             Gives (left self.old) (left self.new) into.new count) }
         ensures kept { OnErr result (left self.new ≡ left self.old) }
+        ensures untouched { OnErr result (into.new ≡ into.old) }
 
         // A failed call is counted, and no other.
         ensures failed { OnErr result (Rose (faults self.old) (faults self.new)) }
