@@ -4,13 +4,16 @@
 //! Each counts its faults, and a call answers `Failed` only where that count rose.
 #![tactic(auto)]
 
+mod count;
 mod failed;
 mod files;
 mod mem_files;
 mod mem_sink;
 mod mem_source;
+mod real_files;
 mod sink;
 mod source;
+mod stdout_sink;
 mod writing;
 
 pub use failed::{Failed, FileRefusal};
@@ -18,6 +21,8 @@ pub use files::Files;
 pub use mem_files::MemFiles;
 pub use mem_sink::MemSink;
 pub use mem_source::MemSource;
+pub use real_files::RealFiles;
 pub use sink::Sink;
 pub use source::Source;
+pub use stdout_sink::StdoutSink;
 pub use writing::write_all;

@@ -4,6 +4,7 @@ ghost use Rattle.std.specs.Option.{option_copied};
 ghost use Rattle.agent_bytes.specs.Faults.{Rose, one_more};
 ghost use Rattle.agent_bytes.specs.Memory.{bytes_named, ReadFails, FindsTooLarge};
 
+use crate::count::counted_up;
 use crate::failed::FileRefusal;
 use crate::files::Files;
 use std::alloc::{AllocError, Global};
@@ -152,9 +153,9 @@ impl Files for MemFiles {
         ensures counted { self.old.faults ≤ self.new.faults }
     {
         let answer = self.answer(alloc, name, limit);
-        self.calls = self.calls.saturating_add(1);
+        self.calls = counted_up(self.calls);
         if let Err(FileRefusal::Failed) = answer {
-            self.faults = self.faults.saturating_add(1);
+            self.faults = counted_up(self.faults);
         }
         answer
     }

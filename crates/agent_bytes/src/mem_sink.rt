@@ -4,6 +4,7 @@ ghost use Rattle.agent_bytes.specs.Faults.{Rose, one_more};
 ghost use Rattle.agent_bytes.specs.Told.{gained};
 ghost use Rattle.agent_bytes.specs.Memory.{WriteFails};
 
+use crate::count::counted_up;
 use crate::failed::Failed;
 use crate::sink::Sink;
 use std::alloc::{AllocError, Global};
@@ -146,9 +147,9 @@ impl Sink for MemSink {
         ensures counted { self.old.faults ≤ self.new.faults }
     {
         let answer = self.accept(from);
-        self.calls = self.calls.saturating_add(1);
+        self.calls = counted_up(self.calls);
         if answer.is_err() {
-            self.faults = self.faults.saturating_add(1);
+            self.faults = counted_up(self.faults);
         }
         answer
     }

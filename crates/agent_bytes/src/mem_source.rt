@@ -3,6 +3,7 @@ ghost use Rattle.std.specs.Prelude.{◌≡◌, ◌⊎◌, ◌↔◌, ℕ, ◌+�
 ghost use Rattle.agent_bytes.specs.Faults.{Rose, one_more};
 ghost use Rattle.agent_bytes.specs.Told.{GivesFront};
 
+use crate::count::counted_up;
 use crate::failed::Failed;
 use crate::source::Source;
 use std::marker::Model;
@@ -143,9 +144,9 @@ impl Source for MemSource {
         ensures counted { self.old.faults ≤ self.new.faults }
     {
         let answer = self.give(into);
-        self.calls = self.calls.saturating_add(1);
+        self.calls = counted_up(self.calls);
         if answer.is_err() {
-            self.faults = self.faults.saturating_add(1);
+            self.faults = counted_up(self.faults);
         }
         answer
     }
