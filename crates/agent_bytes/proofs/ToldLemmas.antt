@@ -1,5 +1,5 @@
 -- What a sink tells after two gains, one after the other, and what a source gives.
-use Rattle.std.proofs.Common.{◌≡◌, ℕ, ◌+◌, ◌-◌, ◌<◌, ◌≤◌, min, arith, length-append, length-take, length-drop, List, [], ◌++◌, length, take, drop, refl, ap, sym, ◌∙◌, append_assoc, append-nil}
+use Rattle.std.proofs.Common.{◌≡◌, ℕ, ◌+◌, ◌-◌, ◌<◌, ◌≤◌, min, arith, length-append, length-take, length-drop, List, [], ◌++◌, length, take, drop, refl, ap, append_assoc, append-nil}
 use Rattle.std.proofs.Math.Seq.{take-add}
 use Rattle.std.proofs.lemmas.List.{take_rest, take_at, length-take-le}
 use Rattle.std.specs.Prelude.{Option, None, Some}

@@ -1,5 +1,5 @@
 -- What the outside tells of its bytes. None stands for an adapter that tells nothing.
-use Rattle.std.specs.Prelude.{◌≡◌, ℕ, ◌<◌, ◌≤◌, List, [], ◌++◌, length, take, drop, Option, Some, None, IsSomeAnd}
+use Rattle.std.specs.Prelude.{◌≡◌, ℕ, ◌<◌, ◌≤◌, List, ◌++◌, length, take, drop, Option, Some, None, IsSomeAnd}
 
 -- the bytes that a sink tells once it has gained some
 abbrev pub gained : Option (List ℕ) → List ℕ → Option (List ℕ)

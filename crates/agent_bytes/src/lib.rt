@@ -10,6 +10,7 @@ mod files;
 mod mem_files;
 mod mem_sink;
 mod mem_source;
+mod reading;
 mod real_files;
 mod sink;
 mod source;

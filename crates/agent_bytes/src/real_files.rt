@@ -1,16 +1,13 @@
 //! The runtime's files.
-ghost use Rattle.std.specs.Prelude.{◌≡◌, ◌≤◌, None};
-ghost use Rattle.agent_bytes.specs.Faults.{Rose};
+ghost use Rattle.std.specs.Prelude.{◌≡◌, None};
 
 use crate::count::counted_up;
 use crate::failed::FileRefusal;
 use crate::files::Files;
+use crate::reading::read_up_to;
 use std::alloc::Global;
-use std::io::Read;
+use std::marker::Model;
 use std::{fs, rt};
-
-/// The most bytes that one turn of reading takes.
-const TURN: usize = 8192;
 
 /// The files of the runtime. They tell no bytes.
 #[derive(Drop)]
@@ -19,56 +16,44 @@ pub struct RealFiles<'a, R: rt::Files> {
     faults: u64,
 }
 
+impl<'a, R: rt::Files> Model for RealFiles<'a, R> {
+    ghost use Rattle.std.specs.Prelude.{ℕ};
+
+    // The count of faults is all that callers see.
+    ghost Value = { ℕ };
+
+    ghost view = { λ s. s.faults };
+}
+
 impl<'a, R: rt::Files> RealFiles<'a, R> {
     /// The files of `rt`, with no fault so far.
-    pub fn new(rt: &'a R) -> RealFiles<'a, R> {
+    pub fn new(rt: &'a R) -> RealFiles<'a, R>
+        ensures { result ≡ 0 }
+    {
         RealFiles { rt, faults: 0 }
     }
 
     /// How many calls have failed.
     pub fn faults(&self) -> u64
-        ensures { result ≡ self.now.faults }
+        ensures { result ≡ self.now }
     {
         self.faults
-    }
-
-    fn fail(&mut self) -> FileRefusal
-        ensures refusal { result ≡ FileRefusal.Failed }
-        ensures rose { Rose self.old.faults self.new.faults }
-        ensures counted { self.old.faults ≤ self.new.faults }
-    {
-        self.faults = counted_up(self.faults);
-        FileRefusal::Failed
     }
 }
 
 impl<'a, R: rt::Files> Files for RealFiles<'a, R> {
     ghost files = { λ _. None };
 
-    ghost faults = { λ files. files.faults };
+    ghost faults = { λ count. count };
 
     fn read_file(&mut self, alloc: Global, name: &str, limit: u64) -> Result<Vec<u8>, FileRefusal> {
-        let mut file = match fs::open(self.rt, name) {
-            Ok(file) => file,
-            Err(_) => return Err(self.fail()),
+        let answer = match fs::open(self.rt, name) {
+            Ok(mut file) => read_up_to(&mut file, alloc, limit),
+            Err(_) => Err(FileRefusal::Failed),
         };
-        let mut bytes = Vec::new(alloc);
-        let mut turn = [0u8; TURN];
-        for _ in 0..u64::MAX {
-            let count = match file.read(&mut turn) {
-                Ok(count) => count,
-                Err(_) => return Err(self.fail()),
-            };
-            if count == 0 {
-                return Ok(bytes);
-            }
-            if count as u64 > limit - bytes.len() as u64 {
-                return Err(FileRefusal::TooLarge);
-            }
-            if bytes.extend_from_slice(&turn[..count]).is_err() {
-                return Err(FileRefusal::Memory);
-            }
+        if let Err(FileRefusal::Failed) = answer {
+            self.faults = counted_up(self.faults);
         }
-        Err(self.fail())
+        answer
     }
 }

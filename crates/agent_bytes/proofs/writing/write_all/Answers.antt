@@ -1,4 +1,4 @@
-use Rattle.std.proofs.Common.{◌≤◌, ◌+◌, ◌-◌, ℕ, length, take, drop, arith, length-drop, length-take, ◌∙◌, ap}
+use Rattle.std.proofs.Common.{◌-◌, ℕ, length, take, drop, arith, length-drop, length-take, ◌∙◌, ap}
 use Rattle.agent_bytes.specs.Told.{gained}
 use Rattle.agent_bytes.proofs.ToldLemmas.{gained-part}
 use Rattle.agent_bytes.proofs.writing.write_all.Goals as goal
