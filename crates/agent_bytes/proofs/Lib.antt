@@ -1,0 +1,2 @@
+-- Lemmas of agent_bytes.
+pub mod ToldLemmas
