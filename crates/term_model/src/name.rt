@@ -1,8 +1,8 @@
 //! Distinguished names relative to the root of the naming tree: X.501 and X.720.
 
-ghost use Rattle.std.specs.Prelude.{◌==◌, ◌≡◌, []};
+ghost use Rattle.std.specs.Prelude.{◌≡◌, [], IfOk};
 
-use std::alloc::Global;
+use std::alloc::{AllocError, Global};
 use std::cmp::{Eq, PartialEq};
 use std::marker::Model;
 use term_values::{Bytes, Oid};
@@ -13,6 +13,17 @@ pub struct Rdn {
     pub attribute: Oid,
     /// The asserted value in its written encoding.
     pub value: Bytes,
+}
+
+impl Rdn {
+    /// A copy of this part.
+    pub fn copy(&self, alloc: Global) -> Result<Rdn, AllocError>
+        ensures { IfOk result (λ rdn. rdn ≡ self.now) }
+    {
+        let attribute = self.attribute.copy(alloc)?;
+        let value = self.value.copy(alloc)?;
+        Ok(Rdn { attribute, value })
+    }
 }
 
 /// A name below the root, its superior's part first. The root's own name is empty.
@@ -38,5 +49,16 @@ impl Name {
         Name {
             parts: Vec::new(alloc),
         }
+    }
+
+    /// A copy of this name.
+    pub fn copy(&self, alloc: Global) -> Result<Name, AllocError>
+        ensures { IfOk result (λ name. name ≡ self.now) }
+    {
+        let mut parts = Vec::new(alloc);
+        for rdn in &self.parts {
+            parts.push(rdn.copy(alloc)?)?;
+        }
+        Ok(Name { parts })
     }
 }

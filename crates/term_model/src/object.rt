@@ -1,7 +1,8 @@
 //! Managed objects: X.720, section 5.
 
-ghost use Rattle.std.specs.Prelude.{◌≡◌, []};
+ghost use Rattle.std.specs.Prelude.{◌≡◌, IfOk};
 
+use std::alloc::{AllocError, Global};
 use std::marker::Model;
 use term_values::{Oid, Value};
 
@@ -26,6 +27,19 @@ pub struct Attribute {
     pub value: Value,
 }
 
+impl Attribute {
+    /// A copy of this attribute.
+    pub fn copy(&self, alloc: Global) -> Result<Attribute, AllocError>
+        ensures { IfOk result (λ attribute. attribute ≡ self.now) }
+    {
+        let id = self.id.copy(alloc)?;
+        Ok(Attribute {
+            id,
+            value: self.value.copy(),
+        })
+    }
+}
+
 /// The attributes of an object by rising identifier.
 #[derive(Drop)]
 pub struct Attrs {
@@ -43,6 +57,19 @@ impl Model for Attrs {
     ghost coded = { Prim.hlevel (codes, value_code) };
 
     ghost view = { λ attrs. attrs.items.items };
+}
+
+impl Attrs {
+    /// A copy of these attributes.
+    pub fn copy(&self, alloc: Global) -> Result<Attrs, AllocError>
+        ensures { IfOk result (λ attrs. attrs ≡ self.now) }
+    {
+        let mut items = Vec::new(alloc);
+        for attribute in &self.items {
+            items.push(attribute.copy(alloc)?)?;
+        }
+        Ok(Attrs { items })
+    }
 }
 
 /// A managed object.

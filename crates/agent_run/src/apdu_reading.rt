@@ -1,0 +1,183 @@
+//! Reads what managers send: a BIND, and an invoke of m-Get. X.229, section 9; X.711, section 7.4.
+
+use crate::tree_reading::{read_integer_contents, read_oid_contents, read_tree};
+use crate::tree_writing::write_tree;
+use std::alloc::{AllocError, Global};
+use term_model::{Head, IdRef, Instance, Name, Named, Rdn, Request};
+use term_values::{Body, Bytes, Oid, Tag, Tree};
+
+/// The tag of an Invoke APDU.
+pub(crate) const INVOKE: Tag = Tag {
+    class: 2,
+    number: 1,
+};
+
+/// The tag of globalForm.
+pub(crate) const GLOBAL_FORM: Tag = Tag {
+    class: 2,
+    number: 0,
+};
+
+/// The tag of localDistinguishedName.
+pub(crate) const LOCAL_DISTINGUISHED_NAME: Tag = Tag {
+    class: 2,
+    number: 4,
+};
+
+/// The operation m-Get.
+pub(crate) const M_GET: i64 = 3;
+
+/// A request with its invoke id.
+#[derive(Drop)]
+pub(crate) struct Asked {
+    pub id: i32,
+    pub request: Request,
+}
+
+/// The values inside a constructed value of this tag.
+fn inside_of(tree: &Tree, tag: Tag) -> Option<&[Tree]> {
+    match &tree.body {
+        Body::Cons(inside) if tree.tag == tag => Some(inside.items.as_slice()),
+        _ => None,
+    }
+}
+
+/// The contents octets of a primitive value of this tag.
+fn contents_of(tree: &Tree, tag: Tag) -> Option<&[u8]> {
+    match &tree.body {
+        Body::Prim(contents) if tree.tag == tag => Some(contents.as_slice()),
+        _ => None,
+    }
+}
+
+/// The tree that all of the octets spell.
+fn whole_tree(alloc: Global, bytes: &[u8]) -> Result<Option<Tree>, AllocError> {
+    match read_tree(alloc, bytes)? {
+        Some((tree, size)) if size == bytes.len() => Ok(Some(tree)),
+        _ => Ok(None),
+    }
+}
+
+/// An identifier under this tag.
+fn oid_of(alloc: Global, tree: &Tree, tag: Tag) -> Result<Option<Oid>, AllocError> {
+    match contents_of(tree, tag) {
+        None => Ok(None),
+        Some(contents) => read_oid_contents(alloc, contents),
+    }
+}
+
+/// The title in a BIND; none where the octets are no BIND.
+pub(crate) fn title_in(alloc: Global, bind: &[u8]) -> Result<Option<Oid>, AllocError> {
+    let tree = match whole_tree(alloc, bind)? {
+        None => return Ok(None),
+        Some(tree) => tree,
+    };
+    match inside_of(&tree, Tag::SEQUENCE) {
+        Some([title]) => oid_of(alloc, title, Tag::OBJECT_IDENTIFIER),
+        _ => Ok(None),
+    }
+}
+
+/// The written octets of a tree.
+fn written(alloc: Global, tree: &Tree) -> Result<Bytes, AllocError> {
+    let mut items = Vec::new(alloc);
+    write_tree(tree, &mut items)?;
+    Ok(Bytes { items })
+}
+
+/// An attribute value assertion: an identifier and a value.
+fn assertion_of(alloc: Global, tree: &Tree) -> Result<Option<Rdn>, AllocError> {
+    match inside_of(tree, Tag::SEQUENCE) {
+        Some([id, value]) => match oid_of(alloc, id, Tag::OBJECT_IDENTIFIER)? {
+            None => Ok(None),
+            Some(attribute) => Ok(Some(Rdn {
+                attribute,
+                value: written(alloc, value)?,
+            })),
+        },
+        _ => Ok(None),
+    }
+}
+
+/// A relative distinguished name of one assertion.
+fn rdn_of(alloc: Global, tree: &Tree) -> Result<Option<Rdn>, AllocError> {
+    match inside_of(tree, Tag::SET) {
+        Some([assertion]) => assertion_of(alloc, assertion),
+        _ => Ok(None),
+    }
+}
+
+/// An RDNSequence.
+fn rdns_of(alloc: Global, trees: &[Tree]) -> Result<Option<Vec<Rdn>>, AllocError> {
+    let mut rdns = Vec::new(alloc);
+    for tree in trees {
+        match rdn_of(alloc, tree)? {
+            None => return Ok(None),
+            Some(rdn) => rdns.push(rdn)?,
+        }
+    }
+    Ok(Some(rdns))
+}
+
+/// An ObjectInstance in localDistinguishedName.
+fn instance_of(alloc: Global, tree: &Tree) -> Result<Option<Instance>, AllocError> {
+    let inside = match inside_of(tree, LOCAL_DISTINGUISHED_NAME) {
+        None => return Ok(None),
+        Some(inside) => inside,
+    };
+    match rdns_of(alloc, inside)? {
+        None => Ok(None),
+        Some(parts) => Ok(Some(Instance {
+            raw: written(alloc, tree)?,
+            named: Named::Object(Name { parts }),
+        })),
+    }
+}
+
+/// The argument of m-Get.
+fn get_of(alloc: Global, argument: &Tree) -> Result<Option<Request>, AllocError> {
+    match inside_of(argument, Tag::SEQUENCE) {
+        Some([class, instance]) => match oid_of(alloc, class, GLOBAL_FORM)? {
+            None => Ok(None),
+            Some(class) => match instance_of(alloc, instance)? {
+                None => Ok(None),
+                Some(base) => Ok(Some(Request::Get {
+                    head: Head {
+                        class: IdRef::Global(class),
+                        base,
+                    },
+                })),
+            },
+        },
+        _ => Ok(None),
+    }
+}
+
+/// An invoke id, which has at most 32 bits.
+fn id_of(tree: &Tree) -> Option<i32> {
+    let number = read_integer_contents(contents_of(tree, Tag::INTEGER)?)?;
+    i32::try_from(number).ok()
+}
+
+/// The operation of an invoke.
+fn operation_of(tree: &Tree) -> Option<i64> {
+    read_integer_contents(contents_of(tree, Tag::INTEGER)?)
+}
+
+/// The request that an APDU brings; none where it is no invoke of m-Get in the form of X.711.
+pub(crate) fn asked_in(alloc: Global, apdu: &[u8]) -> Result<Option<Asked>, AllocError> {
+    let tree = match whole_tree(alloc, apdu)? {
+        None => return Ok(None),
+        Some(tree) => tree,
+    };
+    match inside_of(&tree, INVOKE) {
+        Some([id, operation, argument]) => match (id_of(id), operation_of(operation)) {
+            (Some(id), Some(M_GET)) => match get_of(alloc, argument)? {
+                None => Ok(None),
+                Some(request) => Ok(Some(Asked { id, request })),
+            },
+            _ => Ok(None),
+        },
+        _ => Ok(None),
+    }
+}

@@ -1,0 +1,119 @@
+//! What a Get does to one object: X.711, section 7.4.
+
+use crate::apdu_reading::{GLOBAL_FORM, LOCAL_DISTINGUISHED_NAME};
+use crate::tree_writing::write_integer_contents;
+use crate::value_writing::{write_oid, write_value};
+use std::alloc::{AllocError, Global};
+use term_model::{Attribute, Attrs, Object, Property, Rdn, Set};
+use term_values::{Bytes, Oid, Tag, Value, ValueForm};
+
+/// The tag of currentTime in a result.
+const CURRENT_TIME: Tag = Tag {
+    class: 2,
+    number: 5,
+};
+
+/// The tag of the attribute list in a result.
+const ATTRIBUTE_LIST: Tag = Tag {
+    class: 2,
+    number: 6,
+};
+
+/// The moment 0 as GeneralizedTime.
+const EPOCH_TEXT: &[u8] = b"19700101000000Z";
+
+/// Appends the written encoding of a value.
+pub(crate) fn write_typed(alloc: Global, value: &Value, into: &mut Vec<u8>) -> Result<(), AllocError> {
+    match value.form {
+        ValueForm::Int(number) => {
+            let mut contents = Vec::new(alloc);
+            write_integer_contents(number, &mut contents)?;
+            write_value(false, Tag::INTEGER, &contents, into)
+        }
+    }
+}
+
+/// An Attribute: its identifier in globalForm and its value.
+fn attribute_octets(alloc: Global, attribute: &Attribute) -> Result<Bytes, AllocError> {
+    let mut contents = Vec::new(alloc);
+    write_oid(alloc, GLOBAL_FORM, &attribute.id, &mut contents)?;
+    write_typed(alloc, &attribute.value, &mut contents)?;
+    let mut items = Vec::new(alloc);
+    write_value(true, Tag::SEQUENCE, &contents, &mut items)?;
+    Ok(Bytes { items })
+}
+
+/// Whether the property list lets managers read the attribute.
+fn lets_read(properties: &[Property], attribute: &Oid) -> bool {
+    properties.iter().any(|property| property.get && property.attribute == *attribute)
+}
+
+/// Whether managers may read the attribute of an object of this class.
+fn is_readable(schema: &Set, class: &Oid, attribute: &Oid) -> bool {
+    schema.classes.items.iter().any(|record| record.id == *class && lets_read(&record.properties.items, attribute))
+}
+
+/// Appends encodings as the contents of a SET OF, in rising order: X.690, section 11.6.
+pub(crate) fn write_members(mut members: Vec<Bytes>, into: &mut Vec<u8>) -> Result<(), AllocError> {
+    members.sort()?;
+    for member in &members {
+        into.extend_from_slice(member.as_slice())?;
+    }
+    Ok(())
+}
+
+/// The octets of attributes as the contents of a SET OF Attribute.
+pub(crate) fn attribute_set(alloc: Global, attrs: &Attrs) -> Result<Vec<u8>, AllocError> {
+    let mut members = Vec::new(alloc);
+    for attribute in &attrs.items {
+        members.push(attribute_octets(alloc, attribute)?)?;
+    }
+    let mut contents = Vec::new(alloc);
+    write_members(members, &mut contents)?;
+    Ok(contents)
+}
+
+/// The octets of the attributes that a Get without a list gives, as the contents of a SET OF Attribute.
+fn readable_set(alloc: Global, schema: &Set, object: &Object) -> Result<Vec<u8>, AllocError> {
+    let mut members = Vec::new(alloc);
+    for attribute in &object.attrs.items {
+        if is_readable(schema, &object.class, &attribute.id) {
+            members.push(attribute_octets(alloc, attribute)?)?;
+        }
+    }
+    let mut contents = Vec::new(alloc);
+    write_members(members, &mut contents)?;
+    Ok(contents)
+}
+
+/// Appends an RDN of one assertion.
+fn write_rdn(alloc: Global, rdn: &Rdn, into: &mut Vec<u8>) -> Result<(), AllocError> {
+    let mut assertion = Vec::new(alloc);
+    write_oid(alloc, Tag::OBJECT_IDENTIFIER, &rdn.attribute, &mut assertion)?;
+    assertion.extend_from_slice(rdn.value.as_slice())?;
+    let mut inside = Vec::new(alloc);
+    write_value(true, Tag::SEQUENCE, &assertion, &mut inside)?;
+    write_value(true, Tag::SET, &inside, into)
+}
+
+/// Appends an ObjectInstance in localDistinguishedName.
+pub(crate) fn write_instance(alloc: Global, name: &[Rdn], into: &mut Vec<u8>) -> Result<(), AllocError> {
+    let mut rdns = Vec::new(alloc);
+    for rdn in name {
+        write_rdn(alloc, rdn, &mut rdns)?;
+    }
+    write_value(true, LOCAL_DISTINGUISHED_NAME, &rdns, into)
+}
+
+/// The GetResult of an object, granted at the moment 0.
+pub(crate) fn get_one(alloc: Global, schema: &Set, name: &[Rdn], object: &Object) -> Result<Bytes, AllocError> {
+    let mut contents = Vec::new(alloc);
+    write_oid(alloc, GLOBAL_FORM, &object.class, &mut contents)?;
+    write_instance(alloc, name, &mut contents)?;
+    write_value(false, CURRENT_TIME, EPOCH_TEXT, &mut contents)?;
+    let attributes = readable_set(alloc, schema, object)?;
+    write_value(true, ATTRIBUTE_LIST, &attributes, &mut contents)?;
+    let mut items = Vec::new(alloc);
+    write_value(true, Tag::SEQUENCE, &contents, &mut items)?;
+    Ok(Bytes { items })
+}

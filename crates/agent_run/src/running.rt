@@ -1,0 +1,105 @@
+//! The top call: the words of a command line, the files that they name, and what is written.
+
+use crate::first_form::read_first_form;
+use crate::first_records::first_records;
+use crate::not_read::NotRead;
+use crate::playing::play;
+use crate::refusal::{DONE, OUT_OF_MEMORY, Refusal, Unbuilt, WRITE_FAULT};
+use crate::script_form::read_script;
+use crate::texts::run_text;
+use crate::words::read_words;
+use agent_bytes::{FileRefusal, Files, Sink, write_all};
+use std::alloc::Global;
+use term_model::Set;
+use text_lex::{LexRefusal, lex};
+
+/// The most bytes of a document.
+const MOST_DOCUMENT: u64 = 4_194_304;
+
+/// The most bytes of a script.
+const MOST_SCRIPT: u64 = 16_777_216;
+
+/// The line printed where there is no memory for another one.
+const MEMORY_LINE: &[u8] = b"memory\n";
+
+/// The bytes of a file.
+fn read_file<'a, F: Files>(alloc: Global, files: &mut F, name: &'a str, limit: u64) -> Result<Vec<u8>, Refusal<'a>> {
+    match files.read_file(alloc, name, limit) {
+        Ok(bytes) => Ok(bytes),
+        Err(FileRefusal::Failed) => Err(Refusal::FileFault(name)),
+        Err(FileRefusal::TooLarge) => Err(Refusal::FileTooLarge(name)),
+        Err(FileRefusal::Memory) => Err(Refusal::OutOfMemory),
+    }
+}
+
+/// The line of a place in a text, counted from 1.
+fn line_of(text: &[u8], at: usize) -> u64 {
+    let end = at.min(text.len());
+    text[..end].iter().filter(|byte| **byte == b'\n').count() as u64 + 1
+}
+
+/// What is left of a text that was not read.
+fn not_built<'a>(fault: NotRead, what: Unbuilt) -> Refusal<'a> {
+    match fault {
+        NotRead::Outside => Refusal::NotBuilt(what),
+        NotRead::Memory => Refusal::OutOfMemory,
+    }
+}
+
+/// The records of a document.
+fn read_document<'a>(alloc: Global, document: &[u8]) -> Result<Set, Refusal<'a>> {
+    let tokens = match lex(alloc, document) {
+        Ok(tokens) => tokens,
+        Err(LexRefusal::Fault { at, kind }) => return Err(Refusal::BadDocument(line_of(document, at as usize), kind)),
+        Err(LexRefusal::Memory) => return Err(Refusal::OutOfMemory),
+    };
+    let form = read_first_form(alloc, &tokens).map_err(|fault| not_built(fault, Unbuilt::Document))?;
+    first_records(alloc, form).map_err(|fault| not_built(fault, Unbuilt::Document))
+}
+
+/// What `run` prints of a script and a document.
+fn run<'a>(alloc: Global, script: &[u8], document: &[u8]) -> Result<Vec<u8>, Refusal<'a>> {
+    let schema = read_document(alloc, document)?;
+    let script = match schema.classes.items.as_slice() {
+        [class] => read_script(alloc, script, &class.id),
+        _ => Err(NotRead::Outside),
+    };
+    let script = script.map_err(|fault| not_built(fault, Unbuilt::Script))?;
+    let played = play(alloc, schema, script)?;
+    Ok(run_text(alloc, &played.journal, &played.agent)?)
+}
+
+/// What a command prints where it is done.
+fn prepare<'a, F: Files>(alloc: Global, words: &'a [String], files: &mut F) -> Result<Vec<u8>, Refusal<'a>> {
+    let places = match read_words(words) {
+        Some(places) => places,
+        None => return Err(Refusal::NotBuilt(Unbuilt::Command)),
+    };
+    let script = read_file(alloc, files, places.script, MOST_SCRIPT)?;
+    let document = read_file(alloc, files, places.document, MOST_DOCUMENT)?;
+    run(alloc, &script, &document)
+}
+
+/// Writes a text, and answers the status where it was written.
+fn put<O: Sink>(out: &mut O, text: &[u8], status: u8) -> u8 {
+    match write_all(out, text) {
+        Ok(()) => status,
+        Err(_) => WRITE_FAULT,
+    }
+}
+
+/// Performs a command and answers the status with which the program ends.
+///
+/// The words are `run SCRIPT DOC`: the files are read in this order, the script is played on the document's objects, and the
+/// journal, a line of two dashes, a line `out A HEX` for each association and a line `objects N` are written to `out`. With
+/// another status than 0 and 6 one line is written that says why.
+pub fn agent<R: AllocGlobal, F: Files, O: Sink>(rt: &R, words: &[String], files: &mut F, out: &mut O) -> u8 {
+    let alloc = rt.alloc();
+    match prepare(alloc, words, files) {
+        Ok(text) => put(out, &text, DONE),
+        Err(refusal) => match refusal.line(alloc) {
+            Ok(line) => put(out, line.as_bytes(), refusal.status()),
+            Err(_) => put(out, MEMORY_LINE, OUT_OF_MEMORY),
+        },
+    }
+}

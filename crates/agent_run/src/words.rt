@@ -1,0 +1,28 @@
+//! The words of a command line. They are places: a word that begins with `-` is in no form.
+
+/// `run SCRIPT DOC`.
+pub(crate) struct RunWords<'a> {
+    pub script: &'a str,
+    pub document: &'a str,
+}
+
+/// The word of the command.
+const RUN: &str = "run";
+
+/// A word may stand in a place.
+fn is_place(word: &str) -> bool {
+    word.as_bytes().first() != Some(&b'-')
+}
+
+/// The places of `run SCRIPT DOC`; none where the words are in another form.
+pub(crate) fn read_words(words: &[String]) -> Option<RunWords<'_>> {
+    match words {
+        [command, script, document] if command.as_str() == RUN && is_place(script.as_str()) && is_place(document.as_str()) => {
+            Some(RunWords {
+                script: script.as_str(),
+                document: document.as_str(),
+            })
+        }
+        _ => None,
+    }
+}
