@@ -1,0 +1,11 @@
+//! The tokens of a document: its words, numbers, strings and signs (X.722, section 8.2, and X.680,
+//! section 12, in the forms that this project accepts).
+#![tactic(auto)]
+
+pub mod bytes;
+pub mod syntax_refusal;
+pub mod token;
+
+pub use bytes::Bytes;
+pub use syntax_refusal::SyntaxRefusal;
+pub use token::Token;
