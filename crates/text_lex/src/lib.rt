@@ -3,9 +3,19 @@
 #![tactic(auto)]
 
 pub mod bytes;
+pub mod lex_refusal;
+pub mod lexing;
+mod lexing_ends;
+mod lexing_octets;
+mod lexing_pieces;
 pub mod syntax_refusal;
 pub mod token;
 
 pub use bytes::Bytes;
+pub use lex_refusal::{LexKind, LexRefusal};
+pub use lexing::lex;
 pub use syntax_refusal::SyntaxRefusal;
 pub use token::Token;
+
+#[cfg(test)]
+mod tests;
