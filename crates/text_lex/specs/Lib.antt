@@ -1,0 +1,5 @@
+-- The definitions that the contracts of this crate cite.
+pub mod Octets
+pub mod Comments
+pub mod Lexemes
+pub mod Pieces

@@ -1,0 +1,66 @@
+//! The tokens of a document: X.722, section 8.2; X.680, section 12.
+
+use super::bytes::Bytes;
+use super::lex_refusal::LexRefusal;
+use super::lexing_pieces::{Piece, piece_at};
+use super::token::{Token, WORD};
+use std::alloc::Global;
+
+const DESCRIPTION: &[u8] = b"DESCRIPTION";
+
+const DEFINED: &[u8] = b"DEFINED";
+
+const AS: &[u8] = b"AS";
+
+const PRESENT: &[u8] = b"PRESENT";
+
+const IF: &[u8] = b"IF";
+
+/// Whether a token is a word of these octets.
+fn is_word(token: &Token, word: &[u8]) -> bool {
+    (token.kind == WORD) & (token.text.as_slice() == word)
+}
+
+/// Whether the last tokens announce a string: DESCRIPTION, DEFINED AS or PRESENT IF.
+fn announce_string(tokens: &[Token]) -> bool {
+    let Some((last, before)) = tokens.split_last() else {
+        return false;
+    };
+    if is_word(last, DESCRIPTION) {
+        return true;
+    }
+    let Some((previous, _)) = before.split_last() else {
+        return false;
+    };
+    (is_word(previous, DEFINED) & is_word(last, AS))
+        | (is_word(previous, PRESENT) & is_word(last, IF))
+}
+
+/// Cuts a document into its tokens, in order; white space and comments between them are left out.
+pub fn lex(alloc: Global, bytes: &[u8]) -> Result<Vec<Token>, LexRefusal> {
+    let mut tokens = Vec::new(alloc);
+    let mut announced = false;
+    let mut at = 0usize;
+    while at < bytes.len() {
+        match piece_at(bytes, at, announced) {
+            Piece::Gap { end } => at = end,
+            Piece::Lexeme { kind, end } => {
+                let text = Bytes::from_slice(alloc, &bytes[at..end])?;
+                tokens.push(Token {
+                    kind,
+                    at: at as u64,
+                    text,
+                })?;
+                announced = announce_string(tokens.as_slice());
+                at = end;
+            }
+            Piece::Wrong { kind } => {
+                return Err(LexRefusal::Fault {
+                    at: at as u64,
+                    kind,
+                });
+            }
+        }
+    }
+    Ok(tokens)
+}

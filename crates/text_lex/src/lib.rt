@@ -1,0 +1,21 @@
+//! The tokens of a document: its words, numbers, strings and signs (X.722, section 8.2, and X.680,
+//! section 12, in the forms that this project accepts).
+#![tactic(auto)]
+
+pub mod bytes;
+pub mod lex_refusal;
+pub mod lexing;
+mod lexing_ends;
+mod lexing_octets;
+mod lexing_pieces;
+pub mod syntax_refusal;
+pub mod token;
+
+pub use bytes::Bytes;
+pub use lex_refusal::{LexKind, LexRefusal};
+pub use lexing::lex;
+pub use syntax_refusal::SyntaxRefusal;
+pub use token::Token;
+
+#[cfg(test)]
+mod tests;
