@@ -33,11 +33,11 @@ pub(crate) fn write_frame(apdu: &[u8], into: &mut Vec<u8>) -> Result<(), AllocEr
 }
 
 /// The frame that answers the BIND of an association with this number.
-pub(crate) fn bind_answer_frame(alloc: Global, result: i64, association: i64) -> Result<Vec<u8>, AllocError> {
-    let mut code = Vec::new(alloc);
-    write_integer_contents(result, &mut code)?;
+pub(crate) fn bind_answer_frame(alloc: Global, code: i64, association: i64) -> Result<Vec<u8>, AllocError> {
+    let mut octets = Vec::new(alloc);
+    write_integer_contents(code, &mut octets)?;
     let mut contents = Vec::new(alloc);
-    write_value(false, Tag::ENUMERATED, &code, &mut contents)?;
+    write_value(false, Tag::ENUMERATED, &octets, &mut contents)?;
     write_integer(alloc, association, &mut contents)?;
     framed(alloc, Tag::SEQUENCE, &contents)
 }
@@ -52,10 +52,10 @@ fn framed(alloc: Global, tag: Tag, contents: &[u8]) -> Result<Vec<u8>, AllocErro
 }
 
 /// The frame of a Result: the invoke id, the operation and the result's octets.
-fn result_frame(alloc: Global, invoke: i64, operation: i64, result: &[u8]) -> Result<Vec<u8>, AllocError> {
+fn result_frame(alloc: Global, invoke: i64, operation: i64, value: &[u8]) -> Result<Vec<u8>, AllocError> {
     let mut inside = Vec::new(alloc);
     write_integer(alloc, operation, &mut inside)?;
-    inside.extend_from_slice(result)?;
+    inside.extend_from_slice(value)?;
     let mut contents = Vec::new(alloc);
     write_integer(alloc, invoke, &mut contents)?;
     write_value(true, Tag::SEQUENCE, &inside, &mut contents)?;
@@ -79,7 +79,7 @@ fn error_frame(alloc: Global, invoke: i64, error: &CmisError) -> Result<Vec<u8>,
 /// The frame of a reply to an invoke of an operation.
 pub(crate) fn reply_frame(alloc: Global, invoke: i64, operation: i64, reply: &Reply) -> Result<Vec<u8>, AllocError> {
     match reply {
-        Reply::Single(result) => result_frame(alloc, invoke, operation, result.as_slice()),
+        Reply::Single(value) => result_frame(alloc, invoke, operation, value.as_slice()),
         Reply::Error(error) => error_frame(alloc, invoke, error),
     }
 }

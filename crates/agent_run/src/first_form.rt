@@ -9,6 +9,7 @@ use term_values::{Bytes, Oid, Syntax, SyntaxForm};
 use text_lex::Token;
 
 /// The words that the module names itself and its type by.
+#[derive(Drop)]
 pub(crate) struct ModuleWords<'a> {
     pub module: &'a [u8],
     pub type_name: &'a [u8],

@@ -101,7 +101,7 @@ impl Play {
 }
 
 /// The journal of a script on the records of a document, and the agent after it.
-pub(crate) fn play(alloc: Global, schema: Set, script: Script) -> Result<Play, AllocError> {
+pub(crate) fn perform_script(alloc: Global, schema: Set, script: Script) -> Result<Play, AllocError> {
     let mut play = Play {
         agent: start(alloc, schema)?,
         journal: Entries {

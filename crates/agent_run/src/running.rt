@@ -3,7 +3,7 @@
 use crate::first_form::read_first_form;
 use crate::first_records::first_records;
 use crate::not_read::NotRead;
-use crate::playing::play;
+use crate::playing::perform_script;
 use crate::refusal::{DONE, OUT_OF_MEMORY, Refusal, Unbuilt, WRITE_FAULT};
 use crate::script_form::read_script;
 use crate::texts::run_text;
@@ -65,7 +65,7 @@ fn run<'a>(alloc: Global, script: &[u8], document: &[u8]) -> Result<Vec<u8>, Ref
         _ => Err(NotRead::Outside),
     };
     let script = script.map_err(|fault| not_built(fault, Unbuilt::Script))?;
-    let played = play(alloc, schema, script)?;
+    let played = perform_script(alloc, schema, script)?;
     Ok(run_text(alloc, &played.journal, &played.agent)?)
 }
 

@@ -1,6 +1,7 @@
 //! The words of a command line. They are places: a word that begins with `-` is in no form.
 
 /// `run SCRIPT DOC`.
+#[derive(Drop)]
 pub(crate) struct RunWords<'a> {
     pub script: &'a str,
     pub document: &'a str,
