@@ -1,2 +1,3 @@
 pub mod Extending
+pub mod ReadingSteps
 pub mod WritingLaws
