@@ -8,6 +8,7 @@ use Rattle.term_values.specs.Oid.{subidentifier, groups, groups_before}
 use Rattle.term_values.specs.Octets.{octets}
 use Rattle.term_values.specs.Tree.{TreeValue, listed}
 use Rattle.term_values.specs.Der.{written, written_all}
+use Rattle.agent_run.specs.Integers.{octet_turned}
 use Rattle.agent_run.specs.Writing.{group, last_octets}
 
 group_none : (unit n : ℕ) → n < unit → group unit n ≡ []
@@ -42,11 +43,6 @@ pow_of_octets zero = refl
 pow_of_octets (suc p) =
     let e : 8 * suc p ≡ 8 * p + 8 = omega arith in
     ap (λ k. 2 ^ k) e ∙ (pow-add 2 (8 * p) 8 ∙ (ap (λ x. x * 256) (pow_of_octets p) ∙ sym (pow-suc 256 p)))
-
--- an octet, with each bit turned or as it is
-abbrev pub octet_turned : Bool → ℕ → ℕ
-octet_turned true octet = 255 - octet
-octet_turned false octet = octet
 
 last_octets_more : (turned : Bool) (p n : ℕ) → last_octets turned (p + 1) n ≡ octet_turned turned (n / 2 ^ (8 * p) % 256) ∷ last_octets turned p n
 last_octets_more true p n = rw (add-one p, pow_of_octets p) refl

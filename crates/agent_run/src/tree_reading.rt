@@ -1,10 +1,12 @@
 //! Reads trees and contents octets, with tags of one octet and lengths in a definite form: X.690, sections 8.1 to 8.3 and 8.19.
 
-ghost use Rattle.std.specs.Prelude.{ℕ, ℤ, List, [], ◌∷◌, ◌++◌, ◌≡◌, ◌+◌, ◌*◌, ◌^◌, ◌<◌, ◌≤◌, None, Some, IfOk, IfSome, IfNone, IsTrue, option_map, nat_lt, if◌then◌else◌, length, drop};
+ghost use Rattle.std.specs.Prelude.{ℕ, ℤ, List, [], ◌∷◌, ◌++◌, ◌≡◌, ◌+◌, ◌*◌, ◌^◌, ◌<◌, ◌≤◌, None, Some, IfOk, IfSome, IfNone, IsTrue, option_map, nat_lt, if◌then◌else◌, length, drop, map, FitsSigned};
+ghost use Rattle.std.specs.Int.{w64};
 ghost use Rattle.term_values.specs.BerReading.{identifier_of, length_at, front_of, tree_at, filled};
 ghost use Rattle.term_values.specs.Ber.{most_depth};
-ghost use Rattle.term_values.specs.Octets.{number};
+ghost use Rattle.term_values.specs.Octets.{number, integer_contents};
 ghost use Rattle.agent_run.specs.Reading.{front_at, IsWithin};
+ghost use Rattle.agent_run.specs.Integers.{are_least, octet_turned};
 
 use std::alloc::{AllocError, Global};
 use term_values::{Bytes, Oid, Tag, Tree, Trees};
@@ -26,6 +28,9 @@ const MOST_LENGTH: u64 = 0xFFFF_FFFF;
 
 /// The most octets of an INTEGER of 64 bits.
 const MOST_INTEGER_OCTETS: usize = 8;
+
+/// The first bit of an octet, which is the sign of an INTEGER in its first octet.
+const SIGN_BIT: u8 = 128;
 
 /// The most octets of a subidentifier of 32 bits.
 const MOST_SUBIDENTIFIER_OCTETS: usize = 5;
@@ -169,31 +174,45 @@ pub(crate) fn read_tree(alloc: Global, bytes: &[u8]) -> Result<Option<(Tree, usi
     read_within(alloc, bytes, MOST_DEPTH)
 }
 
-/// The first bit of the octet, which is the sign of an INTEGER.
-fn is_negative(octet: u8) -> bool {
-    octet >= 128
-}
-
-/// The value of an INTEGER's contents octets, or none where they are not the least octets that hold a value of 64 bits in
-/// two's complement. X.690, section 8.3.
-pub(crate) fn read_integer_contents(octets: &[u8]) -> Option<i64> {
-    if octets.len() > MOST_INTEGER_OCTETS {
-        return None;
-    }
-    let (first, others) = octets.split_first()?;
-    let negative = is_negative(*first);
-    if let Some(second) = others.first() {
-        let filler = if negative { 255 } else { 0 };
-        if *first == filler && is_negative(*second) == negative {
-            return None;
+/// The first nine bits of the octets are not all equal, so that no octet can be left out. X.690, section 8.3.2.
+fn are_least(octets: &[u8]) -> bool
+    ensures { result ≡ are_least octets.now }
+{
+    match octets {
+        [] => false,
+        [_] => true,
+        [first, second, ..] => {
+            !(*first == 0 && *second < SIGN_BIT) && !(*first == 255 && *second >= SIGN_BIT)
         }
     }
+}
+
+/// The number that octets stand for, the bits of each turned where `negative` says so.
+fn read_turned(octets: &[u8], negative: bool) -> u64
+    requires { length octets.now ≤ 8 }
+    ensures { result ≡ number (map (octet_turned negative) octets.now) }
+{
     let mut value = 0u64;
     for octet in octets {
         let bits = if negative { 255 - *octet } else { *octet };
         value = value * 256 + u64::from(bits);
     }
-    Some(if negative { -1 - value as i64 } else { value as i64 })
+    value
+}
+
+/// The value of an INTEGER's contents octets, or none where they are not the least octets that hold a value of 64 bits in
+/// two's complement. X.690, section 8.3.
+pub(crate) fn read_integer_contents(octets: &[u8]) -> Option<i64>
+    ensures found { IfSome result (λ value. octets.now ≡ integer_contents value) }
+    ensures none { IfNone result
+        ((value : ℤ) → FitsSigned w64 value → octets.now ≡ integer_contents value → ⊥) }
+{
+    if octets.len() > MOST_INTEGER_OCTETS || !are_least(octets) {
+        return None;
+    }
+    let negative = *octets.first()? >= SIGN_BIT;
+    let value = read_turned(octets, negative) as i64;
+    Some(if negative { -1 - value } else { value })
 }
 
 /// The subidentifier at the front, and how many octets spell it; none where it is cut off, takes more octets than hold it or

@@ -1,5 +1,6 @@
 use Rattle.std.proofs.Common.{◌≡◌, ◌+◌, ◌-◌, ◌/◌, ◌%◌, ◌*◌, ◌^◌, arith, sym, ap, ◌∙◌}
-use Rattle.agent_run.proofs.WritingLaws.{octet_pushed, octet_turned}
+use Rattle.agent_run.proofs.WritingLaws.{octet_pushed}
+use Rattle.agent_run.specs.Integers.{octet_turned}
 use Rattle.agent_run.proofs.Extending.{extends_trans, extends_push}
 use Rattle.agent_run.proofs.tree_writing.write_octets.Goals as goal
 use Rattle.agent_run.proofs.tree_writing.write_octets.Goals.{then-turned, else-turned}
