@@ -1,5 +1,13 @@
 //! Reads trees and contents octets, with tags of one octet and lengths in a definite form: X.690, sections 8.1 to 8.3 and 8.19.
 
+ghost use Rattle.std.specs.Prelude.{ℕ, ℤ, List, [], ◌∷◌, ◌++◌, ◌≡◌, ◌+◌, ◌*◌, ◌^◌, ◌<◌, ◌≤◌, None, Some, IfOk, IfSome, IfNone, IsTrue, option_map, nat_lt, if◌then◌else◌, length, drop, map, FitsSigned};
+ghost use Rattle.std.specs.Int.{w64};
+ghost use Rattle.term_values.specs.BerReading.{identifier_of, length_at, front_of, tree_at, filled};
+ghost use Rattle.term_values.specs.Ber.{most_depth};
+ghost use Rattle.term_values.specs.Octets.{number, integer_contents};
+ghost use Rattle.agent_run.specs.Reading.{front_at, IsWithin};
+ghost use Rattle.agent_run.specs.Integers.{are_least, octet_turned};
+
 use std::alloc::{AllocError, Global};
 use term_values::{Bytes, Oid, Tag, Tree, Trees};
 
@@ -21,6 +29,9 @@ const MOST_LENGTH: u64 = 0xFFFF_FFFF;
 /// The most octets of an INTEGER of 64 bits.
 const MOST_INTEGER_OCTETS: usize = 8;
 
+/// The first bit of an octet, which is the sign of an INTEGER in its first octet.
+const SIGN_BIT: u8 = 128;
+
 /// The most octets of a subidentifier of 32 bits.
 const MOST_SUBIDENTIFIER_OCTETS: usize = 5;
 
@@ -32,15 +43,18 @@ const MOST_ARCS: usize = 64;
 
 /// What stands before the contents octets of a value, and where these are.
 #[derive(Clone, Copy)]
-struct Header {
-    constructed: bool,
-    tag: Tag,
-    start: usize,
-    end: usize,
+pub(crate) struct Header {
+    pub(crate) constructed: bool,
+    pub(crate) tag: Tag,
+    pub(crate) start: usize,
+    pub(crate) end: usize,
 }
 
 /// The form and the tag of an identifier octet, or none where the tag goes on or is that of the end of contents.
-fn read_identifier(octet: u8) -> Option<(bool, Tag)> {
+#[tactic(auto, unfolding(term_values::specs::BerReading::identifier_of))]
+fn read_identifier(octet: u8) -> Option<(bool, Tag)>
+    ensures { result ≡ identifier_of octet }
+{
     let class = octet / 64;
     let number = octet % 32;
     if number == HIGH_NUMBER || class + number == 0 {
@@ -56,19 +70,25 @@ fn read_identifier(octet: u8) -> Option<(bool, Tag)> {
 }
 
 /// The number that octets stand for, the most significant one first, or none above 32 bits.
-fn read_number(octets: &[u8]) -> Option<u64> {
-    let mut number = 0u64;
+fn read_number(octets: &[u8]) -> Option<u64>
+    ensures { result ≡ (if nat_lt (number octets.now) (2 ^ 32) then Some (number octets.now) else None) }
+{
+    let mut value = 0u64;
     for octet in octets {
-        number = number * 256 + u64::from(*octet);
-        if number > MOST_LENGTH {
+        value = value * 256 + u64::from(*octet);
+        if value > MOST_LENGTH {
             return None;
         }
     }
-    Some(number)
+    Some(value)
 }
 
 /// The length at the front of the octets, and how many octets spell it.
-fn read_length(octets: &[u8]) -> Option<(usize, usize)> {
+#[tactic(auto, unfolding(term_values::specs::BerReading::length_at))]
+fn read_length(octets: &[u8]) -> Option<(usize, usize)>
+    ensures front { length_at octets.now ≡ option_map (λ f. (f.0, drop f.1 octets.now)) result }
+    ensures within { IfSome result (λ f. f.1 ≤ length octets.now) }
+{
     let (first, more) = octets.split_first()?;
     if *first < LONG_LENGTH {
         return Some((*first as usize, 1));
@@ -82,7 +102,11 @@ fn read_length(octets: &[u8]) -> Option<(usize, usize)> {
 }
 
 /// The form, the tag and the place of the contents octets of the value at the front.
-fn read_header(bytes: &[u8]) -> Option<Header> {
+#[tactic(auto, unfolding(term_values::specs::BerReading::front_of))]
+fn read_header(bytes: &[u8]) -> Option<Header>
+    ensures front { front_of bytes.now ≡ option_map (front_at bytes.now) result }
+    ensures within { IfSome result (IsWithin bytes.now) }
+{
     let (octet, octets) = bytes.split_first()?;
     let (constructed, tag) = read_identifier(*octet)?;
     let (size, before) = read_length(octets)?;
@@ -99,7 +123,10 @@ fn read_header(bytes: &[u8]) -> Option<Header> {
 
 /// The value at the front, with at most so many constructed values inside one another, and how many octets spell it.
 #[cycle(reading)]
-fn read_within(alloc: Global, bytes: &[u8], depth: u32) -> Result<Option<(Tree, usize)>, AllocError> {
+fn read_within(alloc: Global, bytes: &[u8], depth: u32) -> Result<Option<(Tree, usize)>, AllocError>
+    ensures read { IfOk result (λ found. tree_at depth bytes.now ≡ option_map (λ f. (f.0, drop f.1 bytes.now)) found) }
+    ensures within { IfOk result (λ found. IfSome found (λ f. (0 < f.1) × (f.1 ≤ length bytes.now))) }
+{
     let header = match read_header(bytes) {
         None => return Ok(None),
         Some(header) => header,
@@ -120,7 +147,9 @@ fn read_within(alloc: Global, bytes: &[u8], depth: u32) -> Result<Option<(Tree, 
 
 /// The values that fill the octets, each with at most so many constructed values inside one another.
 #[cycle(reading)]
-fn read_inside(alloc: Global, contents: &[u8], depth: u32) -> Result<Option<Trees>, AllocError> {
+fn read_inside(alloc: Global, contents: &[u8], depth: u32) -> Result<Option<Trees>, AllocError>
+    ensures { IfOk result (λ found. filled (tree_at depth) (length contents.now) contents.now ≡ found) }
+{
     let mut items = Vec::new(alloc);
     let mut at = 0;
     while at < contents.len() {
@@ -138,48 +167,65 @@ fn read_inside(alloc: Global, contents: &[u8], depth: u32) -> Result<Option<Tree
 /// The tree that the front of the bytes spells, and how many bytes spell it; none where no front spells a tree
 /// with at most 32 constructed values inside one another. Each octet is looked at once for each value that it is inside of,
 /// and contents octets are copied once. The only error is want of memory. X.690, sections 8.1.2 to 8.1.4.
-pub(crate) fn read_tree(alloc: Global, bytes: &[u8]) -> Result<Option<(Tree, usize)>, AllocError> {
+pub(crate) fn read_tree(alloc: Global, bytes: &[u8]) -> Result<Option<(Tree, usize)>, AllocError>
+    ensures read { IfOk result (λ found. tree_at most_depth bytes.now ≡ option_map (λ f. (f.0, drop f.1 bytes.now)) found) }
+    ensures within { IfOk result (λ found. IfSome found (λ f. (0 < f.1) × (f.1 ≤ length bytes.now))) }
+{
     read_within(alloc, bytes, MOST_DEPTH)
 }
 
-/// The first bit of the octet, which is the sign of an INTEGER.
-fn is_negative(octet: u8) -> bool {
-    octet >= 128
+/// The first nine bits of the octets are not all equal, so that no octet can be left out. X.690, section 8.3.2.
+fn are_least(octets: &[u8]) -> bool
+    ensures { result ≡ are_least octets.now }
+{
+    match octets {
+        [] => false,
+        [_] => true,
+        [first, second, ..] => {
+            !(*first == 0 && *second < SIGN_BIT) && !(*first == 255 && *second >= SIGN_BIT)
+        }
+    }
+}
+
+/// The number that octets stand for, the bits of each turned where `negative` says so.
+fn read_turned(octets: &[u8], negative: bool) -> u64
+    requires { length octets.now ≤ 8 }
+    ensures { result ≡ number (map (octet_turned negative) octets.now) }
+{
+    let mut value = 0u64;
+    for octet in octets {
+        let bits = if negative { 255 - *octet } else { *octet };
+        value = value * 256 + u64::from(bits);
+    }
+    value
 }
 
 /// The value of an INTEGER's contents octets, or none where they are not the least octets that hold a value of 64 bits in
 /// two's complement. X.690, section 8.3.
-pub(crate) fn read_integer_contents(octets: &[u8]) -> Option<i64> {
-    if octets.len() > MOST_INTEGER_OCTETS {
+pub(crate) fn read_integer_contents(octets: &[u8]) -> Option<i64>
+    ensures found { IfSome result (λ value. octets.now ≡ integer_contents value) }
+    ensures none { IfNone result
+        ((value : ℤ) → FitsSigned w64 value → octets.now ≡ integer_contents value → ⊥) }
+{
+    if octets.len() > MOST_INTEGER_OCTETS || !are_least(octets) {
         return None;
     }
-    let (first, others) = octets.split_first()?;
-    let negative = is_negative(*first);
-    if let Some(second) = others.first() {
-        let filler = if negative { 255 } else { 0 };
-        if *first == filler && is_negative(*second) == negative {
-            return None;
-        }
-    }
-    let mut number = 0u64;
-    for octet in octets {
-        let bits = if negative { 255 - *octet } else { *octet };
-        number = number * 256 + u64::from(bits);
-    }
-    Some(if negative { -1 - number as i64 } else { number as i64 })
+    let negative = *octets.first()? >= SIGN_BIT;
+    let value = read_turned(octets, negative) as i64;
+    Some(if negative { -1 - value } else { value })
 }
 
 /// The subidentifier at the front, and how many octets spell it; none where it is cut off, takes more octets than hold it or
 /// is above 32 bits. X.690, section 8.19.2.
 fn read_subidentifier(octets: &[u8]) -> Option<(u32, usize)> {
-    let mut number = 0u64;
+    let mut value = 0u64;
     for (i, octet) in octets.iter().enumerate() {
         if i == MOST_SUBIDENTIFIER_OCTETS || (i == 0 && *octet == EMPTY_GROUP) {
             return None;
         }
-        number = number * 128 + u64::from(*octet % 128);
+        value = value * 128 + u64::from(*octet % 128);
         if *octet < 128 {
-            return u32::try_from(number).ok().map(|number| (number, i + 1));
+            return u32::try_from(value).ok().map(|number| (number, i + 1));
         }
     }
     None

@@ -1,5 +1,5 @@
 -- The one form in which a tree is written: X.690, sections 8.1.2, 8.1.3 and 10.1.
-use Rattle.std.specs.Prelude.{ℕ, ◌+◌, ◌*◌, List, [], ◌∷◌, ◌++◌, Bool, true, false, nat_lt, length, if◌then◌else◌}
+use Rattle.std.specs.Prelude.{ℕ, ◌+◌, ◌*◌, ◌%◌, List, [], ◌∷◌, ◌++◌, Bool, true, false, nat_lt, length, if◌then◌else◌}
 use Rattle.term_values.specs.declared.tag.Tag.{Tag}
 use Rattle.term_values.specs.Oid.{subidentifier}
 use Rattle.term_values.specs.Octets.{octets, count_unsigned}
@@ -7,9 +7,9 @@ use Rattle.term_values.specs.Tree.{TreeValue, TreeValues}
 use Rattle.term_values.specs.Tree.TreeValue.{Primitive, Constructed}
 use Rattle.term_values.specs.Tree.TreeValues.{Nothing, Then}
 
--- class and form, which begin the first identifier octet: X.690, section 8.1.2.2
+-- class and form, which begin the first identifier octet, the class in two bits: X.690, section 8.1.2.2
 abbrev pub leading_bits : Bool → Tag → ℕ
-leading_bits constructed tag = tag.class * 64 + (if constructed then 32 else 0)
+leading_bits constructed tag = tag.class % 4 * 64 + (if constructed then 32 else 0)
 
 -- the identifier octets: one octet for a number below 31, else the high form
 unfoldable pub identifier_octets : Bool → Tag → List ℕ

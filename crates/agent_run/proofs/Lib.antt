@@ -1,0 +1,4 @@
+pub mod Extending
+pub mod IntegerLaws
+pub mod ReadingSteps
+pub mod WritingLaws
