@@ -1,3 +1,5 @@
 pub mod Integers
+pub mod Parts
+pub mod Playing
 pub mod Reading
 pub mod Writing

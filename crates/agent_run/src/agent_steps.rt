@@ -1,31 +1,42 @@
-//! The steps of the one-manager agent, one for each kind of entry.
+//! The steps of the one-manager agent, one for each kind of entry: each does what the definition of a step says of a legal entry.
+
+ghost use Rattle.std.specs.Prelude.{◌≡◌, ◌+◌, ◌^◌, ◌<◌, ◌≤◌, ◌++◌, [], ◌∷◌, length, IsTrue, IfOk, OnOk, Option, Some, option_and_then, ◌==◌, if◌then◌else◌};
+ghost use Rattle.std.specs.Option.{option_copied, option_map_or};
+ghost use Rattle.term_model.specs.AgentState.{association_of, granted_moment, left_to_take, operation_of};
+ghost use Rattle.term_model.specs.Operation.{exec, get_reply, name_of, object_at, no_such_object_instance};
+ghost use Rattle.term_model.specs.Step.{changed_association, is_legal, reply_bytes, step, with_placed, with_state};
 
 use crate::apdu_reading::{M_GET, asked_in, title_in};
 use crate::apdu_writing::{bind_answer_frame, reply_frame};
 use crate::object_reading::get_one;
 use std::alloc::{AllocError, Global};
 use term_model::reply::NO_SUCH_OBJECT_INSTANCE;
-use term_model::{AgentState, Association, AssociationState, CmisError, Instance, Name, Named};
+use term_model::{AgentState, Association, AssociationState, CmisError, Entry, Instance, Name, Named};
 use term_model::{Object, Objects, Operation, OperationState, Reply, Request, Set, Why};
 use term_values::Bytes;
 
 /// The result of a BIND that is accepted.
-const ACCEPTED: i64 = 0;
+const ACCEPTED: u8 = 0;
 
 /// The result of octets that are no BIND.
-const BAD_BIND: i64 = 2;
+const BAD_BIND: u8 = 2;
 
 /// The moment at which a script begins, in seconds since 1970.
 pub(crate) const SCRIPT_START: u64 = 0;
 
 /// An association is asked for by a BIND; its number is the next one. Octets that are no BIND are turned away.
-pub(crate) fn open(alloc: Global, agent: &mut AgentState, number: u64, bind: &[u8]) -> Result<(), AllocError> {
+pub(crate) fn open(alloc: Global, agent: &mut AgentState, number: u64, bind: &[u8]) -> Result<(), AllocError>
+    requires small { number < 2 ^ 63 }
+    requires legal { IsTrue (is_legal agent.old (Entry.Opened number bind.now)) }
+    requires room { agent.old.entries + 1 < 2 ^ 64 }
+    ensures { OnOk result (agent.new ≡ step agent.old (Entry.Opened number bind.now)) }
+{
     let title = title_in(alloc, bind)?;
-    let (result, state) = match &title {
+    let (code, state) = match &title {
         Some(_) => (ACCEPTED, AssociationState::Live),
         None => (BAD_BIND, AssociationState::Finished),
     };
-    let frame = bind_answer_frame(alloc, result, number as i64)?;
+    let frame = bind_answer_frame(alloc, code, number)?;
     agent.associations.items.push(Association {
         title,
         state,
@@ -37,7 +48,11 @@ pub(crate) fn open(alloc: Global, agent: &mut AgentState, number: u64, bind: &[u
 }
 
 /// An APDU arrives; where it brings a request, an operation is queued under the next number.
-pub(crate) fn arrive(alloc: Global, agent: &mut AgentState, number: u64, apdu: &[u8]) -> Result<(), AllocError> {
+pub(crate) fn arrive(alloc: Global, agent: &mut AgentState, number: u64, apdu: &[u8]) -> Result<(), AllocError>
+    requires legal { IsTrue (is_legal agent.old (Entry.Arrived number apdu.now)) }
+    requires room { agent.old.entries + 1 < 2 ^ 64 }
+    ensures { OnOk result (agent.new ≡ step agent.old (Entry.Arrived number apdu.now)) }
+{
     if let Some(asked) = asked_in(alloc, apdu)? {
         agent.operations.items.push(Operation {
             association: number,
@@ -51,7 +66,11 @@ pub(crate) fn arrive(alloc: Global, agent: &mut AgentState, number: u64, apdu: &
 }
 
 /// The operation under this number has all its locks at the script's start.
-pub(crate) fn grant(agent: &mut AgentState, number: u64) {
+pub(crate) fn grant(agent: &mut AgentState, number: u64)
+    requires legal { IsTrue (is_legal agent.old (Entry.Granted number SCRIPT_START)) }
+    requires room { agent.old.entries + 1 < 2 ^ 64 }
+    ensures { agent.new ≡ step agent.old (Entry.Granted number SCRIPT_START) }
+{
     let place = (number - 1) as usize;
     let operation = &mut agent.operations.items[place];
     operation.state = OperationState::Granted(SCRIPT_START);
@@ -59,7 +78,9 @@ pub(crate) fn grant(agent: &mut AgentState, number: u64) {
 }
 
 /// The object with this name.
-fn object_at<'a>(objects: &'a Objects, name: &Name) -> Option<&'a Object> {
+fn find_object<'a>(objects: &'a Objects, name: &Name) -> Option<&'a Object>
+    ensures { option_copied result ≡ object_at objects.now name.now }
+{
     for entry in &objects.items {
         if entry.name.parts.as_slice() == name.parts.as_slice() {
             return Some(&entry.object);
@@ -69,40 +90,88 @@ fn object_at<'a>(objects: &'a Objects, name: &Name) -> Option<&'a Object> {
 }
 
 /// noSuchObjectInstance, with the instance as it came: X.711, section 7.5.
-fn no_such_object_instance(alloc: Global, base: &Instance) -> Result<Reply, AllocError> {
-    Ok(Reply::Error(CmisError {
+fn no_such_instance(alloc: Global, base: &Instance) -> Result<CmisError, AllocError>
+    ensures { IfOk result (λ error. error ≡ no_such_object_instance base.now) }
+{
+    Ok(CmisError {
         code: NO_SUCH_OBJECT_INSTANCE,
         parameter: Some(base.raw.copy(alloc)?),
-    }))
+    })
 }
 
-/// What the agent answers to a request granted at the script's start. A Get changes nothing.
-fn answer(alloc: Global, schema: &Set, objects: &Objects, request: &Request) -> Result<Reply, AllocError> {
-    let Request::Get { head } = request;
-    let Named::Object(name) = &head.base.named;
-    match object_at(objects, name) {
+/// What the agent answers to a Get of this base object, granted at the script's start.
+fn answer_get(alloc: Global, schema: &Set, objects: &Objects, base: &Instance) -> Result<Reply, AllocError>
+    ensures { IfOk result (λ reply. reply ≡ get_reply schema.now base.now 0 (object_at objects.now (name_of base.now))) }
+{
+    let Named::Object(name) = &base.named;
+    match find_object(objects, name) {
         Some(object) => Ok(Reply::Single(get_one(alloc, schema, &name.parts, object)?)),
-        None => no_such_object_instance(alloc, &head.base),
+        None => Ok(Reply::Error(no_such_instance(alloc, base)?)),
     }
 }
 
+/// The reply to an operation granted at the script's start, in its frame.
+fn answer_frame(alloc: Global, schema: &Set, objects: &Objects, operation: &Operation) -> Result<Vec<u8>, AllocError>
+    ensures { IfOk result (λ octets. octets.items ≡ reply_bytes operation.now (exec schema.now objects.now operation.now.request 0)) }
+{
+    let Request::Get { head } = &operation.request;
+    let reply = answer_get(alloc, schema, objects, &head.base)?;
+    reply_frame(alloc, i64::from(operation.invoke), M_GET, &reply)
+}
+
+/// Places octets for the association under this number, where there is one.
+fn place(agent: &mut AgentState, number: u64, octets: &[u8]) -> Result<(), AllocError>
+    ensures { OnOk result (agent.new ≡ record agent.old {
+      associations = changed_association agent.old.associations number (with_placed octets.now);
+    }) }
+{
+    let at = number.saturating_sub(1) as usize;
+    if at < agent.associations.items.len() {
+        let association = &mut agent.associations.items[at];
+        association.placed.items.extend_from_slice(octets)?;
+    }
+    Ok(())
+}
+
 /// The operation under this number, granted at the script's start, is performed, and its reply is placed.
-pub(crate) fn commit(alloc: Global, agent: &mut AgentState, number: u64) -> Result<(), AllocError> {
-    let place = (number - 1) as usize;
-    let operation = &agent.operations.items[place];
-    let association = (operation.association - 1) as usize;
-    let reply = answer(alloc, &agent.schema, &agent.objects, &operation.request)?;
-    let frame = reply_frame(alloc, i64::from(operation.invoke), M_GET, &reply)?;
-    agent.associations.items[association].placed.items.extend_from_slice(&frame)?;
-    agent.operations.items[place].state = OperationState::Ended(agent.entries);
+pub(crate) fn commit(alloc: Global, agent: &mut AgentState, number: u64) -> Result<(), AllocError>
+    requires granted { option_and_then (λ o. granted_moment o.state) (operation_of agent.old number) ≡ Some SCRIPT_START }
+    requires room { agent.old.entries + 1 < 2 ^ 64 }
+    ensures { OnOk result (agent.new ≡ step agent.old (Entry.Committed number)) }
+{
+    let at = (number - 1) as usize;
+    let operation = &agent.operations.items[at];
+    let association = operation.association;
+    let octets = answer_frame(alloc, &agent.schema, &agent.objects, operation)?;
+    place(agent, association, &octets)?;
+    let ended = &mut agent.operations.items[at];
+    ended.state = OperationState::Ended(agent.entries);
     agent.entries += 1;
     Ok(())
 }
 
-/// All that is placed for an association and not taken is taken; the answer is how many bytes these are.
-pub(crate) fn take_all(agent: &mut AgentState, number: u64) -> u64 {
-    let association = &mut agent.associations.items[(number - 1) as usize];
-    let count = association.placed.items.len() as u64 - association.taken;
+/// How many bytes of an association are placed and not taken; none of a closed one.
+fn count_left(association: &Association) -> u64
+    ensures { result ≡ left_to_take association.now }
+{
+    match association.state {
+        AssociationState::Closed(_) => 0,
+        _ => (association.placed.items.len() as u64).saturating_sub(association.taken),
+    }
+}
+
+/// Takes all that is left of an association, where there is one and something is left; the answer is how many bytes these are.
+pub(crate) fn take_all(agent: &mut AgentState, number: u64) -> u64
+    requires room { agent.old.entries + 1 < 2 ^ 64 }
+    ensures count { result ≡ option_map_or left_to_take (association_of agent.old number) 0 }
+    ensures taken { agent.new ≡ (if result == 0 then agent.old else step agent.old (Entry.Taken number result)) }
+{
+    let at = number.saturating_sub(1) as usize;
+    if number == 0 || at >= agent.associations.items.len() {
+        return 0;
+    }
+    let association = &mut agent.associations.items[at];
+    let count = count_left(association);
     if count > 0 {
         association.taken += count;
         agent.entries += 1;
@@ -110,16 +179,33 @@ pub(crate) fn take_all(agent: &mut AgentState, number: u64) -> u64 {
     count
 }
 
-/// No more comes from an association.
-pub(crate) fn finish(agent: &mut AgentState, number: u64) {
+/// Sets the state of the association under this number.
+fn set_state(agent: &mut AgentState, number: u64, state: AssociationState)
+    requires { (1 ≤ number) × (number ≤ length agent.old.associations) }
+    ensures { agent.new ≡ record agent.old {
+      associations = changed_association agent.old.associations number (with_state state);
+    } }
+{
     let association = &mut agent.associations.items[(number - 1) as usize];
-    association.state = AssociationState::Finished;
+    association.state = state;
+}
+
+/// No more comes from an association.
+pub(crate) fn finish(agent: &mut AgentState, number: u64)
+    requires legal { IsTrue (is_legal agent.old (Entry.Finished number)) }
+    requires room { agent.old.entries + 1 < 2 ^ 64 }
+    ensures { agent.new ≡ step agent.old (Entry.Finished number) }
+{
+    set_state(agent, number, AssociationState::Finished);
     agent.entries += 1;
 }
 
 /// An association of which nothing is outstanding and nothing left to take is closed.
-pub(crate) fn close_at_end(agent: &mut AgentState, number: u64) {
-    let association = &mut agent.associations.items[(number - 1) as usize];
-    association.state = AssociationState::Closed(Why::End);
+pub(crate) fn close_at_end(agent: &mut AgentState, number: u64)
+    requires legal { IsTrue (is_legal agent.old (Entry.Closed number Why.End)) }
+    requires room { agent.old.entries + 1 < 2 ^ 64 }
+    ensures { agent.new ≡ step agent.old (Entry.Closed number Why.End) }
+{
+    set_state(agent, number, AssociationState::Closed(Why::End));
     agent.entries += 1;
 }

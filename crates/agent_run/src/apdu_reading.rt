@@ -1,9 +1,19 @@
 //! Reads what managers send: a BIND, and an invoke of m-Get. X.229, section 9; X.711, section 7.4.
 
+ghost use Rattle.std.specs.Prelude.{◌≡◌, Option, None, Some, IfOk, IfSome, if◌then◌else◌};
+ghost use Rattle.std.specs.Option.{option_map, option_copied};
+ghost use Rattle.term_values.specs.BerReading.{tree_in};
+ghost use Rattle.term_values.specs.Tree.{listed};
+ghost use Rattle.term_values.specs.Der.{written};
+ghost use Rattle.term_model.specs.Bind.{title_in, title_of};
+ghost use Rattle.term_model.specs.GetRequest.{asked_in, assertion_of, get_of, instance_of, rdn_of, rdns_of};
+ghost use Rattle.term_model.specs.RemoteOperation.{id_of, integer_of};
+ghost use Rattle.agent_run.specs.Parts.{contents_under, inside_under, oid_under};
+
 use crate::tree_reading::{read_integer_contents, read_oid_contents, read_tree};
 use crate::tree_writing::write_tree;
 use std::alloc::{AllocError, Global};
-use term_model::{Head, IdRef, Instance, Name, Named, Rdn, Request};
+use term_model::{Asked, Head, IdRef, Instance, Name, Named, Rdn, Request};
 use term_values::{Body, Bytes, Oid, Tag, Tree};
 
 /// The tag of an Invoke APDU.
@@ -27,15 +37,10 @@ pub(crate) const LOCAL_DISTINGUISHED_NAME: Tag = Tag {
 /// The operation m-Get.
 pub(crate) const M_GET: i64 = 3;
 
-/// A request with its invoke id.
-#[derive(Drop)]
-pub(crate) struct Asked {
-    pub id: i32,
-    pub request: Request,
-}
-
 /// The values inside a constructed value of this tag.
-fn inside_of(tree: &Tree, tag: Tag) -> Option<&[Tree]> {
+fn inside_of(tree: &Tree, tag: Tag) -> Option<&[Tree]>
+    ensures { option_map listed (option_copied result) ≡ inside_under tag tree.now }
+{
     match &tree.body {
         Body::Cons(inside) if tree.tag == tag => Some(inside.items.as_slice()),
         _ => None,
@@ -43,7 +48,9 @@ fn inside_of(tree: &Tree, tag: Tag) -> Option<&[Tree]> {
 }
 
 /// The contents octets of a primitive value of this tag.
-fn contents_of(tree: &Tree, tag: Tag) -> Option<&[u8]> {
+fn contents_of(tree: &Tree, tag: Tag) -> Option<&[u8]>
+    ensures { option_copied result ≡ contents_under tag tree.now }
+{
     match &tree.body {
         Body::Prim(contents) if tree.tag == tag => Some(contents.as_slice()),
         _ => None,
@@ -51,7 +58,9 @@ fn contents_of(tree: &Tree, tag: Tag) -> Option<&[u8]> {
 }
 
 /// The tree that all of the octets spell.
-fn whole_tree(alloc: Global, bytes: &[u8]) -> Result<Option<Tree>, AllocError> {
+fn whole_tree(alloc: Global, bytes: &[u8]) -> Result<Option<Tree>, AllocError>
+    ensures { IfOk result (λ tree. tree ≡ tree_in bytes.now) }
+{
     match read_tree(alloc, bytes)? {
         Some((tree, size)) if size == bytes.len() => Ok(Some(tree)),
         _ => Ok(None),
@@ -59,7 +68,9 @@ fn whole_tree(alloc: Global, bytes: &[u8]) -> Result<Option<Tree>, AllocError> {
 }
 
 /// An identifier under this tag.
-fn oid_of(alloc: Global, tree: &Tree, tag: Tag) -> Result<Option<Oid>, AllocError> {
+fn oid_of(alloc: Global, tree: &Tree, tag: Tag) -> Result<Option<Oid>, AllocError>
+    ensures { IfOk result (λ oid. oid ≡ oid_under tag tree.now) }
+{
     match contents_of(tree, tag) {
         None => Ok(None),
         Some(contents) => read_oid_contents(alloc, contents),
@@ -67,7 +78,9 @@ fn oid_of(alloc: Global, tree: &Tree, tag: Tag) -> Result<Option<Oid>, AllocErro
 }
 
 /// The title in a BIND; none where the octets are no BIND.
-pub(crate) fn title_in(alloc: Global, bind: &[u8]) -> Result<Option<Oid>, AllocError> {
+pub(crate) fn title_in(alloc: Global, bind: &[u8]) -> Result<Option<Oid>, AllocError>
+    ensures { IfOk result (λ title. title ≡ title_in bind.now) }
+{
     let tree = match whole_tree(alloc, bind)? {
         None => return Ok(None),
         Some(tree) => tree,
@@ -79,14 +92,18 @@ pub(crate) fn title_in(alloc: Global, bind: &[u8]) -> Result<Option<Oid>, AllocE
 }
 
 /// The written octets of a tree.
-fn written(alloc: Global, tree: &Tree) -> Result<Bytes, AllocError> {
+fn written(alloc: Global, tree: &Tree) -> Result<Bytes, AllocError>
+    ensures { IfOk result (λ octets. octets ≡ written tree.now) }
+{
     let mut items = Vec::new(alloc);
     write_tree(tree, &mut items)?;
     Ok(Bytes { items })
 }
 
 /// An attribute value assertion: an identifier and a value.
-fn assertion_of(alloc: Global, tree: &Tree) -> Result<Option<Rdn>, AllocError> {
+fn assertion_of(alloc: Global, tree: &Tree) -> Result<Option<Rdn>, AllocError>
+    ensures { IfOk result (λ rdn. rdn ≡ assertion_of tree.now) }
+{
     match inside_of(tree, Tag::SEQUENCE) {
         Some([id, value]) => match oid_of(alloc, id, Tag::OBJECT_IDENTIFIER)? {
             None => Ok(None),
@@ -100,7 +117,9 @@ fn assertion_of(alloc: Global, tree: &Tree) -> Result<Option<Rdn>, AllocError> {
 }
 
 /// A relative distinguished name of one assertion.
-fn rdn_of(alloc: Global, tree: &Tree) -> Result<Option<Rdn>, AllocError> {
+fn rdn_of(alloc: Global, tree: &Tree) -> Result<Option<Rdn>, AllocError>
+    ensures { IfOk result (λ rdn. rdn ≡ rdn_of tree.now) }
+{
     match inside_of(tree, Tag::SET) {
         Some([assertion]) => assertion_of(alloc, assertion),
         _ => Ok(None),
@@ -108,7 +127,9 @@ fn rdn_of(alloc: Global, tree: &Tree) -> Result<Option<Rdn>, AllocError> {
 }
 
 /// An RDNSequence.
-fn rdns_of(alloc: Global, trees: &[Tree]) -> Result<Option<Vec<Rdn>>, AllocError> {
+fn rdns_of(alloc: Global, trees: &[Tree]) -> Result<Option<Vec<Rdn>>, AllocError>
+    ensures { IfOk result (λ rdns. option_map (λ v. v.items) rdns ≡ rdns_of (listed trees.now)) }
+{
     let mut rdns = Vec::new(alloc);
     for tree in trees {
         match rdn_of(alloc, tree)? {
@@ -120,7 +141,9 @@ fn rdns_of(alloc: Global, trees: &[Tree]) -> Result<Option<Vec<Rdn>>, AllocError
 }
 
 /// An ObjectInstance in localDistinguishedName.
-fn instance_of(alloc: Global, tree: &Tree) -> Result<Option<Instance>, AllocError> {
+fn instance_of(alloc: Global, tree: &Tree) -> Result<Option<Instance>, AllocError>
+    ensures { IfOk result (λ instance. instance ≡ instance_of tree.now) }
+{
     let inside = match inside_of(tree, LOCAL_DISTINGUISHED_NAME) {
         None => return Ok(None),
         Some(inside) => inside,
@@ -135,7 +158,9 @@ fn instance_of(alloc: Global, tree: &Tree) -> Result<Option<Instance>, AllocErro
 }
 
 /// The argument of m-Get.
-fn get_of(alloc: Global, argument: &Tree) -> Result<Option<Request>, AllocError> {
+fn get_of(alloc: Global, argument: &Tree) -> Result<Option<Request>, AllocError>
+    ensures { IfOk result (λ request. request ≡ get_of argument.now) }
+{
     match inside_of(argument, Tag::SEQUENCE) {
         Some([class, instance]) => match oid_of(alloc, class, GLOBAL_FORM)? {
             None => Ok(None),
@@ -154,18 +179,24 @@ fn get_of(alloc: Global, argument: &Tree) -> Result<Option<Request>, AllocError>
 }
 
 /// An invoke id, which has at most 32 bits.
-fn id_of(tree: &Tree) -> Option<i32> {
+fn id_of(tree: &Tree) -> Option<i32>
+    ensures { result ≡ id_of tree.now }
+{
     let number = read_integer_contents(contents_of(tree, Tag::INTEGER)?)?;
     i32::try_from(number).ok()
 }
 
 /// The operation of an invoke.
-fn operation_of(tree: &Tree) -> Option<i64> {
+fn operation_of(tree: &Tree) -> Option<i64>
+    ensures { result ≡ integer_of tree.now }
+{
     read_integer_contents(contents_of(tree, Tag::INTEGER)?)
 }
 
 /// The request that an APDU brings; none where it is no invoke of m-Get in the form of X.711.
-pub(crate) fn asked_in(alloc: Global, apdu: &[u8]) -> Result<Option<Asked>, AllocError> {
+pub(crate) fn asked_in(alloc: Global, apdu: &[u8]) -> Result<Option<Asked>, AllocError>
+    ensures { IfOk result (λ asked. asked ≡ asked_in apdu.now) }
+{
     let tree = match whole_tree(alloc, apdu)? {
         None => return Ok(None),
         Some(tree) => tree,

@@ -1,10 +1,17 @@
-//! Writes APDUs in their frames: X.229, section 9, and the answer to a BIND.
+//! Writes APDUs in their frames: X.229, section 9, and the BIND with its answer.
+
+ghost use Rattle.std.specs.Prelude.{◌≡◌, ◌++◌, ◌+◌, ◌^◌, ◌<◌, pos, true, IfOk, OnOk};
+ghost use Rattle.term_model.specs.Bind.{bind, bind_answer};
+ghost use Rattle.term_model.specs.GetRequest.{get_apdu};
+ghost use Rattle.term_model.specs.Operation.{reply_frame};
+ghost use Rattle.term_model.specs.RemoteOperation.{error_apdu, frame, result_apdu};
+ghost use Rattle.term_model.specs.Operation.{sent_parameter};
+ghost use Rattle.term_values.specs.Der.{encoded};
 
 use crate::apdu_reading::{GLOBAL_FORM, INVOKE, M_GET};
 use crate::object_reading::write_instance;
-use crate::tree_writing::write_integer_contents;
+use crate::tree_writing::{write_integer_contents, write_octets};
 use crate::value_writing::{write_integer, write_oid, write_value};
-use byteorder::{BigEndian, ByteOrder};
 use std::alloc::{AllocError, Global};
 use term_model::{CmisError, Rdn, Reply};
 use term_values::{Oid, Tag};
@@ -21,38 +28,48 @@ const ERROR: Tag = Tag {
     number: 3,
 };
 
+/// The octets of a frame's length.
+const LENGTH_OCTETS: u32 = 4;
+
 /// The most octets of a parameter in an Error frame; a longer one is left out.
 const MOST_PARAMETER: usize = 32768;
 
 /// Appends a frame: four octets of length, and the APDU.
-pub(crate) fn write_frame(apdu: &[u8], into: &mut Vec<u8>) -> Result<(), AllocError> {
-    let mut length = [0u8; 4];
-    BigEndian::write_u32(&mut length, apdu.len() as u32);
-    into.extend_from_slice(&length)?;
+pub(crate) fn write_frame(apdu: &[u8], into: &mut Vec<u8>) -> Result<(), AllocError>
+    ensures { OnOk result (into.new.items ≡ into.old.items ++ frame apdu.now) }
+{
+    write_octets(LENGTH_OCTETS, apdu.len() as u64, false, into)?;
     into.extend_from_slice(apdu)
 }
 
-/// The frame that answers the BIND of an association with this number.
-pub(crate) fn bind_answer_frame(alloc: Global, code: i64, association: i64) -> Result<Vec<u8>, AllocError> {
+/// A frame whose APDU is a constructed value.
+fn framed(alloc: Global, tag: Tag, contents: &[u8]) -> Result<Vec<u8>, AllocError>
+    ensures { IfOk result (λ octets. octets.items ≡ frame (encoded true tag contents.now)) }
+{
+    let mut apdu = Vec::new(alloc);
+    write_value(true, tag, contents, &mut apdu)?;
     let mut octets = Vec::new(alloc);
-    write_integer_contents(code, &mut octets)?;
+    write_frame(&apdu, &mut octets)?;
+    Ok(octets)
+}
+
+/// The frame that answers the BIND of an association with this number.
+pub(crate) fn bind_answer_frame(alloc: Global, code: u8, association: u64) -> Result<Vec<u8>, AllocError>
+    requires { association < 2 ^ 63 }
+    ensures { IfOk result (λ octets. octets.items ≡ frame (bind_answer code association)) }
+{
+    let mut code_contents = Vec::new(alloc);
+    write_integer_contents(i64::from(code), &mut code_contents)?;
     let mut contents = Vec::new(alloc);
-    write_value(false, Tag::ENUMERATED, &octets, &mut contents)?;
-    write_integer(alloc, association, &mut contents)?;
+    write_value(false, Tag::ENUMERATED, &code_contents, &mut contents)?;
+    write_integer(alloc, association as i64, &mut contents)?;
     framed(alloc, Tag::SEQUENCE, &contents)
 }
 
-/// A frame whose APDU is a constructed value.
-fn framed(alloc: Global, tag: Tag, contents: &[u8]) -> Result<Vec<u8>, AllocError> {
-    let mut apdu = Vec::new(alloc);
-    write_value(true, tag, contents, &mut apdu)?;
-    let mut frame = Vec::new(alloc);
-    write_frame(&apdu, &mut frame)?;
-    Ok(frame)
-}
-
 /// The frame of a Result: the invoke id, the operation and the result's octets.
-fn result_frame(alloc: Global, invoke: i64, operation: i64, value: &[u8]) -> Result<Vec<u8>, AllocError> {
+fn result_frame(alloc: Global, invoke: i64, operation: i64, value: &[u8]) -> Result<Vec<u8>, AllocError>
+    ensures { IfOk result (λ octets. octets.items ≡ frame (result_apdu invoke operation value.now)) }
+{
     let mut inside = Vec::new(alloc);
     write_integer(alloc, operation, &mut inside)?;
     inside.extend_from_slice(value)?;
@@ -62,22 +79,31 @@ fn result_frame(alloc: Global, invoke: i64, operation: i64, value: &[u8]) -> Res
     framed(alloc, RESULT, &contents)
 }
 
-/// The frame of an Error: the invoke id, the error and its parameter, which is left out where it is long.
-fn error_frame(alloc: Global, invoke: i64, error: &CmisError) -> Result<Vec<u8>, AllocError> {
+/// The parameter of an error as it is sent: nothing where there is none, or one that is too long.
+fn sent_parameter(error: &CmisError) -> &[u8]
+    ensures { result.now ≡ sent_parameter error.now.parameter }
+{
+    match &error.parameter {
+        Some(parameter) if parameter.as_slice().len() <= MOST_PARAMETER => parameter.as_slice(),
+        _ => &[],
+    }
+}
+
+/// The frame of an Error: the invoke id, the error and its parameter.
+fn error_frame(alloc: Global, invoke: i64, error: &CmisError) -> Result<Vec<u8>, AllocError>
+    ensures { IfOk result (λ octets. octets.items ≡ frame (error_apdu invoke error.now.code (sent_parameter error.now.parameter))) }
+{
     let mut contents = Vec::new(alloc);
     write_integer(alloc, invoke, &mut contents)?;
     write_integer(alloc, error.code, &mut contents)?;
-    if let Some(parameter) = &error.parameter {
-        let parameter = parameter.as_slice();
-        if parameter.len() <= MOST_PARAMETER {
-            contents.extend_from_slice(parameter)?;
-        }
-    }
+    contents.extend_from_slice(sent_parameter(error))?;
     framed(alloc, ERROR, &contents)
 }
 
 /// The frame of a reply to an invoke of an operation.
-pub(crate) fn reply_frame(alloc: Global, invoke: i64, operation: i64, reply: &Reply) -> Result<Vec<u8>, AllocError> {
+pub(crate) fn reply_frame(alloc: Global, invoke: i64, operation: i64, reply: &Reply) -> Result<Vec<u8>, AllocError>
+    ensures { IfOk result (λ octets. octets.items ≡ reply_frame invoke operation reply.now) }
+{
     match reply {
         Reply::Single(value) => result_frame(alloc, invoke, operation, value.as_slice()),
         Reply::Error(error) => error_frame(alloc, invoke, error),
@@ -85,16 +111,20 @@ pub(crate) fn reply_frame(alloc: Global, invoke: i64, operation: i64, reply: &Re
 }
 
 /// The written BIND of a manager with this title.
-pub(crate) fn write_bind(alloc: Global, title: &Oid) -> Result<Vec<u8>, AllocError> {
+pub(crate) fn write_bind(alloc: Global, title: &Oid) -> Result<Vec<u8>, AllocError>
+    ensures { IfOk result (λ octets. octets.items ≡ bind title.now) }
+{
     let mut contents = Vec::new(alloc);
     write_oid(alloc, Tag::OBJECT_IDENTIFIER, title, &mut contents)?;
-    let mut bind = Vec::new(alloc);
-    write_value(true, Tag::SEQUENCE, &contents, &mut bind)?;
-    Ok(bind)
+    let mut octets = Vec::new(alloc);
+    write_value(true, Tag::SEQUENCE, &contents, &mut octets)?;
+    Ok(octets)
 }
 
 /// The written invoke of m-Get for an object of this class with this name.
-pub(crate) fn write_get(alloc: Global, invoke: i64, class: &Oid, name: &[Rdn]) -> Result<Vec<u8>, AllocError> {
+pub(crate) fn write_get(alloc: Global, invoke: i64, class: &Oid, name: &[Rdn]) -> Result<Vec<u8>, AllocError>
+    ensures { IfOk result (λ octets. octets.items ≡ get_apdu invoke class.now name.now) }
+{
     let mut argument = Vec::new(alloc);
     write_oid(alloc, GLOBAL_FORM, class, &mut argument)?;
     write_instance(alloc, name, &mut argument)?;
@@ -102,7 +132,7 @@ pub(crate) fn write_get(alloc: Global, invoke: i64, class: &Oid, name: &[Rdn]) -
     write_integer(alloc, invoke, &mut contents)?;
     write_integer(alloc, M_GET, &mut contents)?;
     write_value(true, Tag::SEQUENCE, &argument, &mut contents)?;
-    let mut apdu = Vec::new(alloc);
-    write_value(true, INVOKE, &contents, &mut apdu)?;
-    Ok(apdu)
+    let mut octets = Vec::new(alloc);
+    write_value(true, INVOKE, &contents, &mut octets)?;
+    Ok(octets)
 }

@@ -1,5 +1,12 @@
 //! What a Get does to one object: X.711, section 7.4.
 
+ghost use Rattle.std.specs.Prelude.{◌≡◌, ◌++◌, IfOk, OnOk, IsTrue, List, map, flat_map};
+ghost use Rattle.std.specs.List.{list_any};
+ghost use Rattle.term_model.specs.GetRequest.{instance_octets, rdn_octets};
+ghost use Rattle.term_model.specs.ObjectOperation.{attribute_octets, get_one, is_readable, lets_read, readable};
+ghost use Rattle.term_model.specs.Rising.{rising};
+ghost use Rattle.term_values.specs.Fits.{der};
+
 use crate::apdu_reading::{GLOBAL_FORM, LOCAL_DISTINGUISHED_NAME};
 use crate::tree_writing::write_integer_contents;
 use crate::value_writing::{write_oid, write_value};
@@ -23,7 +30,9 @@ const ATTRIBUTE_LIST: Tag = Tag {
 const EPOCH_TEXT: &[u8] = b"19700101000000Z";
 
 /// Appends the written encoding of a value.
-pub(crate) fn write_typed(alloc: Global, value: &Value, into: &mut Vec<u8>) -> Result<(), AllocError> {
+pub(crate) fn write_typed(alloc: Global, value: &Value, into: &mut Vec<u8>) -> Result<(), AllocError>
+    ensures { OnOk result (into.new.items ≡ into.old.items ++ der value.now) }
+{
     match value.form {
         ValueForm::Int(number) => {
             let mut contents = Vec::new(alloc);
@@ -34,7 +43,9 @@ pub(crate) fn write_typed(alloc: Global, value: &Value, into: &mut Vec<u8>) -> R
 }
 
 /// An Attribute: its identifier in globalForm and its value.
-fn attribute_octets(alloc: Global, attribute: &Attribute) -> Result<Bytes, AllocError> {
+fn attribute_octets(alloc: Global, attribute: &Attribute) -> Result<Bytes, AllocError>
+    ensures { IfOk result (λ octets. octets ≡ attribute_octets attribute.now) }
+{
     let mut contents = Vec::new(alloc);
     write_oid(alloc, GLOBAL_FORM, &attribute.id, &mut contents)?;
     write_typed(alloc, &attribute.value, &mut contents)?;
@@ -44,17 +55,23 @@ fn attribute_octets(alloc: Global, attribute: &Attribute) -> Result<Bytes, Alloc
 }
 
 /// Whether the property list lets managers read the attribute.
-fn lets_read(properties: &[Property], attribute: &Oid) -> bool {
+fn lets_read(properties: &[Property], attribute: &Oid) -> bool
+    ensures { result ≡ list_any (lets_read attribute.now) properties.now }
+{
     properties.iter().any(|property| property.get && property.attribute == *attribute)
 }
 
 /// Whether managers may read the attribute of an object of this class.
-fn is_readable(schema: &Set, class: &Oid, attribute: &Oid) -> bool {
+fn is_readable(schema: &Set, class: &Oid, attribute: &Oid) -> bool
+    ensures { result ≡ is_readable schema.now class.now attribute.now }
+{
     schema.classes.items.iter().any(|record| record.id == *class && lets_read(&record.properties.items, attribute))
 }
 
 /// Appends encodings as the contents of a SET OF, in rising order: X.690, section 11.6.
-pub(crate) fn write_members(mut members: Vec<Bytes>, into: &mut Vec<u8>) -> Result<(), AllocError> {
+pub(crate) fn write_members(mut members: Vec<Bytes>, into: &mut Vec<u8>) -> Result<(), AllocError>
+    ensures { OnOk result (into.new.items ≡ into.old.items ++ flat_map (λ member. member) (rising members.items)) }
+{
     members.sort()?;
     for member in &members {
         into.extend_from_slice(member.as_slice())?;
@@ -63,7 +80,9 @@ pub(crate) fn write_members(mut members: Vec<Bytes>, into: &mut Vec<u8>) -> Resu
 }
 
 /// The octets of attributes as the contents of a SET OF Attribute.
-pub(crate) fn attribute_set(alloc: Global, attrs: &Attrs) -> Result<Vec<u8>, AllocError> {
+pub(crate) fn attribute_set(alloc: Global, attrs: &Attrs) -> Result<Vec<u8>, AllocError>
+    ensures { IfOk result (λ octets. octets.items ≡ flat_map (λ member. member) (rising (map attribute_octets attrs.now))) }
+{
     let mut members = Vec::new(alloc);
     for attribute in &attrs.items {
         members.push(attribute_octets(alloc, attribute)?)?;
@@ -74,7 +93,9 @@ pub(crate) fn attribute_set(alloc: Global, attrs: &Attrs) -> Result<Vec<u8>, All
 }
 
 /// The octets of the attributes that a Get without a list gives, as the contents of a SET OF Attribute.
-fn readable_set(alloc: Global, schema: &Set, object: &Object) -> Result<Vec<u8>, AllocError> {
+fn readable_set(alloc: Global, schema: &Set, object: &Object) -> Result<Vec<u8>, AllocError>
+    ensures { IfOk result (λ octets. octets.items ≡ flat_map (λ member. member) (rising (map attribute_octets (readable schema.now object.now)))) }
+{
     let mut members = Vec::new(alloc);
     for attribute in &object.attrs.items {
         if is_readable(schema, &object.class, &attribute.id) {
@@ -87,7 +108,9 @@ fn readable_set(alloc: Global, schema: &Set, object: &Object) -> Result<Vec<u8>,
 }
 
 /// Appends an RDN of one assertion.
-fn write_rdn(alloc: Global, rdn: &Rdn, into: &mut Vec<u8>) -> Result<(), AllocError> {
+fn write_rdn(alloc: Global, rdn: &Rdn, into: &mut Vec<u8>) -> Result<(), AllocError>
+    ensures { OnOk result (into.new.items ≡ into.old.items ++ rdn_octets rdn.now) }
+{
     let mut assertion = Vec::new(alloc);
     write_oid(alloc, Tag::OBJECT_IDENTIFIER, &rdn.attribute, &mut assertion)?;
     assertion.extend_from_slice(rdn.value.as_slice())?;
@@ -97,7 +120,9 @@ fn write_rdn(alloc: Global, rdn: &Rdn, into: &mut Vec<u8>) -> Result<(), AllocEr
 }
 
 /// Appends an ObjectInstance in localDistinguishedName.
-pub(crate) fn write_instance(alloc: Global, name: &[Rdn], into: &mut Vec<u8>) -> Result<(), AllocError> {
+pub(crate) fn write_instance(alloc: Global, name: &[Rdn], into: &mut Vec<u8>) -> Result<(), AllocError>
+    ensures { OnOk result (into.new.items ≡ into.old.items ++ instance_octets name.now) }
+{
     let mut rdns = Vec::new(alloc);
     for rdn in name {
         write_rdn(alloc, rdn, &mut rdns)?;
@@ -106,7 +131,9 @@ pub(crate) fn write_instance(alloc: Global, name: &[Rdn], into: &mut Vec<u8>) ->
 }
 
 /// The GetResult of an object, granted at the moment 0.
-pub(crate) fn get_one(alloc: Global, schema: &Set, name: &[Rdn], object: &Object) -> Result<Bytes, AllocError> {
+pub(crate) fn get_one(alloc: Global, schema: &Set, name: &[Rdn], object: &Object) -> Result<Bytes, AllocError>
+    ensures { IfOk result (λ octets. octets ≡ get_one schema.now name.now object.now 0) }
+{
     let mut contents = Vec::new(alloc);
     write_oid(alloc, GLOBAL_FORM, &object.class, &mut contents)?;
     write_instance(alloc, name, &mut contents)?;

@@ -1,5 +1,12 @@
 //! Plays a script on the one-manager agent: the journal that it gives, and the state after it.
 
+ghost use Rattle.std.specs.Prelude.{◌≡◌, ◌+◌, ◌^◌, ◌<◌, [], ◌∷◌, length, map, OnOk, IfOk, IsSome};
+ghost use Rattle.term_model.specs.AgentState.{start};
+ghost use Rattle.term_model.specs.Bind.{title_in};
+ghost use Rattle.term_model.specs.Played.{line_played, played};
+ghost use Rattle.term_model.specs.Played.ScriptLine.{Open, Send};
+ghost use Rattle.agent_run.specs.Playing.{IsReady, script_lines, so_far};
+
 use crate::agent_steps::{SCRIPT_START, arrive, close_at_end, commit, finish, grant, open, take_all};
 use std::alloc::{AllocError, Global};
 use term_model::{AgentState, Associations, Entries, Entry, NamedObject, Object, Objects, Oids, Operations, Set, Why};
@@ -23,7 +30,9 @@ pub(crate) struct Play {
 }
 
 /// The agent before any entry: the objects at the opening, and nothing else. The instances go into the objects.
-pub(crate) fn start(alloc: Global, schema: Set) -> Result<AgentState, AllocError> {
+pub(crate) fn opened_agent(alloc: Global, schema: Set) -> Result<AgentState, AllocError>
+    ensures { IfOk result (λ agent. agent ≡ start schema) }
+{
     let mut items = Vec::new(alloc);
     for instance in &schema.instances.items {
         items.push(NamedObject {
@@ -69,7 +78,12 @@ impl Play {
     }
 
     /// Brings an APDU, performs the operation that it queues, and takes the reply.
-    fn send(&mut self, alloc: Global, apdu: Bytes) -> Result<(), AllocError> {
+    fn send(&mut self, alloc: Global, apdu: Bytes) -> Result<(), AllocError>
+        requires { IsReady self.old.agent self.old.journal }
+        ensures played { OnOk result (so_far self.new.agent self.new.journal
+            ≡ line_played (so_far self.old.agent self.old.journal) (Send ASSOCIATION apdu)) }
+        ensures ready { OnOk result (IsReady self.new.agent self.new.journal) }
+    {
         let before = self.agent.operations.items.len();
         arrive(alloc, &mut self.agent, ASSOCIATION, apdu.as_slice())?;
         self.journal.items.push(Entry::Arrived(ASSOCIATION, apdu))?;
@@ -101,9 +115,13 @@ impl Play {
 }
 
 /// The journal of a script on the records of a document, and the agent after it.
-pub(crate) fn perform_script(alloc: Global, schema: Set, script: Script) -> Result<Play, AllocError> {
+pub(crate) fn perform_script(alloc: Global, schema: Set, script: Script) -> Result<Play, AllocError>
+    requires { IsSome (title_in script.bind) }
+    ensures { IfOk result (λ play. so_far play.agent play.journal
+        ≡ played schema (script_lines script.bind script.sends.items)) }
+{
     let mut play = Play {
-        agent: start(alloc, schema)?,
+        agent: opened_agent(alloc, schema)?,
         journal: Entries {
             items: Vec::new(alloc),
         },

@@ -1,7 +1,7 @@
 //! Writes values round contents octets, and the values of which APDUs are made: X.690, section 8.1.
 
-ghost use Rattle.std.specs.Prelude.{◌≡◌, pos, ◌++◌, OnOk, IfOk, true, false};
-ghost use Rattle.term_model.specs.RemoteOperation.{integer, frame};
+ghost use Rattle.std.specs.Prelude.{◌≡◌, ◌++◌, OnOk, false};
+ghost use Rattle.term_model.specs.RemoteOperation.{integer};
 ghost use Rattle.term_values.specs.Der.{encoded};
 ghost use Rattle.term_values.specs.Oid.{oid_contents};
 
@@ -15,21 +15,27 @@ pub(crate) fn write_value(
     tag: Tag,
     contents: &[u8],
     into: &mut Vec<u8>,
-) -> Result<(), AllocError> {
+) -> Result<(), AllocError>
+    ensures { OnOk result (into.new.items ≡ into.old.items ++ encoded constructed tag contents.now) }
+{
     write_identifier(constructed, tag, into)?;
     write_length(contents.len(), into)?;
     into.extend_from_slice(contents)
 }
 
 /// Appends an INTEGER.
-pub(crate) fn write_integer(alloc: Global, number: i64, into: &mut Vec<u8>) -> Result<(), AllocError> {
+pub(crate) fn write_integer(alloc: Global, number: i64, into: &mut Vec<u8>) -> Result<(), AllocError>
+    ensures { OnOk result (into.new.items ≡ into.old.items ++ integer number) }
+{
     let mut contents = Vec::new(alloc);
     write_integer_contents(number, &mut contents)?;
     write_value(false, Tag::INTEGER, &contents, into)
 }
 
 /// Appends an OBJECT IDENTIFIER under this tag.
-pub(crate) fn write_oid(alloc: Global, tag: Tag, oid: &Oid, into: &mut Vec<u8>) -> Result<(), AllocError> {
+pub(crate) fn write_oid(alloc: Global, tag: Tag, oid: &Oid, into: &mut Vec<u8>) -> Result<(), AllocError>
+    ensures { OnOk result (into.new.items ≡ into.old.items ++ encoded false tag (oid_contents oid.now)) }
+{
     let mut contents = Vec::new(alloc);
     write_oid_contents(oid, &mut contents)?;
     write_value(false, tag, &contents, into)

@@ -13,6 +13,7 @@ use Rattle.term_values.specs.Tree.{TreeValue, TreeValues}
 use Rattle.term_values.specs.Tree.TreeValue.{Primitive, Constructed}
 use Rattle.term_values.specs.Tree.TreeValues.{Nothing, Then}
 use Rattle.term_model.specs.declared.name.Rdn.{Rdn}
+use Rattle.term_model.specs.declared.request.Asked.{Asked}
 use Rattle.term_model.specs.declared.request.Head.{Head}
 use Rattle.term_model.specs.declared.request.IdRef.{IdRef}
 use Rattle.term_model.specs.declared.request.IdRef.TheVariants.{Global}
@@ -66,11 +67,6 @@ get_of (Constructed tag (Then class (Then instance Nothing))) =
     then option_and_then (λ c. option_map (λ i. Get (record { class = c; base = i })) (instance_of instance)) (class_of class)
     else None
 get_of _ = None
-
--- a request with its invoke id
-pub record Asked : Type 0 where
-  pub id : ℤ
-  pub request : Request
 
 abbrev pub asked_by : Invoke → Option Asked
 asked_by invoke =

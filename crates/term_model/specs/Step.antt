@@ -14,7 +14,8 @@ use Rattle.term_model.specs.declared.entry.Why.{Why}
 use Rattle.term_model.specs.declared.entry.Why.TheVariants as why
 use Rattle.term_model.specs.AgentState.{association_of, operation_of, outstanding, left_to_take, is_live_state, is_finished_state, is_closed_state, is_waiting_state, is_ended_state, granted_moment}
 use Rattle.term_model.specs.Bind.{title_in, bind_answer, accepted, bad_bind}
-use Rattle.term_model.specs.GetRequest.{Asked, asked_in}
+use Rattle.term_model.specs.declared.request.Asked.{Asked}
+use Rattle.term_model.specs.GetRequest.{asked_in}
 use Rattle.term_model.specs.Operation.{Outcome, exec, operation_number, reply_frame}
 use Rattle.term_model.specs.RemoteOperation.{frame}
 

@@ -38,3 +38,10 @@ pub enum Request {
     /// m-Get of the base object alone, for all its attributes.
     Get { head: Head },
 }
+
+/// A request with its invoke id: X.229, section 9.
+#[derive(Drop)]
+pub struct Asked {
+    pub id: i32,
+    pub request: Request,
+}
