@@ -256,13 +256,13 @@ value_read xs first r h l e f g =
     record {
       small = rw g (number_below_sign (nat_le 128 first) xs h l sign_first some);
       negative = λ b.
-      let t = le-leb 128 first b in
-      let same : integer_of xs ≡ negsuc r = integer_of_negative xs some (omega arith) ∙ ap negsuc (ap (λ n. number (map (octet_turned n) xs)) (sym t) ∙ sym g) in
-      sym back ∙ ap integer_contents same;
+          let t = le-leb 128 first b in
+          let same : integer_of xs ≡ negsuc r = integer_of_negative xs some (omega arith) ∙ ap negsuc (ap (λ n. number (map (octet_turned n) xs)) (sym t) ∙ sym g) in
+          sym back ∙ ap integer_contents same;
       positive = λ b.
-      let t = lt-leb 128 first b in
-      let same : integer_of xs ≡ pos r = integer_of_positive xs some (omega arith) ∙ ap pos (ap number (sym (turned_not xs)) ∙ (ap (λ n. number (map (octet_turned n) xs)) (sym t) ∙ sym g)) in
-      sym back ∙ ap integer_contents same
+          let t = lt-leb 128 first b in
+          let same : integer_of xs ≡ pos r = integer_of_positive xs some (omega arith) ∙ ap pos (ap number (sym (turned_not xs)) ∙ (ap (λ n. number (map (octet_turned n) xs)) (sym t) ∙ sym g)) in
+          sym back ∙ ap integer_contents same;
     }
 
 minus_one : (r : ℕ) → negsuc 0 -ℤ pos r ≡ negsuc r

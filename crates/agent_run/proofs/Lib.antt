@@ -1,4 +1,6 @@
 pub mod Extending
+pub mod IdentifierSteps
 pub mod IntegerLaws
 pub mod ReadingSteps
+pub mod SubidentifierLaws
 pub mod WritingLaws

@@ -64,7 +64,7 @@ leads_more depth bytes at size trees tree l h e some fits = record {
       l.whole
       ∙ (ap (λ o. option_map (before trees) o) (filling_step depth (drop at bytes) tree (drop size (drop at bytes)) (omega (arith, length-drop at bytes)) e)
       ∙ (map_before_push trees tree (filling depth (drop size (drop at bytes)))
-      ∙ ap (λ ys. option_map (before (trees ++ tree ∷ [])) (filling depth ys)) (drop-drop size at bytes)))
+      ∙ ap (λ ys. option_map (before (trees ++ tree ∷ [])) (filling depth ys)) (drop-drop size at bytes)));
 }
 
 pub leads_nowhere : (depth : ℕ) (bytes : List ℕ) (at : ℕ) (trees : List TreeValue) → Leads depth bytes at trees → at < length bytes → tree_at depth (drop at bytes) ≡ None → filling depth bytes ≡ None

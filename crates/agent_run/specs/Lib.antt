@@ -2,4 +2,5 @@ pub mod Integers
 pub mod Parts
 pub mod Playing
 pub mod Reading
+pub mod Subidentifiers
 pub mod Writing

@@ -1,11 +1,13 @@
 //! Reads trees and contents octets, with tags of one octet and lengths in a definite form: X.690, sections 8.1 to 8.3 and 8.19.
 
-ghost use Rattle.std.specs.Prelude.{ℕ, ℤ, List, [], ◌∷◌, ◌++◌, ◌≡◌, ◌+◌, ◌*◌, ◌^◌, ◌<◌, ◌≤◌, None, Some, IfOk, IfSome, IfNone, IsTrue, option_map, nat_lt, if◌then◌else◌, length, drop, map, FitsSigned};
+ghost use Rattle.std.specs.Prelude.{ℕ, ℤ, List, [], ◌∷◌, ◌++◌, ◌≡◌, ◌+◌, ◌*◌, ◌^◌, ◌<◌, ◌≤◌, None, Some, IfOk, IfSome, IfNone, IsTrue, option_map, nat_lt, if◌then◌else◌, length, take, drop, map, slice_index, All, FitsSigned, true};
 ghost use Rattle.std.specs.Int.{w64};
 ghost use Rattle.term_values.specs.BerReading.{identifier_of, length_at, front_of, tree_at, filled};
 ghost use Rattle.term_values.specs.Ber.{most_depth};
 ghost use Rattle.term_values.specs.Octets.{number, integer_contents};
 ghost use Rattle.agent_run.specs.Reading.{front_at, IsWithin};
+ghost use Rattle.term_values.specs.Oid.{subidentifier, oid_contents, is_oid, begins};
+ghost use Rattle.agent_run.specs.Subidentifiers.{grouped, IsSize};
 ghost use Rattle.agent_run.specs.Integers.{are_least, octet_turned};
 
 use std::alloc::{AllocError, Global};
@@ -35,8 +37,12 @@ const SIGN_BIT: u8 = 128;
 /// The most octets of a subidentifier of 32 bits.
 const MOST_SUBIDENTIFIER_OCTETS: usize = 5;
 
-/// The first octet of a subidentifier is another one, since there are as few octets as hold the number.
-const EMPTY_GROUP: u8 = 128;
+/// The first bit of an octet of a subidentifier, which says that more octets follow. The first octet has a further bit, since
+/// there are as few octets as hold the number.
+const MORE_FOLLOW: u8 = 128;
+
+/// The greatest subidentifier that is read.
+const MOST_SUBIDENTIFIER: u64 = 0xFFFF_FFFF;
 
 /// The most arcs that an identifier has.
 const MOST_ARCS: usize = 64;
@@ -215,24 +221,59 @@ pub(crate) fn read_integer_contents(octets: &[u8]) -> Option<i64>
     Some(if negative { -1 - value } else { value })
 }
 
-/// The subidentifier at the front, and how many octets spell it; none where it is cut off, takes more octets than hold it or
-/// is above 32 bits. X.690, section 8.19.2.
-fn read_subidentifier(octets: &[u8]) -> Option<(u32, usize)> {
-    let mut value = 0u64;
+/// How many octets stand up to the first one that says that no more follow, or none where these are more than five or all
+/// say that more follow.
+fn subidentifier_size(octets: &[u8]) -> Option<usize>
+    ensures found { IfSome result (IsSize octets.now) }
+    ensures none { IfNone result
+        ((k : ℕ) → k < 5 → k < length octets.now → 128 ≤ slice_index octets.now k) }
+{
     for (i, octet) in octets.iter().enumerate() {
-        if i == MOST_SUBIDENTIFIER_OCTETS || (i == 0 && *octet == EMPTY_GROUP) {
+        if i == MOST_SUBIDENTIFIER_OCTETS {
             return None;
         }
-        value = value * 128 + u64::from(*octet % 128);
-        if *octet < 128 {
-            return u32::try_from(value).ok().map(|number| (number, i + 1));
+        if *octet < MORE_FOLLOW {
+            return Some(i + 1);
         }
     }
     None
 }
 
+/// The number that groups of seven bits stand for.
+fn read_groups(octets: &[u8]) -> u64
+    requires { length octets.now ≤ 5 }
+    ensures { result ≡ grouped octets.now }
+{
+    let mut value = 0u64;
+    for octet in octets {
+        value = value * 128 + u64::from(*octet % MORE_FOLLOW);
+    }
+    value
+}
+
+/// The subidentifier at the front, and how many octets spell it; none where it is cut off, takes more octets than hold it or
+/// is above 32 bits. X.690, section 8.19.2.
+fn read_subidentifier(octets: &[u8]) -> Option<(u32, usize)>
+    ensures found { IfSome result (λ f. (f.1 ≤ length octets.now) × (0 < f.1) × (take f.1 octets.now ≡ subidentifier f.0)) }
+    ensures none { IfNone result
+        ((n : ℕ) (rest : List ℕ) → n < 2 ^ 32 → octets.now ≡ subidentifier n ++ rest → ⊥) }
+{
+    let size = subidentifier_size(octets)?;
+    if octets[0] == MORE_FOLLOW {
+        return None;
+    }
+    let value = read_groups(&octets[..size]);
+    if value > MOST_SUBIDENTIFIER {
+        return None;
+    }
+    Some((value as u32, size))
+}
+
 /// The first two arcs, which one subidentifier holds. X.690, section 8.19.4.
-fn first_arcs(number: u32) -> (u32, u32) {
+fn first_arcs(number: u32) -> (u32, u32)
+    ensures arcs { result.0 * 40 + result.1 ≡ number }
+    ensures begun { begins result.0 result.1 ≡ true }
+{
     if number < 40 {
         (0, number)
     } else if number < 80 {
@@ -244,7 +285,11 @@ fn first_arcs(number: u32) -> (u32, u32) {
 
 /// The identifier whose contents octets these are, or none where they are those of no identifier of 2 to 64 arcs. The only
 /// error is want of memory. X.690, section 8.19.
-pub(crate) fn read_oid_contents(alloc: Global, octets: &[u8]) -> Result<Option<Oid>, AllocError> {
+pub(crate) fn read_oid_contents(alloc: Global, octets: &[u8]) -> Result<Option<Oid>, AllocError>
+    ensures found { IfOk result (λ found. IfSome found (λ oid. octets.now ≡ oid_contents oid)) }
+    ensures none { IfOk result (λ found. IfNone found
+        ((arcs : List ℕ) → IsTrue (is_oid arcs) → All (λ arc. arc < 2 ^ 32) arcs → octets.now ≡ oid_contents arcs → ⊥)) }
+{
     let (number, size) = match read_subidentifier(octets) {
         None => return Ok(None),
         Some(front) => front,
@@ -254,7 +299,7 @@ pub(crate) fn read_oid_contents(alloc: Global, octets: &[u8]) -> Result<Option<O
     let mut at = size;
     while at < octets.len() {
         match read_subidentifier(&octets[at..]) {
-            Some((arc, size)) if arcs.len() < MOST_ARCS => {
+            Some((arc, size)) if arcs.as_slice().len() < MOST_ARCS => {
                 arcs.push(arc)?;
                 at += size;
             }
@@ -290,7 +335,10 @@ mod tests {
         assert_eq!(rt; read_integer_contents(&[0x00, 0x80]), Some(128));
         assert_eq!(rt; read_integer_contents(&[0xFF, 0x7F]), Some(-129));
         assert_eq!(rt; read_integer_contents(&[0x80]), Some(-128));
-        assert_eq!(rt; read_integer_contents(&[0x80, 0, 0, 0, 0, 0, 0, 0]), Some(i64::MIN));
+        assert_eq!(rt;
+            read_integer_contents(&[0x80, 0, 0, 0, 0, 0, 0, 0]),
+            Some(i64::MIN)
+        );
         assert_eq!(rt; read_integer_contents(&[0xFF, 0x80]), None);
         assert_eq!(rt; read_integer_contents(&[0x00, 0x7F]), None);
         assert_eq!(rt; read_integer_contents(&[]), None);

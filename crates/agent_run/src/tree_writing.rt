@@ -49,7 +49,11 @@ pub(crate) fn write_subidentifier(number: u32, into: &mut Vec<u8>) -> Result<(),
 
 /// Appends the identifier octets of a tag: one for a number below 31, else the high form. X.690, section 8.1.2.
 #[tactic(auto, using(crate::proofs::Extending::extending), unfolding(term_values::specs::Der::identifier_octets))]
-pub(crate) fn write_identifier(constructed: bool, tag: Tag, into: &mut Vec<u8>) -> Result<(), AllocError>
+pub(crate) fn write_identifier(
+    constructed: bool,
+    tag: Tag,
+    into: &mut Vec<u8>,
+) -> Result<(), AllocError>
     ensures written { OnOk result (into.new.items ≡ into.old.items ++ identifier_octets constructed tag) }
     ensures begun { Extends into.old.items into.new.items }
 {
@@ -132,7 +136,11 @@ pub(crate) fn write_integer_contents(value: i64, into: &mut Vec<u8>) -> Result<(
     ensures begun { Extends into.old.items into.new.items }
 {
     let negative = value < 0;
-    let number = if negative { (-(value + 1)) as u64 } else { value as u64 };
+    let number = if negative {
+        (-(value + 1)) as u64
+    } else {
+        value as u64
+    };
     write_octets(signed_octets(number), number, negative, into)
 }
 
@@ -170,7 +178,12 @@ fn write_backwards(octets: &[u8], into: &mut Vec<u8>) -> Result<(), AllocError>
 }
 
 /// Appends the identifier and length octets of a value, the last one first.
-fn write_header_backwards(constructed: bool, tag: Tag, size: usize, into: &mut Vec<u8>) -> Result<(), AllocError>
+fn write_header_backwards(
+    constructed: bool,
+    tag: Tag,
+    size: usize,
+    into: &mut Vec<u8>,
+) -> Result<(), AllocError>
     ensures written { OnOk result
         (into.new.items ≡ into.old.items ++ reverse (identifier_octets constructed tag ++ length_octets size)) }
     ensures begun { Extends into.old.items into.new.items }
@@ -249,7 +262,10 @@ mod tests {
         write_integer_contents(-129, &mut into)?;
         write_integer_contents(0, &mut into)?;
         write_integer_contents(-1, &mut into)?;
-        assert_eq!(rt; into.as_slice(), [0x00, 0x80, 0xFF, 0x7F, 0x00, 0xFF].as_slice());
+        assert_eq!(rt;
+            into.as_slice(),
+            [0x00, 0x80, 0xFF, 0x7F, 0x00, 0xFF].as_slice()
+        );
         into.clear();
         write_integer_contents(i64::MIN, &mut into)?;
         assert_eq!(rt; into.as_slice(), [0x80, 0, 0, 0, 0, 0, 0, 0].as_slice());
@@ -258,8 +274,22 @@ mod tests {
         write_length(127, &mut into)?;
         assert_eq!(rt; into.as_slice(), [0x81, 0xC9, 0x7F].as_slice());
         into.clear();
-        write_identifier(true, Tag { class: 2, number: 3 }, &mut into)?;
-        write_identifier(false, Tag { class: 1, number: 201 }, &mut into)?;
+        write_identifier(
+            true,
+            Tag {
+                class: 2,
+                number: 3,
+            },
+            &mut into,
+        )?;
+        write_identifier(
+            false,
+            Tag {
+                class: 1,
+                number: 201,
+            },
+            &mut into,
+        )?;
         assert_eq!(rt; into.as_slice(), [0xA3, 0x5F, 0x81, 0x49].as_slice());
         into.clear();
         let arcs = vec![in rt.alloc(); 2, 999, 3]?;
@@ -271,12 +301,16 @@ mod tests {
 
     #[test]
     fn what_was_read_is_written_with_the_least_lengths(rt: HostRuntime) -> Result<(), Fail> {
-        let long = [0x30u8, 0x82, 0x00, 0x09, 0x02, 0x02, 0x00, 0x80, 0x30, 0x81, 0x02, 0x05, 0x00];
+        let long = [
+            0x30u8, 0x82, 0x00, 0x09, 0x02, 0x02, 0x00, 0x80, 0x30, 0x81, 0x02, 0x05, 0x00,
+        ];
         let (tree, size) = read_tree(rt.alloc(), &long)?.ok_or("long")?;
         assert_eq!(rt; size, 13);
         let mut into = vec![in rt.alloc(); 0xFFu8]?;
         write_tree(&tree, &mut into)?;
-        let short = [0xFFu8, 0x30, 0x08, 0x02, 0x02, 0x00, 0x80, 0x30, 0x02, 0x05, 0x00];
+        let short = [
+            0xFFu8, 0x30, 0x08, 0x02, 0x02, 0x00, 0x80, 0x30, 0x02, 0x05, 0x00,
+        ];
         assert_eq!(rt; into.as_slice(), short.as_slice());
         Ok(())
     }

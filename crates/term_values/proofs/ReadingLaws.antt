@@ -42,7 +42,7 @@ length_at_gives (first ∷ more) n rest e =
     record {
       size = first ∷ take count more;
       is_size = inr (omega arith, omega arith, omega arith, sym n_is, omega arith);
-      whole = ap (λ xs. first ∷ xs) (sym (take-append-drop count more) ∙ ap (λ ys. take count more ++ ys) rest_is)
+      whole = ap (λ xs. first ∷ xs) (sym (take-append-drop count more) ∙ ap (λ ys. take count more ++ ys) rest_is);
     })
     (cases_Bool (nat_lt first 128))
 
@@ -65,7 +65,7 @@ front_here octet octets identifier size front named sized e =
       size = l.size;
       named = named;
       is_size = subst (λ n. IsLength l.size n) long l.is_size;
-      whole = ap (λ xs. octet ∷ xs) (l.whole ∙ ap (λ ys. l.size ++ ys) (sym (take-append-drop size.0 size.1)))
+      whole = ap (λ xs. octet ∷ xs) (l.whole ∙ ap (λ ys. l.size ++ ys) (sym (take-append-drop size.0 size.1)));
     } in
     subst (λ f. FrontSplit (octet ∷ octets) f) q.1 split
 
@@ -112,16 +112,24 @@ pub record TreeRead (depth : ℕ) (bytes : List ℕ) (tree : TreeValue) (rest : 
 pub tree_at_gives : (depth : ℕ) (bytes : List ℕ) (tree : TreeValue) (rest : List ℕ) → tree_at depth bytes ≡ Some (tree, rest) → TreeRead depth bytes tree rest
 tree_at_gives zero bytes tree rest e =
     option_and_then_some _ (front_of bytes) (tree, rest) e (λ front was e2.
-    record { front = front; was = was; split = ⊎_elim
-    (λ (t : front.constructed ≡ true). absurd (none-some _ (rw t at e2)))
-    (λ (f : front.constructed ≡ false). split_primitive zero front tree rest f (rw f at e2))
-    (cases_Bool front.constructed) })
+    record {
+      front = front;
+      was = was;
+      split = ⊎_elim
+          (λ (t : front.constructed ≡ true). absurd (none-some _ (rw t at e2)))
+          (λ (f : front.constructed ≡ false). split_primitive zero front tree rest f (rw f at e2))
+          (cases_Bool front.constructed);
+    })
 tree_at_gives (suc depth) bytes tree rest e =
     option_and_then_some _ (front_of bytes) (tree, rest) e (λ front was e2.
-    record { front = front; was = was; split = ⊎_elim
-    (λ (t : front.constructed ≡ true). split_constructed depth front tree rest t (rw t at e2))
-    (λ (f : front.constructed ≡ false). split_primitive (suc depth) front tree rest f (rw f at e2))
-    (cases_Bool front.constructed) })
+    record {
+      front = front;
+      was = was;
+      split = ⊎_elim
+          (λ (t : front.constructed ≡ true). split_constructed depth front tree rest t (rw t at e2))
+          (λ (f : front.constructed ≡ false). split_primitive (suc depth) front tree rest f (rw f at e2))
+          (cases_Bool front.constructed);
+    })
 
 pub tree_at_shrinks : (depth : ℕ) → Shrinks (tree_at depth)
 tree_at_shrinks depth xs tree rest e =

@@ -11,8 +11,8 @@ returns-then-octets-gt-MOST_INTEGER_OCTETS-clause-none c = λ value fits e.
     let least = contents_least value fits in
     let short : length c.args.octets.now ≤ 8 = rw e least.1 in
     elim c.then-octets-gt-MOST_INTEGER_OCTETS.branch [
-      then-octets-gt-MOST_INTEGER_OCTETS-via-then-octets-gt-MOST_INTEGER_OCTETS w ↦ absurd (let long = w.if-octets-gt-MOST_INTEGER_OCTETS.true in omega arith)
-    | then-octets-gt-MOST_INTEGER_OCTETS-via-else-octets-gt-MOST_INTEGER_OCTETS+then-not-are_least w ↦ false≢true (sym w.if-not-are_least.true ∙ (w.are_least.ensures ∙ (ap are_least e ∙ least.0)))
+      | then-octets-gt-MOST_INTEGER_OCTETS-via-then-octets-gt-MOST_INTEGER_OCTETS w ↦ absurd (let long = w.if-octets-gt-MOST_INTEGER_OCTETS.true in omega arith)
+      | then-octets-gt-MOST_INTEGER_OCTETS-via-else-octets-gt-MOST_INTEGER_OCTETS+then-not-are_least w ↦ false≢true (sym w.if-not-are_least.true ∙ (w.are_least.ensures ∙ (ap are_least e ∙ least.0)))
     ]
 
 value_of : (c : goal.After-read_turned-value) → IsValue c.args.octets.now c.in_ok-negative.field-0.now c.read_turned-value.result
