@@ -89,15 +89,22 @@ fn sent_parameter(error: &CmisError) -> &[u8]
     }
 }
 
-/// The frame of an Error: the invoke id, the error and its parameter.
-fn error_frame(alloc: Global, invoke: i64, error: &CmisError) -> Result<Vec<u8>, AllocError>
-    ensures { IfOk result (λ octets. octets.items ≡ frame (error_apdu invoke error.now.code (sent_parameter error.now.parameter))) }
+/// The frame of an Error: the invoke id, the error's number and the parameter that is sent.
+fn coded_error_frame(alloc: Global, invoke: i64, code: i64, parameter: &[u8]) -> Result<Vec<u8>, AllocError>
+    ensures { IfOk result (λ octets. octets.items ≡ frame (error_apdu invoke code parameter.now)) }
 {
     let mut contents = Vec::new(alloc);
     write_integer(alloc, invoke, &mut contents)?;
-    write_integer(alloc, error.code, &mut contents)?;
-    contents.extend_from_slice(sent_parameter(error))?;
+    write_integer(alloc, code, &mut contents)?;
+    contents.extend_from_slice(parameter)?;
     framed(alloc, ERROR, &contents)
+}
+
+/// The frame of an Error with its parameter.
+fn error_frame(alloc: Global, invoke: i64, error: &CmisError) -> Result<Vec<u8>, AllocError>
+    ensures { IfOk result (λ octets. octets.items ≡ frame (error_apdu invoke error.now.code (sent_parameter error.now.parameter))) }
+{
+    coded_error_frame(alloc, invoke, error.code, sent_parameter(error))
 }
 
 /// The frame of a reply to an invoke of an operation.

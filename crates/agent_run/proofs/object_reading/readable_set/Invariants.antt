@@ -1,0 +1,8 @@
+use Rattle.std.proofs.Common.{◌≡◌, take}
+use Rattle.std.specs.List.{map, filter}
+use Rattle.term_model.specs.declared.object.Attribute.{Attribute}
+use Rattle.term_model.specs.ObjectOperation.{attribute_octets, is_readable}
+use Rattle.agent_run.proofs.object_reading.readable_set.Given as goal
+
+abbrev pub invariant-loop-attribute : goal.invariant-loop-attribute
+invariant-loop-attribute l = l.members.items ≡ map attribute_octets (filter (λ (attribute : Attribute). is_readable l.schema l.object.class attribute.id) (take l.attribute-index l.attribute-items))
