@@ -1,6 +1,7 @@
 pub mod Extending
 pub mod IdentifierSteps
 pub mod IntegerLaws
+pub mod OutLines
 pub mod ReadingSteps
 pub mod SubidentifierLaws
 pub mod WritingLaws

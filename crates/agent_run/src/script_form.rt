@@ -1,7 +1,9 @@
 //! The first form of a script: a line `open HEX` with a written BIND, then lines `send 1 HEX`, each with a written invoke of
 //! m-Get whose argument has the document's class in globalForm and a localDistinguishedName.
 
-use crate::apdu_reading::{M_GET, asked_in, title_in};
+ghost use Rattle.std.specs.Prelude.{◌<◌, IfSome};
+
+use crate::apdu_reading::{asked_in, title_in};
 use crate::apdu_writing::{write_bind, write_get};
 use crate::not_read::NotRead;
 use crate::playing::Script;
@@ -22,7 +24,9 @@ const MOST_OCTETS: usize = 1_048_576;
 const LINE_FEED: u8 = 10;
 
 /// The value of a hexadecimal digit in capitals.
-fn digit_of(byte: u8) -> Option<u8> {
+fn digit_of(byte: u8) -> Option<u8>
+    ensures { IfSome result (λ digit. digit < 16) }
+{
     match byte {
         b'0'..=b'9' => Some(byte - b'0'),
         b'A'..=b'F' => Some(byte - b'A' + 10),
