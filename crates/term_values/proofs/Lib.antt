@@ -1,3 +1,4 @@
 pub mod NumberLaws
 pub mod ReadingLaws
+pub mod SpellingLaws
 mod StandardFacts
