@@ -1,4 +1,5 @@
 pub mod NumberLaws
 pub mod ReadingLaws
-pub mod SpellingLaws
+pub mod Spelled
+pub mod Statements
 mod StandardFacts

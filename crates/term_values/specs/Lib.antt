@@ -3,6 +3,8 @@ pub mod BerReading
 pub mod Der
 pub mod Octets
 pub mod Oid
+pub mod SpellingLaws
 pub mod Tree
 pub mod TreeDepth
 pub mod TreeView
+pub mod Writable

@@ -11,6 +11,7 @@ use Rattle.term_values.specs.BerReading.{Front, identifier_of, length_at, conten
 use Rattle.term_values.specs.Tree.{TreeValue, TreeValues}
 use Rattle.term_values.specs.Tree.TreeValue.{Primitive, Constructed}
 use Rattle.term_values.specs.Tree.TreeValues.{Nothing, Then}
+use Rattle.term_values.specs.SpellingLaws.{AreOctets, Spelling}
 use Rattle.term_values.proofs.ReadingLaws.{FrontSplit, front_of_gives, tree_at_gives, filled_enough, tree_at_shrinks}
 
 -- an identifier octet is read as the tag that it spells
@@ -116,16 +117,6 @@ mutual
       let l = length-append s.0 s.1 in
       filled_first (tree_at depth) n bytes s.1 x xs (omega arith) (ap (tree_at depth) s.2 ∙ spelling_read depth s.0 s.1 x s.3) (spellings_read depth n s.1 xs s.4 (omega arith))
 
--- what was read from the front, as a spelling
-pub record Spelling (depth : ℕ) (bytes : List ℕ) (tree : TreeValue) (rest : List ℕ) : Type 0 where
-  pub front : List ℕ
-  pub whole : bytes ≡ front ++ rest
-  pub spells : Spells depth front tree
-
--- a list of octets
-abbrev pub AreOctets : List ℕ → Type 0
-AreOctets bytes = All (λ octet. octet < 256) bytes
-
 octets_back : (xs ys zs : List ℕ) → xs ≡ ys ++ zs → AreOctets xs → AreOctets zs
 octets_back xs ys zs e h = λ k d i.
     let l = length-append ys zs in
@@ -176,10 +167,10 @@ front_read bytes front h e =
         size = s.size;
         is_identifier = identifier_given front.constructed front.tag s.identifier (fit 0 0 (omega arith)) s.named;
         is_size = s.is_size;
-        whole = refl
+        whole = refl;
       };
       whole = whole;
-      fit = octets_back octets (s.identifier ∷ s.size) front.contents refl fit
+      fit = octets_back octets (s.identifier ∷ s.size) front.contents refl fit;
     }
 
 -- what is read spells
@@ -189,20 +180,20 @@ reading_spells zero bytes tree rest h e =
     let f = front_read bytes r.front h r.was in
     let whole : bytes ≡ f.octets ++ rest = f.whole ∙ ap (λ ys. f.octets ++ ys) r.split.left in
     elim r.split.shape [
-      inl s ↦ record { front = f.octets; whole = whole; spells = subst (λ t. Spells zero f.octets t) s.1 (subst (λ b. Parts b r.front.tag r.front.contents f.octets) s.0 f.parts) }
-    | inr s ↦ absurd (let e = s.2 in omega arith)
+      | inl s ↦ record { front = f.octets; whole = whole; spells = subst (λ t. Spells zero f.octets t) s.1 (subst (λ b. Parts b r.front.tag r.front.contents f.octets) s.0 f.parts) }
+      | inr s ↦ absurd (let e = s.2 in omega arith)
     ]
 reading_spells (suc depth) bytes tree rest h e =
     let r = tree_at_gives (suc depth) bytes tree rest e in
     let f = front_read bytes r.front h r.was in
     let whole : bytes ≡ f.octets ++ rest = f.whole ∙ ap (λ ys. f.octets ++ ys) r.split.left in
     elim r.split.shape [
-      inl s ↦ record { front = f.octets; whole = whole; spells = subst (λ t. Spells (suc depth) f.octets t) s.1 (subst (λ b. Parts b r.front.tag r.front.contents f.octets) s.0 f.parts) }
-    | inr s ↦
-      let same : s.1 ≡ depth = (let e = s.2 in omega arith) in
-      let inside : filled (tree_at depth) (length r.front.contents) r.front.contents ≡ Some s.3 = subst (λ d. filled (tree_at d) (length r.front.contents) r.front.contents ≡ Some s.3) same s.4 in
-      let all = filled_spells depth (reading_spells depth) (length r.front.contents) r.front.contents s.3 f.fit inside in
-      let parts = subst (λ b. Parts b r.front.tag r.front.contents f.octets) s.0 f.parts in
-      let spells : Spells (suc depth) f.octets (Constructed r.front.tag s.3) = (r.front.contents, parts, all) in
-      record { front = f.octets; whole = whole; spells = subst (λ t. Spells (suc depth) f.octets t) s.5 spells }
+      | inl s ↦ record { front = f.octets; whole = whole; spells = subst (λ t. Spells (suc depth) f.octets t) s.1 (subst (λ b. Parts b r.front.tag r.front.contents f.octets) s.0 f.parts) }
+      | inr s ↦
+          let same : s.1 ≡ depth = (let e = s.2 in omega arith) in
+          let inside : filled (tree_at depth) (length r.front.contents) r.front.contents ≡ Some s.3 = subst (λ d. filled (tree_at d) (length r.front.contents) r.front.contents ≡ Some s.3) same s.4 in
+          let all = filled_spells depth (reading_spells depth) (length r.front.contents) r.front.contents s.3 f.fit inside in
+          let parts = subst (λ b. Parts b r.front.tag r.front.contents f.octets) s.0 f.parts in
+          let spells : Spells (suc depth) f.octets (Constructed r.front.tag s.3) = (r.front.contents, parts, all) in
+          record { front = f.octets; whole = whole; spells = subst (λ t. Spells (suc depth) f.octets t) s.5 spells }
     ]
