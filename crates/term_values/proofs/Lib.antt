@@ -1,3 +1,5 @@
 pub mod NumberLaws
 pub mod ReadingLaws
+pub mod Spelled
+pub mod Statements
 mod StandardFacts

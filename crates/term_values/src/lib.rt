@@ -2,6 +2,7 @@
 #![tactic(auto)]
 
 pub mod bytes;
+pub mod laws;
 pub mod oid;
 pub mod syntax;
 pub mod tag;

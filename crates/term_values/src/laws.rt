@@ -1,0 +1,28 @@
+//! Laws of the spelling, the reading and the writing of trees, as contracts: X.690, sections 8.1.2 to 8.1.4, 8.3 and 10.1.
+
+ghost use Rattle.term_values.specs.SpellingLaws.{OneTree, ReadingSpells, SpellingIsRead, WholeReading, WrittenSpells, WrittenIsRead, NumberOfOctets, OctetsOfNumber};
+
+/// No spelling of a tree begins another one, and each spells one tree.
+pub fn one_tree()
+    ensures { OneTree }
+{}
+
+/// What is read from the front of octets is what they spell, and octets are read as a tree exactly where they spell it.
+pub fn reading_is_spelling()
+    ensures read { ReadingSpells }
+    ensures spelt { SpellingIsRead }
+    ensures whole { WholeReading }
+{}
+
+/// What is written for a tree spells it, and is read back whatever follows it. The tree has tags of one octet, lengths of 32
+/// bits, and no more constructed values inside one another than are read.
+pub fn written_is_spelling()
+    ensures spells { WrittenSpells }
+    ensures read_back { WrittenIsRead }
+{}
+
+/// A number of 64 bits is that of its octets, and octets are those of their number.
+pub fn number_of_octets()
+    ensures number { NumberOfOctets }
+    ensures octets { OctetsOfNumber }
+{}
