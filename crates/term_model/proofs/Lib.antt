@@ -1,1 +1,2 @@
+pub mod RisingLaws
 mod StandardFacts
