@@ -20,3 +20,6 @@ mod value_writing;
 mod words;
 
 pub use running::agent;
+
+#[cfg(test)]
+mod tests;
