@@ -267,8 +267,6 @@ fn a_get_with_any_id_of_32_bits_and_any_name_is_answered(rt: HostRuntime) -> Res
 #[test]
 fn words_and_files_that_serve_for_nothing_end_with_their_line(rt: HostRuntime) -> Result<(), Fail> {
     let alloc = rt.alloc();
-    let long = vec![in alloc; b' '; 4_194_305]?;
-    let longer = vec![in alloc; b' '; 16_777_217]?;
     let cases = [
         ("", NOT_BUILT, "not built command\n"),
         ("run", NOT_BUILT, "not built command\n"),
@@ -280,10 +278,6 @@ fn words_and_files_that_serve_for_nothing_end_with_their_line(rt: HostRuntime) -
         ("--help", NOT_BUILT, "not built command\n"),
         ("run nowhere document", FILE_FAULT, "file nowhere\n"),
         ("run script nowhere", FILE_FAULT, "file nowhere\n"),
-        ("run longer document", FILE_TOO_LARGE, "too large longer\n"),
-        ("run script long", FILE_TOO_LARGE, "too large long\n"),
-        ("run nowhere long", FILE_FAULT, "file nowhere\n"),
-        ("run long document", NOT_BUILT, "not built script\n"),
         ("run document script", NOT_BUILT, "not built document\n"),
         ("run script open", BAD_DOCUMENT, "bad document 1 2 OpenString\n"),
         ("run script byte", BAD_DOCUMENT, "bad document 1 1 BadByte\n"),
@@ -294,8 +288,6 @@ fn words_and_files_that_serve_for_nothing_end_with_their_line(rt: HostRuntime) -
         let mut files = MemFiles::new(alloc, Vec::new(alloc));
         files.add(alloc, "script", GET_ROOT.as_bytes())?;
         files.add(alloc, "document", ELEMENT.as_bytes())?;
-        files.add(alloc, "long", &long)?;
-        files.add(alloc, "longer", &longer)?;
         files.add(alloc, "open", b"Net\n\"DEFINITIONS")?;
         files.add(alloc, "byte", b"Net \x01")?;
         files.add(alloc, "number", b"Net\n\n18446744073709551616")?;
@@ -305,6 +297,25 @@ fn words_and_files_that_serve_for_nothing_end_with_their_line(rt: HostRuntime) -
         let status = agent(&rt, &words, &mut files, &mut out);
         assert_eq!(rt; status, wanted, "{line}");
         assert_eq!(rt; out.written(), text.as_bytes(), "{line}");
+    }
+    Ok(())
+}
+
+#[test]
+fn a_file_past_its_limit_ends_the_run_with_its_name(rt: HostRuntime) -> Result<(), Fail> {
+    let alloc = rt.alloc();
+    let cases = [
+        ("script", 16_777_217usize, "document", 1, "too large script\n"),
+        ("script", 1, "document", 4_194_305, "too large document\n"),
+    ];
+    for (script, script_len, document, document_len, text) in cases {
+        let mut files = MemFiles::new(alloc, Vec::new(alloc));
+        files.add(alloc, script, &vec![in alloc; b' '; script_len]?)?;
+        files.add(alloc, document, &vec![in alloc; b' '; document_len]?)?;
+        let mut out = MemSink::new(alloc, ROOM, Vec::new(alloc))?;
+        let words = words_of(&rt, "run script document")?;
+        assert_eq!(rt; agent(&rt, &words, &mut files, &mut out), FILE_TOO_LARGE, "{text}");
+        assert_eq!(rt; out.written(), text.as_bytes());
     }
     Ok(())
 }
