@@ -2,5 +2,6 @@ pub mod Extending
 pub mod IdentifierSteps
 pub mod IntegerLaws
 pub mod ReadingSteps
+mod StandardFacts
 pub mod SubidentifierLaws
 pub mod WritingLaws
