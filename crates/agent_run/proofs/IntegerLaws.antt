@@ -10,7 +10,7 @@ use Rattle.std.proofs.lemmas.Int.{to_z-of_z}
 use Rattle.std.proofs.Math.Nat.{pow-le-pow_right, pow-suc}
 use Rattle.term_values.specs.Octets.{number, octets, count_signed, integer_contents}
 use Rattle.term_values.proofs.NumberLaws.{number-below, length-octets, number-take_more, octets-number, tail_of}
-use Rattle.agent_run.specs.Integers.{are_least, octet_turned, integer_of}
+use Rattle.agent_run.specs.Integers.{are_least, octet_turned, signed_number}
 
 -- the first nine bits do not show that an octet can be left out, for a value that is not negative
 record IsLeast (xs : List ℕ) : Type 0 where
@@ -169,7 +169,7 @@ least_negative (a ∷ b ∷ others) h l e p =
     record { some = omega arith; few = few; positive = omega arith; least = λ _. least_from_turned a b (h 0 0 (omega arith)) (h 1 0 (omega arith)) e p }
 
 -- the value of least octets has those contents octets
-pub contents_of_value : (xs : List ℕ) → All (λ x. x < 256) xs → length xs ≤ 8 → are_least xs ≡ true → integer_contents (integer_of xs) ≡ xs
+pub contents_of_value : (xs : List ℕ) → All (λ x. x < 256) xs → length xs ≤ 8 → are_least xs ≡ true → integer_contents (signed_number xs) ≡ xs
 unfolding integer_contents
 contents_of_value [] h l e = absurd (false≢true e)
 contents_of_value (a ∷ others) h l e =
@@ -222,11 +222,11 @@ number_below_sign negative (a ∷ others) h l p q =
 pub octets_fit : (xs : List ℕ) → ((i : ℕ) → Fits w8 (get_or xs i 0)) → All (λ x. x < 256) xs
 octets_fit xs f = λ k d h. let e = f k in rw (get_or_default xs k d 0 h) (omega arith)
 
-integer_of_negative : (xs : List ℕ) → 0 < length xs → 128 ≤ get_or xs 0 0 → integer_of xs ≡ negsuc (number (map (octet_turned true) xs))
+integer_of_negative : (xs : List ℕ) → 0 < length xs → 128 ≤ get_or xs 0 0 → signed_number xs ≡ negsuc (number (map (octet_turned true) xs))
 integer_of_negative [] h l = absurd (omega arith)
 integer_of_negative (a ∷ others) h l = rw (le-ltb a 128 l) refl
 
-integer_of_positive : (xs : List ℕ) → 0 < length xs → get_or xs 0 0 < 128 → integer_of xs ≡ pos (number xs)
+integer_of_positive : (xs : List ℕ) → 0 < length xs → get_or xs 0 0 < 128 → signed_number xs ≡ pos (number xs)
 integer_of_positive [] h l = absurd (omega arith)
 integer_of_positive (a ∷ others) h l = rw (lt-ltb a 128 l) refl
 
@@ -246,6 +246,8 @@ pub record IsValue (xs : List ℕ) (first r : ℕ) : Type 0 where
   pub small : r < 9223372036854775808
   pub negative : 128 ≤ first → xs ≡ integer_contents (negsuc r)
   pub positive : first < 128 → xs ≡ integer_contents (pos r)
+  pub below : 128 ≤ first → signed_number xs ≡ negsuc r
+  pub above : first < 128 → signed_number xs ≡ pos r
 
 pub value_read : (xs : List ℕ) (first r : ℕ) → All (λ x. x < 256) xs → length xs ≤ 8 → are_least xs ≡ true → Some first ≡ slice_get xs 0 → r ≡ number (map (octet_turned (nat_le 128 first)) xs) → IsValue xs first r
 value_read xs first r h l e f g =
@@ -253,16 +255,18 @@ value_read xs first r h l e f g =
     let head : get_or xs 0 0 ≡ first = get_or_from_slice_get xs 0 first 0 (sym f) in
     let sign_first : octet_turned (nat_le 128 first) (get_or xs 0 0) < 128 = sign_turned first (get_or xs 0 0) head (h 0 0 some) in
     let back = contents_of_value xs h l e in
+    let below_zero : 128 ≤ first → signed_number xs ≡ negsuc r = λ b.
+        let t = le-leb 128 first b in
+        integer_of_negative xs some (omega arith) ∙ ap negsuc (ap (λ n. number (map (octet_turned n) xs)) (sym t) ∙ sym g) in
+    let not_below : first < 128 → signed_number xs ≡ pos r = λ b.
+        let t = lt-leb 128 first b in
+        integer_of_positive xs some (omega arith) ∙ ap pos (ap number (sym (turned_not xs)) ∙ (ap (λ n. number (map (octet_turned n) xs)) (sym t) ∙ sym g)) in
     record {
       small = rw g (number_below_sign (nat_le 128 first) xs h l sign_first some);
-      negative = λ b.
-          let t = le-leb 128 first b in
-          let same : integer_of xs ≡ negsuc r = integer_of_negative xs some (omega arith) ∙ ap negsuc (ap (λ n. number (map (octet_turned n) xs)) (sym t) ∙ sym g) in
-          sym back ∙ ap integer_contents same;
-      positive = λ b.
-          let t = lt-leb 128 first b in
-          let same : integer_of xs ≡ pos r = integer_of_positive xs some (omega arith) ∙ ap pos (ap number (sym (turned_not xs)) ∙ (ap (λ n. number (map (octet_turned n) xs)) (sym t) ∙ sym g)) in
-          sym back ∙ ap integer_contents same;
+      negative = λ b. sym back ∙ ap integer_contents (below_zero b);
+      positive = λ b. sym back ∙ ap integer_contents (not_below b);
+      below = below_zero;
+      above = not_below;
     }
 
 minus_one : (r : ℕ) → negsuc 0 -ℤ pos r ≡ negsuc r

@@ -1,7 +1,9 @@
 pub mod Extending
 pub mod IdentifierSteps
 pub mod IntegerLaws
+pub mod IntegerReading
 pub mod OutLines
 pub mod ReadingSteps
+mod StandardFacts
 pub mod SubidentifierLaws
 pub mod WritingLaws

@@ -1,22 +1,29 @@
-//! Reads trees and contents octets, with tags of one octet and lengths in a definite form: X.690, sections 8.1 to 8.3 and 8.19.
+//! Reads trees and contents octets, with tags of one octet and definite lengths: X.690, sections 8.1, 8.3 and 8.19.
 
 ghost use Rattle.std.specs.Prelude.{ℕ, ℤ, List, [], ◌∷◌, ◌++◌, ◌≡◌, ◌+◌, ◌*◌, ◌^◌, ◌<◌, ◌≤◌, None, Some, IfOk, IfSome, IfNone, IsTrue, option_map, nat_lt, if◌then◌else◌, length, take, drop, map, slice_index, All, FitsSigned, true};
 ghost use Rattle.std.specs.Int.{w64};
 ghost use Rattle.term_values.specs.BerReading.{identifier_of, length_at, front_of, tree_at, filled};
 ghost use Rattle.term_values.specs.Ber.{most_depth};
-ghost use Rattle.term_values.specs.Octets.{number, integer_contents};
+ghost use Rattle.term_values.specs.Octets.{number, integer_contents, integer_in};
 ghost use Rattle.agent_run.specs.Reading.{front_at, IsWithin};
 ghost use Rattle.term_values.specs.Oid.{subidentifier, oid_contents, is_oid, begins};
 ghost use Rattle.agent_run.specs.Subidentifiers.{grouped, IsSize};
 ghost use Rattle.agent_run.specs.Integers.{are_least, octet_turned};
 
 use std::alloc::{AllocError, Global};
+use term_values::oid::{MOST_ARCS, SECOND_ARCS};
 use term_values::{Bytes, Oid, Tag, Tree, Trees};
 
 /// The most constructed values inside one another that are read, the outermost counted.
 const MOST_DEPTH: u32 = 32;
 
-/// A number of this much or more in an identifier octet says that the tag goes on in further octets.
+/// The class stands above this bit of an identifier octet.
+const CLASS_UNIT: u8 = 64;
+
+/// The bit of an identifier octet that says that the value is constructed; the number stands below it.
+const CONSTRUCTED: u8 = 32;
+
+/// The number in an identifier octet which says that the tag goes on in further octets.
 const HIGH_NUMBER: u8 = 31;
 
 /// A length octet below this number is the length. Another one is this number and the number of length octets behind it.
@@ -44,9 +51,6 @@ const MORE_FOLLOW: u8 = 128;
 /// The greatest subidentifier that is read.
 const MOST_SUBIDENTIFIER: u64 = 0xFFFF_FFFF;
 
-/// The most arcs that an identifier has.
-const MOST_ARCS: usize = 64;
-
 /// What stands before the contents octets of a value, and where these are.
 #[derive(Clone, Copy)]
 pub(crate) struct Header {
@@ -61,13 +65,13 @@ pub(crate) struct Header {
 fn read_identifier(octet: u8) -> Option<(bool, Tag)>
     ensures { result ≡ identifier_of octet }
 {
-    let class = octet / 64;
-    let number = octet % 32;
+    let class = octet / CLASS_UNIT;
+    let number = octet % CONSTRUCTED;
     if number == HIGH_NUMBER || class + number == 0 {
         return None;
     }
     Some((
-        octet / 32 % 2 == 1,
+        octet / CONSTRUCTED % 2 == 1,
         Tag {
             class,
             number: u32::from(number),
@@ -171,8 +175,8 @@ fn read_inside(alloc: Global, contents: &[u8], depth: u32) -> Result<Option<Tree
 }
 
 /// The tree that the front of the bytes spells, and how many bytes spell it; none where no front spells a tree
-/// with at most 32 constructed values inside one another. Each octet is looked at once for each value that it is inside of,
-/// and contents octets are copied once. The only error is want of memory. X.690, sections 8.1.2 to 8.1.4.
+/// with at most 32 constructed values inside one another. Each octet is looked at once, and contents octets are copied once.
+/// The only error is want of memory. X.690, sections 8.1.2 to 8.1.4.
 pub(crate) fn read_tree(alloc: Global, bytes: &[u8]) -> Result<Option<(Tree, usize)>, AllocError>
     ensures read { IfOk result (λ found. tree_at most_depth bytes.now ≡ option_map (λ f. (f.0, drop f.1 bytes.now)) found) }
     ensures within { IfOk result (λ found. IfSome found (λ f. (0 < f.1) × (f.1 ≤ length bytes.now))) }
@@ -212,6 +216,7 @@ pub(crate) fn read_integer_contents(octets: &[u8]) -> Option<i64>
     ensures found { IfSome result (λ value. octets.now ≡ integer_contents value) }
     ensures none { IfNone result
         ((value : ℤ) → FitsSigned w64 value → octets.now ≡ integer_contents value → ⊥) }
+    ensures value { result ≡ integer_in octets.now }
 {
     if octets.len() > MOST_INTEGER_OCTETS || !are_least(octets) {
         return None;
@@ -274,12 +279,12 @@ fn first_arcs(number: u32) -> (u32, u32)
     ensures arcs { result.0 * 40 + result.1 ≡ number }
     ensures begun { begins result.0 result.1 ≡ true }
 {
-    if number < 40 {
+    if number < SECOND_ARCS {
         (0, number)
-    } else if number < 80 {
-        (1, number - 40)
+    } else if number < 2 * SECOND_ARCS {
+        (1, number - SECOND_ARCS)
     } else {
-        (2, number - 80)
+        (2, number - 2 * SECOND_ARCS)
     }
 }
 

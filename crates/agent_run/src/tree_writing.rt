@@ -8,10 +8,14 @@ ghost use Rattle.term_values.specs.Oid.{subidentifier, oid_contents};
 ghost use Rattle.agent_run.specs.Writing.{group, last_octets, Extends};
 
 use std::alloc::AllocError;
+use term_values::oid::SECOND_ARCS;
 use term_values::{Body, Oid, Tag, Tree, Trees};
 
-/// The bits of the class in an identifier octet.
+/// How many classes there are, so that two bits hold one.
 const CLASSES: u8 = 4;
+
+/// The class stands above this bit of an identifier octet.
+const CLASS_UNIT: u8 = 64;
 
 /// The bit of an identifier octet that says that the value is constructed.
 const CONSTRUCTED: u8 = 32;
@@ -58,7 +62,7 @@ pub(crate) fn write_identifier(
     ensures begun { Extends into.old.items into.new.items }
 {
     let form = if constructed { CONSTRUCTED } else { 0 };
-    let leading = tag.class % CLASSES * 64 + form;
+    let leading = tag.class % CLASSES * CLASS_UNIT + form;
     if tag.number < HIGH_NUMBER {
         into.push(leading + tag.number as u8)?;
         return Ok(());
@@ -150,7 +154,7 @@ pub(crate) fn write_oid_contents(oid: &Oid, into: &mut Vec<u8>) -> Result<(), Al
     ensures begun { Extends into.old.items into.new.items }
 {
     if let [first, second, others @ ..] = oid.arcs() {
-        write_subidentifier(*first * 40 + *second, into)?;
+        write_subidentifier(*first * SECOND_ARCS + *second, into)?;
         for arc in others {
             write_subidentifier(*arc, into)?;
         }

@@ -4,6 +4,8 @@ use Rattle.term_values.specs.Octets.{integer_contents, integer_in}
 use Rattle.term_values.specs.Oid.{oid_contents, subidentifier, oid_in}
 use Rattle.term_values.specs.Der.{written, identifier_octets, length_octets}
 use Rattle.term_values.specs.BerReading.{tree_in, front_of, length_at, identifier_of}
+use Rattle.std.proofs.Common.{arith}
+use Rattle.term_values.specs.Writable.{IsWritable}
 use Rattle.term_values.specs.Tree.TreeValue.{Primitive, Constructed}
 use Rattle.term_values.specs.Tree.TreeValues.{Nothing, Then}
 
@@ -56,3 +58,8 @@ example_integer_read = refl
 example_integer_padded : integer_in (0x00 ∷ 0x01 ∷ []) ≡ None
 unfolding integer_in
 example_integer_padded = refl
+-- that tree is read back as it is written
+example_writable : IsWritable 1 (Constructed (record { class = 0; number = 16 }) (Then (Primitive (record { class = 0; number = 2 }) (0 ∷ 0x80 ∷ [])) Nothing))
+unfolding identifier_octets length_octets
+example_writable =
+    (record { class = omega arith; low = omega arith; used = omega arith }, omega arith, ((record { class = omega arith; low = omega arith; used = omega arith }, omega arith), tt))

@@ -1,5 +1,5 @@
 -- Whole numbers as octets, the most significant one first: X.690, sections 8.1.3.5 and 8.3.
-use Rattle.std.specs.Prelude.{◌≡◌, ℕ, zero, suc, ◌+◌, ◌-◌, ◌*◌, ◌/◌, ◌%◌, ◌^◌, List, [], ◌∷◌, Bool, true, false, ◌&&◌, ◌||◌, ◌==◌, nat_lt, nat_le, Option, None, Some, length, map, if◌then◌else◌, ℤ, pos, negsuc}
+use Rattle.std.specs.Prelude.{◌≡◌, ℕ, zero, suc, ◌+◌, ◌-◌, ◌*◌, ◌/◌, ◌%◌, ◌^◌, List, [], ◌∷◌, Bool, true, false, ◌&&◌, not, ◌==◌, nat_lt, nat_le, Option, None, Some, length, map, if◌then◌else◌, ℤ, pos, negsuc}
 
 -- the number that octets stand for
 abbrev pub number : List ℕ → ℕ
@@ -29,15 +29,23 @@ unfoldable pub integer_contents : ℤ → List ℕ
 integer_contents (pos n) = octets (count_signed n) n
 integer_contents (negsuc n) = map (λ octet. 255 - octet) (octets (count_signed n) n)
 
--- octets that an integer has no need of at its front: X.690, section 8.3.2
-abbrev pub is_padded : List ℕ → Bool
-is_padded [] = false
-is_padded (first ∷ []) = false
-is_padded (first ∷ second ∷ others) = first == 0 && nat_lt second 128 || first == 255 && nat_le 128 second
+-- an octet with each bit turned, or as it is
+abbrev pub octet_turned : Bool → ℕ → ℕ
+octet_turned true octet = 255 - octet
+octet_turned false octet = octet
+
+-- there are octets, and the first nine bits are neither all zero nor all one: X.690, section 8.3.2
+abbrev pub are_least : List ℕ → Bool
+are_least [] = false
+are_least (first ∷ []) = true
+are_least (first ∷ second ∷ others) = not (first == 0 && nat_lt second 128) && not (first == 255 && nat_le 128 second)
+
+-- the value in two's complement: the first bit is the sign
+abbrev pub signed_number : List ℕ → ℤ
+signed_number [] = pos 0
+signed_number (first ∷ others) =
+    if nat_lt first 128 then pos (number (first ∷ others)) else negsuc (number (map (octet_turned true) (first ∷ others)))
 
 -- the number of 64 bits that contents octets denote
 unfoldable pub integer_in : List ℕ → Option ℤ
-integer_in [] = None
-integer_in (first ∷ others) =
-    if is_padded (first ∷ others) || nat_lt 7 (length others) then None
-    else (if nat_lt first 128 then Some (pos (number (first ∷ others))) else Some (negsuc (number (map (λ octet. 255 - octet) (first ∷ others)))))
+integer_in contents = if nat_le (length contents) 8 && are_least contents then Some (signed_number contents) else None
