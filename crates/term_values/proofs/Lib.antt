@@ -1,4 +1,5 @@
 pub mod NumberLaws
+pub mod OidLaws
 pub mod ReadingLaws
 pub mod Spelled
 pub mod Statements

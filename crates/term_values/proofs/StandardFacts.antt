@@ -43,12 +43,12 @@ unfolding front_of length_at identifier_of
 example_truncated = refl
 
 example_oid_read : oid_in (0x88 ∷ 0x37 ∷ 0x03 ∷ []) ≡ Some (2 ∷ 999 ∷ 3 ∷ [])
-unfolding oid_in
+unfolding oid_in subidentifier
 example_oid_read = refl
 
 -- a leading 80 is not as few octets as hold the number
 example_oid_padded : oid_in (0x88 ∷ 0x37 ∷ 0x80 ∷ 0x03 ∷ []) ≡ None
-unfolding oid_in
+unfolding oid_in subidentifier
 example_oid_padded = refl
 
 example_integer_read : integer_in (0xFF ∷ 0x7F ∷ []) ≡ Some (negsuc 128)

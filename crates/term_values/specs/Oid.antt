@@ -1,6 +1,7 @@
 -- Object identifiers and their contents octets: X.660, clause 7; X.690, section 8.19.
-use Rattle.std.specs.Option.{option_map}
-use Rattle.std.specs.Prelude.{ℕ, zero, suc, ◌-◌, Option, None, Some, is_none, unwrap_or, option_and_then, ◌+◌, ◌*◌, ◌/◌, ◌%◌, ◌^◌, List, [], ◌∷◌, ◌++◌, Bool, true, false, ◌&&◌, ◌||◌, ◌==◌, nat_lt, nat_le, length, flat_map, if◌then◌else◌}
+use Rattle.std.specs.Cmp.Lexicographic.{pointwise}
+use Rattle.std.specs.List.{list_all}
+use Rattle.std.specs.Prelude.{ℕ, zero, suc, ◌-◌, Option, None, Some, ◌+◌, ◌*◌, ◌/◌, ◌%◌, ◌^◌, List, [], ◌∷◌, ◌++◌, Bool, true, false, ◌&&◌, ◌||◌, ◌==◌, nat_lt, nat_le, length, flat_map, if◌then◌else◌}
 
 -- the first two arcs of an identifier
 abbrev pub begins : ℕ → ℕ → Bool
@@ -33,21 +34,23 @@ oid_contents [] = []
 oid_contents (first ∷ []) = []
 oid_contents (first ∷ second ∷ others) = subidentifier (first * 40 + second) ++ flat_map subidentifier others
 
--- the subidentifiers that octets spell, each in as few octets as hold it and below 2 ^ 32, where the first octets of one,
--- if any, have given a number already
-abbrev pub subidentifiers : Option ℕ → List ℕ → Option (List ℕ)
-subidentifiers None [] = Some []
-subidentifiers (Some n) [] = None
-subidentifiers begun (octet ∷ others) =
-    let n = unwrap_or begun 0 * 128 + octet % 128 in
-    if is_none begun && octet == 128 || nat_le (2 ^ 32) n then None
-    else (if nat_lt octet 128 then option_map (λ ns. n ∷ ns) (subidentifiers None others) else subidentifiers (Some n) others)
+-- the numbers that groups of seven bits stand for, where groups before them have given a part of the first one
+abbrev pub numbers_in : ℕ → List ℕ → List ℕ
+numbers_in begun [] = []
+numbers_in begun (octet ∷ others) =
+    let n = begun * 128 + octet % 128 in
+    if nat_lt octet 128 then n ∷ numbers_in 0 others else numbers_in n others
 
 -- the arcs whose first two the first subidentifier gives
 abbrev pub arcs_of : List ℕ → List ℕ
 arcs_of [] = []
 arcs_of (n ∷ others) = if nat_lt n 40 then 0 ∷ n ∷ others else (if nat_lt n 80 then 1 ∷ (n - 40) ∷ others else 2 ∷ (n - 80) ∷ others)
 
--- the identifier that contents octets denote
+abbrev pub is_arc : ℕ → Bool
+is_arc arc = nat_lt arc (2 ^ 32)
+
+-- the identifier whose contents octets these are
 unfoldable pub oid_in : List ℕ → Option (List ℕ)
-oid_in contents = option_and_then (λ numbers. if is_oid (arcs_of numbers) then Some (arcs_of numbers) else None) (subidentifiers None contents)
+oid_in contents =
+    let arcs = arcs_of (numbers_in 0 contents) in
+    if is_oid arcs && (list_all is_arc arcs && pointwise ◌==◌ (oid_contents arcs) contents) then Some arcs else None
