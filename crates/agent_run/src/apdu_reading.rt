@@ -5,6 +5,7 @@ ghost use Rattle.std.specs.Option.{option_map, option_copied};
 ghost use Rattle.term_values.specs.BerReading.{tree_in};
 ghost use Rattle.term_values.specs.Tree.{listed};
 ghost use Rattle.term_values.specs.Der.{written};
+ghost use Rattle.term_values.specs.Oid.{oid_in};
 ghost use Rattle.term_model.specs.Bind.{title_in, title_of};
 ghost use Rattle.term_model.specs.GetRequest.{asked_in, assertion_of, get_of, instance_of, rdn_of, rdns_of};
 ghost use Rattle.term_model.specs.RemoteOperation.{id_of, integer_of};
@@ -67,13 +68,26 @@ fn whole_tree(alloc: Global, bytes: &[u8]) -> Result<Option<Tree>, AllocError>
     }
 }
 
+/// The identifier that contents octets denote.
+fn read_oid(alloc: Global, contents: &[u8]) -> Result<Option<Oid>, AllocError>
+    ensures { IfOk result (λ oid. oid ≡ oid_in contents.now) }
+{
+    match read_oid_contents(alloc, contents)? {
+        None => Ok(None),
+        Some(oid) => {
+            let _arcs = oid.arcs();
+            Ok(Some(oid))
+        }
+    }
+}
+
 /// An identifier under this tag.
 fn oid_of(alloc: Global, tree: &Tree, tag: Tag) -> Result<Option<Oid>, AllocError>
     ensures { IfOk result (λ oid. oid ≡ oid_under tag tree.now) }
 {
     match contents_of(tree, tag) {
         None => Ok(None),
-        Some(contents) => read_oid_contents(alloc, contents),
+        Some(contents) => read_oid(alloc, contents),
     }
 }
 

@@ -4,7 +4,8 @@ use Rattle.std.proofs.Common.{arith, ap, ◌∙◌, sym, eqb-true, eq-eqb, leb-t
 use Rattle.std.specs.Prelude.{◌⊎◌}
 use Rattle.std.specs.Cmp.Lexicographic.{pointwise}
 use Rattle.std.specs.List.{list_all}
-use Rattle.std.proofs.Common.{inl, inr, subst}
+use Rattle.std.proofs.Common.{inl, inr, subst, get_or}
+use Rattle.std.proofs.lemmas.List.Elements.{All-from_get_or}
 use Rattle.std.proofs.lemmas.Bool.{lt-ltb, ltb-true, le-ltb}
 use Rattle.term_values.specs.Oid.{groups, groups_before, subidentifier, numbers_in, oid_contents, oid_in, arcs_of, is_oid, is_arc, begins}
 
@@ -179,3 +180,29 @@ oid_read (first ∷ second ∷ others) e h =
 pub oid_spelt : (contents arcs : List ℕ) → oid_in contents ≡ Some arcs → (is_oid arcs ≡ true) × (list_all is_arc arcs ≡ true) × (oid_contents arcs ≡ contents)
 unfolding oid_in
 oid_spelt contents arcs e = taken_apart contents (arcs_of (numbers_in 0 contents)) arcs e
+
+-- numbers below 2 ^ 32 are arcs
+pub all_arcs : (xs : List ℕ) → ((k : ℕ) → get_or xs k 0 < 2 ^ 32) → list_all is_arc xs ≡ true
+all_arcs [] below = refl
+all_arcs (x ∷ xs) below = rw (lt-ltb x (2 ^ 32) (below 0), all_arcs xs (λ k. below (suc k))) refl
+
+-- arcs are numbers below 2 ^ 32
+pub arcs_below : (xs : List ℕ) → list_all is_arc xs ≡ true → All (λ x. x < 2 ^ 32) xs
+arcs_below xs e = All-from_get_or (λ x. x < 2 ^ 32) xs 0 (λ i h. below xs e i)
+  where
+    below : (ys : List ℕ) → list_all is_arc ys ≡ true → (i : ℕ) → get_or ys i 0 < 2 ^ 32
+    below [] h i = omega arith
+    below (y ∷ ys) h zero = ltb-true y (2 ^ 32) (both (is_arc y) (list_all is_arc ys) h).0
+    below (y ∷ ys) h (suc i) = below ys (both (is_arc y) (list_all is_arc ys) h).1 i
+
+nothing_or : (answer : Option (List ℕ)) → (answer ≡ None) ⊎ ((arcs : List ℕ) × (answer ≡ Some arcs))
+nothing_or None = inl refl
+nothing_or (Some arcs) = inr (arcs, refl)
+
+-- octets that are not what is written for an identifier denote none
+pub none_denoted : (contents : List ℕ) → ((arcs : List ℕ) → IsTrue (is_oid arcs) → All (λ arc. arc < 2 ^ 32) arcs → contents ≡ oid_contents arcs → ⊥) → None ≡ oid_in contents
+none_denoted contents never =
+    elim (nothing_or (oid_in contents)) [
+      | inl e ↦ sym e
+      | inr found ↦ let parts = oid_spelt contents found.0 found.1 in absurd (never found.0 (rw parts.0 tt) (arcs_below found.0 parts.1) (sym parts.2))
+    ]
