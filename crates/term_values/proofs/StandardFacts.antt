@@ -1,7 +1,7 @@
 -- Examples of X.690, computed from the definitions.
-use Rattle.std.specs.Prelude.{◌≡◌, [], ◌∷◌, List, ℕ, true, false, pos, negsuc, Some, None, refl}
-use Rattle.term_values.specs.Octets.{integer_contents, octets}
-use Rattle.term_values.specs.Oid.{oid_contents, subidentifier, is_oid}
+use Rattle.std.specs.Prelude.{◌≡◌, [], ◌∷◌, pos, negsuc, Some, None, refl}
+use Rattle.term_values.specs.Octets.{integer_contents}
+use Rattle.term_values.specs.Oid.{oid_contents, subidentifier}
 use Rattle.term_values.specs.Der.{written, identifier_octets, length_octets}
 use Rattle.term_values.specs.BerReading.{tree_in, front_of, length_at, identifier_of}
 use Rattle.std.proofs.Common.{arith}
