@@ -1,8 +1,8 @@
 -- The arcs of an identifier, as they are read one after the other: X.690, section 8.19.
-use Rattle.std.proofs.Common.{◌≡◌, ℕ, zero, suc, ◌+◌, ◌-◌, ◌*◌, ◌^◌, ◌<◌, ◌≤◌, Bool, true, false, IsTrue, List, [], ◌∷◌, ◌++◌, length, take, drop, get_or, All, flat_map, nat_le, sym, ap, ◌∙◌, refl, subst, arith, append_assoc, length-append, length-drop}
+use Rattle.std.proofs.Common.{◌≡◌, ℕ, suc, ◌+◌, ◌*◌, ◌<◌, ◌≤◌, true, IsTrue, List, [], ◌∷◌, ◌++◌, length, take, drop, All, flat_map, nat_le, sym, ap, ◌∙◌, refl, arith, append_assoc, length-append, length-drop}
 use Rattle.std.proofs.lemmas.Bool.{and_parts, leb-true, false≢true}
 use Rattle.std.proofs.lemmas.Bool.Decides.{nat_tests}
-use Rattle.std.proofs.lemmas.List.{append-nil, drop-drop, take-append-drop, drop_all}
+use Rattle.std.proofs.lemmas.List.{append-nil, drop-drop, take-append-drop}
 use Rattle.term_values.specs.Oid.{subidentifier, oid_contents, is_oid, begins}
 use Rattle.std.proofs.lemmas.List.Elements.{All-push}
 use Rattle.agent_run.proofs.SubidentifierLaws.{one_subidentifier, some_octets}

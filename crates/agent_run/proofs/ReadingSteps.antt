@@ -1,6 +1,6 @@
 -- One more value of those that fill the contents octets: X.690, section 8.9.
-use Rattle.std.proofs.Common.{◌≡◌, ℕ, zero, suc, ◌+◌, ◌-◌, ◌<◌, ◌≤◌, List, [], ◌∷◌, ◌++◌, length, take, drop, Option, Some, None, option_and_then, option_map, sym, ap, ◌∙◌, refl, arith, length-drop}
-use Rattle.std.proofs.lemmas.List.{drop-drop, drop_all, drop_more}
+use Rattle.std.proofs.Common.{◌≡◌, ℕ, ◌+◌, ◌<◌, ◌≤◌, List, [], ◌∷◌, ◌++◌, length, drop, Option, Some, None, option_and_then, option_map, sym, ap, ◌∙◌, refl, arith, length-drop}
+use Rattle.std.proofs.lemmas.List.{drop-drop, drop_all}
 use Rattle.term_values.specs.BerReading.{filled, tree_at}
 use Rattle.term_values.specs.Tree.{TreeValue, TreeValues, listed}
 use Rattle.term_values.specs.Tree.TreeValues.{Nothing, Then}

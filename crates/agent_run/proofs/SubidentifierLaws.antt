@@ -1,10 +1,10 @@
 -- Subidentifiers, read and written: X.690, section 8.19.2.
-use Rattle.std.proofs.Common.{◌≡◌, ℕ, zero, suc, ◌+◌, ◌-◌, ◌*◌, ◌/◌, ◌%◌, ◌^◌, ◌<◌, ◌≤◌, Bool, true, false, nat_lt, List, [], ◌∷◌, ◌++◌, length, take, drop, get_or, All, sym, ap, ◌∙◌, refl, subst, inl, inr, ◌⊎◌, ⊎_elim, arith, add-one, length-append}
+use Rattle.std.proofs.Common.{◌≡◌, ℕ, zero, suc, ◌+◌, ◌-◌, ◌*◌, ◌/◌, ◌%◌, ◌^◌, ◌<◌, ◌≤◌, List, [], ◌∷◌, ◌++◌, length, take, get_or, All, sym, ap, ◌∙◌, refl, subst, ◌⊎◌, ⊎_elim, arith, add-one, length-append}
 use Rattle.std.proofs.Math.Nat.{pow-suc, pow-le-pow_right, add-mul, mul_assoc}
 use Rattle.std.proofs.lemmas.Nat.{pow-add}
 use Rattle.std.proofs.lemmas.Bool.{lt-ltb, le-ltb, cases_lt, cases_order}
 use Rattle.std.proofs.lemmas.List.{take_more, take_at, length-take-le, get_or-take, get_or_append_left, append_cancel_left}
-use Rattle.term_values.specs.Oid.{subidentifier, groups, groups_before}
+use Rattle.term_values.specs.Oid.{subidentifier}
 use Rattle.agent_run.specs.Subidentifiers.{grouped, IsSize}
 
 regrouped : (x a p n m : ℕ) → x * (a * p) + (n * p + m) ≡ (x * a + n) * p + m

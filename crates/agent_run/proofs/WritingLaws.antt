@@ -1,13 +1,9 @@
 -- What the parts of a writing come to when they stand together: X.690, sections 8.1, 8.3 and 8.19.
-use Rattle.std.proofs.Common.{◌≡◌, ℕ, zero, suc, ◌+◌, ◌-◌, ◌*◌, ◌/◌, ◌%◌, ◌^◌, ◌<◌, ◌≤◌, Bool, true, false, List, [], ◌∷◌, ◌++◌, length, get_or, take, drop, reverse, flat_map, map, nat_lt, sym, ap, ◌∙◌, refl, inl, inr, ⊎_elim, arith, append_assoc, add-one}
+use Rattle.std.proofs.Common.{◌≡◌, ℕ, zero, suc, ◌+◌, ◌*◌, ◌/◌, ◌%◌, ◌^◌, ◌<◌, ◌≤◌, Bool, true, false, List, [], ◌∷◌, ◌++◌, sym, ap, ◌∙◌, refl, ⊎_elim, arith, append_assoc, add-one}
 use Rattle.std.proofs.lemmas.Bool.{lt-ltb, le-ltb, cases_lt}
 use Rattle.std.proofs.lemmas.Nat.{pow-add}
 use Rattle.std.proofs.Math.Nat.{pow-suc}
-use Rattle.std.proofs.lemmas.List.{append-nil, reverse-append, reverse-reverse, drop_more, drop_all}
-use Rattle.term_values.specs.Oid.{subidentifier, groups, groups_before}
-use Rattle.term_values.specs.Octets.{octets}
-use Rattle.term_values.specs.Tree.{TreeValue, listed}
-use Rattle.term_values.specs.Der.{written, written_all}
+use Rattle.term_values.specs.Oid.{subidentifier}
 use Rattle.agent_run.specs.Integers.{octet_turned}
 use Rattle.agent_run.specs.Writing.{group, last_octets}
 

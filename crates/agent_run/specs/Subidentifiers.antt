@@ -1,5 +1,5 @@
 -- Subidentifiers, as they are read: X.690, section 8.19.2.
-use Rattle.std.specs.Prelude.{◌≡◌, ℕ, ◌+◌, ◌-◌, ◌*◌, ◌%◌, ◌^◌, ◌<◌, ◌≤◌, List, [], ◌∷◌, length, slice_index}
+use Rattle.std.specs.Prelude.{ℕ, ◌+◌, ◌-◌, ◌*◌, ◌%◌, ◌^◌, ◌<◌, ◌≤◌, List, [], ◌∷◌, length, slice_index}
 
 -- the number that groups of seven bits stand for, the most significant one first
 abbrev pub grouped : List ℕ → ℕ

@@ -1,6 +1,6 @@
 -- Laws of numbers and the octets that stand for them: X.690, sections 8.1.3.5 and 8.3.
-use Rattle.std.proofs.Common.{◌≡◌, ℕ, zero, suc, ◌+◌, ◌-◌, ◌*◌, ◌/◌, ◌%◌, ◌^◌, ◌<◌, ◌≤◌, Bool, true, false, List, [], ◌∷◌, ◌++◌, length, get_or, take, drop, All, sym, ap, ◌∙◌, refl, inl, inr, ⊎_elim, arith, append_assoc, add-one, add_assoc, length-append}
-use Rattle.std.proofs.lemmas.Nat.{pow-add, mul-add-lt, div-mul-add, mod-mul-add}
+use Rattle.std.proofs.Common.{◌≡◌, ℕ, zero, suc, ◌+◌, ◌*◌, ◌/◌, ◌%◌, ◌^◌, ◌<◌, ◌≤◌, List, [], ◌∷◌, ◌++◌, length, get_or, take, drop, All, sym, ap, ◌∙◌, refl, arith, length-append}
+use Rattle.std.proofs.lemmas.Nat.{pow-add, mul-add-lt, div-mul-add}
 use Rattle.std.proofs.Math.Nat.{mul_comm, mod-one, mod-eq_of_lt, mul-add-div_right, mul-add-mod_self_right, pow-suc, one-le-pow, add-mul, mul_assoc, le-mul_of_pos_right}
 use Rattle.std.proofs.Math.Arith.{mod-mul}
 use Rattle.std.proofs.lemmas.List.{take_more, take-append-drop}

@@ -204,5 +204,5 @@ pub none_denoted : (contents : List ℕ) → ((arcs : List ℕ) → IsTrue (is_o
 none_denoted contents never =
     elim (nothing_or (oid_in contents)) [
       | inl e ↦ sym e
-      | inr found ↦ let parts = oid_spelt contents found.0 found.1 in absurd (never found.0 (rw parts.0 tt) (arcs_below found.0 parts.1) (sym parts.2))
+      | inr found ↦ let parts = oid_spelt contents found.0 found.1 in absurd (never found.0 parts.0 (arcs_below found.0 parts.1) (sym parts.2))
     ]

@@ -1,15 +1,15 @@
 -- What is read from the front of octets, and that fewer are left: X.690, section 8.1.
-use Rattle.std.proofs.Common.{◌≡◌, ℕ, zero, suc, ◌+◌, ◌-◌, ◌*◌, ◌/◌, ◌%◌, ◌^◌, ◌<◌, ◌≤◌, Bool, true, false, cond, ◌&&◌, List, [], ◌∷◌, ◌++◌, length, take, drop, All, Option, Some, None, option_and_then, option_map, nat_lt, nat_le, nat_eq, sym, ap, ◌∙◌, refl, subst, inl, inr, ◌⊎◌, ⊎_elim, arith, length-append}
-use Rattle.std.proofs.lemmas.Bool.{cases_Bool, ltb-true, leb-true, eqb-true, eqb-false, and_parts}
+use Rattle.std.proofs.Common.{◌≡◌, ℕ, zero, suc, ◌+◌, ◌-◌, ◌^◌, ◌<◌, ◌≤◌, Bool, true, false, ◌&&◌, List, [], ◌∷◌, ◌++◌, length, take, drop, Option, Some, None, option_and_then, nat_lt, nat_le, sym, ap, ◌∙◌, refl, subst, inl, inr, ◌⊎◌, ⊎_elim, arith, length-append}
+use Rattle.std.proofs.lemmas.Bool.{cases_Bool, ltb-true, leb-true, and_parts}
 use Rattle.std.proofs.lemmas.List.{length-take-le, take-append-drop}
-use Rattle.std.proofs.lemmas.Option.{none-some, same_Some, option_and_then_some, some_pair_parts, cond_some}
+use Rattle.std.proofs.lemmas.Option.{none-some, option_and_then_some, some_pair_parts, cond_some}
 use Rattle.term_values.specs.declared.tag.Tag.{Tag}
 use Rattle.term_values.specs.Octets.{number}
-use Rattle.term_values.specs.Ber.{IsIdentifier, IsLength, Parts}
+use Rattle.term_values.specs.Ber.{IsLength}
 use Rattle.term_values.specs.BerReading.{Front, identifier_of, length_at, contents_at, front_of, filled, tree_at}
 use Rattle.term_values.specs.Tree.{TreeValue, TreeValues}
 use Rattle.term_values.specs.Tree.TreeValue.{Primitive, Constructed}
-use Rattle.term_values.specs.Tree.TreeValues.{Nothing, Then}
+use Rattle.term_values.specs.Tree.TreeValues.{Then}
 
 -- the octets of a length, and what stands behind them
 pub record LengthSplit (bytes : List ℕ) (n : ℕ) (rest : List ℕ) : Type 0 where

@@ -1,18 +1,17 @@
 -- What is read and what spells are one: X.690, sections 8.1.2 to 8.1.4.
-use Rattle.std.proofs.Common.{◌≡◌, ℕ, zero, suc, ◌+◌, ◌-◌, ◌*◌, ◌/◌, ◌%◌, ◌^◌, ◌<◌, ◌≤◌, Bool, true, false, cond, ◌&&◌, ◌==◌, if◌then◌else◌, List, [], ◌∷◌, ◌++◌, length, take, drop, get_or, All, Option, Some, None, option_and_then, option_map, nat_lt, nat_le, sym, ap, ◌∙◌, refl, subst, inl, inr, ◌⊎◌, ⊎_elim, arith, append_assoc, length-append}
+use Rattle.std.proofs.Common.{◌≡◌, ℕ, zero, suc, ◌+◌, ◌-◌, ◌*◌, ◌/◌, ◌%◌, ◌^◌, ◌<◌, ◌≤◌, Bool, true, false, ◌==◌, if◌then◌else◌, List, [], ◌∷◌, ◌++◌, length, get_or, Option, Some, option_and_then, sym, ap, ◌∙◌, refl, subst, inl, inr, ⊎_elim, arith, append_assoc, length-append}
 use Rattle.std.proofs.lemmas.Bool.{cases_Bool, lt-ltb, le-ltb, le-leb, eqb-true, eqb-false, ne_eqb, eq-eqb}
-use Rattle.std.proofs.lemmas.List.{append-nil, get_or_append_left, get_or-append-add, take_at, drop_at, append_cancel_right}
-use Rattle.std.proofs.lemmas.Option.{none-some, same_Some, option_and_then_some, some_pair_parts, cond_some}
+use Rattle.std.proofs.lemmas.List.{get_or_append_left, get_or-append-add, take_at, drop_at}
+use Rattle.std.proofs.lemmas.Option.{none-some, same_Some, option_and_then_some, some_pair_parts}
 use Rattle.term_values.specs.declared.tag.Tag.{Tag}
 use Rattle.term_values.specs.Octets.{number}
-use Rattle.term_values.specs.Der.{leading_bits}
 use Rattle.term_values.specs.Ber.{IsIdentifier, IsLength, Parts, Spells, SpellsAll}
-use Rattle.term_values.specs.BerReading.{Front, identifier_of, length_at, contents_at, front_of, filled, tree_at}
+use Rattle.term_values.specs.BerReading.{Front, identifier_of, length_at, front_of, filled, tree_at}
 use Rattle.term_values.specs.Tree.{TreeValue, TreeValues}
 use Rattle.term_values.specs.Tree.TreeValue.{Primitive, Constructed}
 use Rattle.term_values.specs.Tree.TreeValues.{Nothing, Then}
 use Rattle.term_values.specs.SpellingLaws.{AreOctets, Spelling}
-use Rattle.term_values.proofs.ReadingLaws.{FrontSplit, front_of_gives, tree_at_gives, filled_enough, tree_at_shrinks}
+use Rattle.term_values.proofs.ReadingLaws.{front_of_gives, tree_at_gives}
 
 -- an identifier octet is read as the tag that it spells
 form_read : (constructed : Bool) (class number octet : ℕ) → class < 4 → number < 31 → octet ≡ class % 4 * 64 + (if constructed then 32 else 0) + number → ((octet / 32 % 2 == 1) ≡ constructed) × (octet / 64 ≡ class) × (octet % 32 ≡ number)

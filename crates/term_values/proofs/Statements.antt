@@ -1,12 +1,12 @@
 -- The laws of specs/SpellingLaws, proved.
-use Rattle.std.proofs.Common.{◌≡◌, ◌↔◌, ℕ, zero, suc, ◌+◌, ◌*◌, ◌^◌, ◌<◌, ◌≤◌, Bool, true, false, List, [], ◌∷◌, ◌++◌, length, Option, Some, None, option_and_then, nat_lt, sym, ap, ◌∙◌, refl, subst, inl, inr, ⊎_elim, arith}
+use Rattle.std.proofs.Common.{◌≡◌, ℕ, zero, suc, ◌+◌, ◌^◌, ◌<◌, ◌≤◌, Bool, true, false, List, [], ◌∷◌, ◌++◌, length, Some, option_and_then, sym, ap, ◌∙◌, refl, subst, inl, inr, ⊎_elim, arith}
 use Rattle.std.proofs.lemmas.Bool.{lt-ltb, le-ltb, cases_lt}
 use Rattle.std.proofs.lemmas.List.{append-nil, append_cancel_right}
 use Rattle.std.proofs.lemmas.Option.{none-some, same_Some, option_and_then_some, some_pair_parts}
 use Rattle.term_values.specs.declared.tag.Tag.{Tag}
-use Rattle.term_values.specs.Octets.{number, octets, count_unsigned}
+use Rattle.term_values.specs.Octets.{octets, count_unsigned}
 use Rattle.term_values.specs.Der.{leading_bits, identifier_octets, length_octets, written, written_all}
-use Rattle.term_values.specs.Ber.{most_depth, IsIdentifier, IsLength, Parts, Spells, SpellsAll, IsBer}
+use Rattle.term_values.specs.Ber.{most_depth, IsLength, Parts, Spells, SpellsAll, IsBer}
 use Rattle.term_values.specs.BerReading.{tree_at, tree_in, alone}
 use Rattle.term_values.specs.Tree.{TreeValue, TreeValues}
 use Rattle.term_values.specs.Tree.TreeValue.{Primitive, Constructed}

@@ -1,5 +1,5 @@
 -- Which octets spell a tree: X.690, sections 8.1.2 to 8.1.4, with tags in one octet and lengths in any definite form.
-use Rattle.std.specs.Prelude.{◌≡◌, ◌⊎◌, ℕ, zero, suc, ◌+◌, ◌*◌, ◌^◌, ◌<◌, List, [], ◌∷◌, ◌++◌, Bool, true, false, length}
+use Rattle.std.specs.Prelude.{◌≡◌, ◌⊎◌, ℕ, zero, suc, ◌+◌, ◌^◌, ◌<◌, List, [], ◌∷◌, ◌++◌, Bool, true, false, length}
 use Rattle.term_values.specs.declared.tag.Tag.{Tag}
 use Rattle.term_values.specs.Der.{leading_bits}
 use Rattle.term_values.specs.Octets.{number}

@@ -1,5 +1,5 @@
 -- What a reading of octets gives, from their front: X.690, sections 8.1.2 to 8.1.4. The relation is in Ber.
-use Rattle.std.specs.Prelude.{ℕ, zero, suc, ◌+◌, ◌-◌, ◌*◌, ◌/◌, ◌%◌, ◌^◌, ◌==◌, ◌&&◌, List, [], ◌∷◌, Bool, true, false, nat_lt, nat_le, length, take, drop, if◌then◌else◌, Option, None, Some, option_and_then}
+use Rattle.std.specs.Prelude.{ℕ, zero, suc, ◌+◌, ◌-◌, ◌/◌, ◌%◌, ◌^◌, ◌==◌, ◌&&◌, List, [], ◌∷◌, Bool, nat_lt, nat_le, length, take, drop, if◌then◌else◌, Option, None, Some, option_and_then}
 use Rattle.term_values.specs.declared.tag.Tag.{Tag}
 use Rattle.term_values.specs.Ber.{most_depth}
 use Rattle.term_values.specs.Octets.{number}

@@ -1,5 +1,5 @@
 -- What holds of the spelling, the reading and the writing of trees: X.690, sections 8.1.2 to 8.1.4 and 10.1.
-use Rattle.std.specs.Prelude.{◌≡◌, ◌↔◌, ℕ, ◌^◌, ◌<◌, List, ◌++◌, All, Option, Some, length}
+use Rattle.std.specs.Prelude.{◌≡◌, ◌↔◌, ℕ, ◌^◌, ◌<◌, List, ◌++◌, All, Some, length}
 use Rattle.term_values.specs.Octets.{number, octets, count_unsigned}
 use Rattle.term_values.specs.Ber.{Spells, IsBer}
 use Rattle.term_values.specs.BerReading.{tree_at, tree_in}

@@ -1,5 +1,5 @@
 -- Which trees are read back as they are written: X.690, sections 8.1.2 and 8.1.3.
-use Rattle.std.specs.Prelude.{ℕ, zero, suc, ◌+◌, ◌^◌, ◌<◌, List, length}
+use Rattle.std.specs.Prelude.{ℕ, zero, suc, ◌+◌, ◌^◌, ◌<◌, length}
 use Rattle.term_values.specs.declared.tag.Tag.{Tag}
 use Rattle.term_values.specs.Der.{written_all}
 use Rattle.term_values.specs.Tree.{TreeValue, TreeValues}

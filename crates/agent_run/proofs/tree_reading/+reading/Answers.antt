@@ -1,6 +1,6 @@
-use Rattle.std.proofs.Common.{◌≡◌, ◌≤◌, ◌<◌, ◌+◌, length, drop, arith, refl, length-drop}
+use Rattle.std.proofs.Common.{◌≤◌, ◌+◌, length, arith, length-drop}
 use Rattle.std.proofs.lemmas.List.{take_rest}
-use Rattle.agent_run.proofs.ReadingSteps.{leads_more, leads_nowhere, leads_whole}
+use Rattle.agent_run.proofs.ReadingSteps.{leads_more, leads_whole}
 use Rattle.agent_run.proofs.tree_reading.+reading.Goals as goal
 
 pub read_inside-loop-at-preserved : goal.read_inside-loop-at-preserved

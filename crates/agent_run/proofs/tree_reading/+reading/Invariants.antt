@@ -1,4 +1,4 @@
-use Rattle.std.proofs.Common.{◌≡◌, ℕ, ◌+◌, ◌-◌, ◌*◌, ◌≤◌, length, drop}
+use Rattle.std.proofs.Common.{◌+◌, ◌-◌, ◌*◌, length}
 use Rattle.agent_run.proofs.ReadingSteps.{Leads}
 use Rattle.agent_run.proofs.tree_reading.+reading.Given as goal
 

@@ -1,6 +1,5 @@
-use Rattle.std.proofs.Common.{◌≡◌, ◌≤◌, ◌<◌, ◌+◌, ◌-◌, ◌*◌, ◌%◌, ◌^◌, ◌∙◌, sym, ap, length, get_or, arith, refl}
+use Rattle.std.proofs.Common.{◌<◌, arith}
 use Rattle.agent_run.proofs.SubidentifierLaws.{five_groups, grouped-take_more, group_more}
-use Rattle.agent_run.specs.Subidentifiers.{grouped}
 use Rattle.agent_run.proofs.tree_reading.read_groups.Goals as goal
 
 pub overflow_mul-value : goal.overflow_mul-value

@@ -1,5 +1,5 @@
-use Rattle.std.proofs.Common.{◌≡◌, ℕ, ◌<◌, ◌≤◌, List, length, All, true, false, sym, ap, ◌∙◌, refl, arith}
-use Rattle.std.proofs.lemmas.Bool.{both_ways, false≢true}
+use Rattle.std.proofs.Common.{◌≤◌, length, sym, ap, ◌∙◌, arith}
+use Rattle.std.proofs.lemmas.Bool.{false≢true}
 use Rattle.term_values.specs.Octets.{integer_contents}
 use Rattle.agent_run.specs.Integers.{are_least}
 use Rattle.agent_run.proofs.IntegerLaws.{octets_fit, contents_least, IsValue, value_read, positive_word, negative_word}

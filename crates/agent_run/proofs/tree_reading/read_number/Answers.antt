@@ -1,4 +1,4 @@
-use Rattle.std.proofs.Common.{◌≡◌, ◌≤◌, ◌<◌, ◌+◌, ◌^◌, length, arith, refl}
+use Rattle.std.proofs.Common.{◌≤◌, ◌+◌, ◌^◌, arith, refl}
 use Rattle.std.proofs.lemmas.Bool.{le-ltb}
 use Rattle.term_values.specs.Octets.{number}
 use Rattle.term_values.proofs.NumberLaws.{number-take_more, number-take-le}

@@ -1,4 +1,4 @@
-use Rattle.std.proofs.Common.{◌≡◌, ℕ, ◌≤◌, ◌<◌, ◌+◌, ◌-◌, ◌∙◌, sym, ap, List, length, get_or, take, drop, arith, refl, rules, Fits, w32}
+use Rattle.std.proofs.Common.{◌∙◌, arith, rules, Fits, w32}
 use Rattle.std.proofs.lemmas.List.{take_rest}
 use Rattle.agent_run.proofs.IdentifierSteps.{spelt_more, goes_on}
 use Rattle.agent_run.proofs.tree_reading.read_oid_contents.Goals as goal

@@ -1,4 +1,4 @@
-use Rattle.std.proofs.Common.{◌≡◌, ℕ, ◌≤◌, ◌<◌, ◌+◌, ◌-◌, ◌∙◌, sym, ap, List, length, get_or, take, arith, refl}
+use Rattle.std.proofs.Common.{◌≡◌, ◌<◌, ◌-◌, ◌∙◌, sym, ap, length, take, arith}
 use Rattle.term_values.specs.Oid.{subidentifier}
 use Rattle.agent_run.specs.Subidentifiers.{grouped}
 use Rattle.agent_run.proofs.IntegerLaws.{octets_fit}

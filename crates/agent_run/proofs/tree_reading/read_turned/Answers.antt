@@ -1,4 +1,4 @@
-use Rattle.std.proofs.Common.{◌≡◌, ◌≤◌, ◌<◌, ◌+◌, ◌-◌, ◌*◌, ◌^◌, ◌∙◌, sym, ap, length, map, get_or, arith, refl}
+use Rattle.std.proofs.Common.{◌≡◌, ◌<◌, ◌+◌, ◌*◌, ◌∙◌, sym, ap, get_or, arith}
 use Rattle.agent_run.proofs.IntegerLaws.{eight_octets, turned_more, turned_below, power_more}
 use Rattle.agent_run.specs.Integers.{octet_turned}
 use Rattle.agent_run.proofs.tree_reading.read_turned.Goals as goal

@@ -1,4 +1,4 @@
-use Rattle.std.proofs.Common.{◌≡◌, ◌++◌, ◌≤◌, length, drop, reverse}
+use Rattle.std.proofs.Common.{◌≡◌, ◌++◌, drop, reverse}
 use Rattle.term_values.specs.Der.{written_all}
 use Rattle.term_values.specs.Tree.{listed}
 use Rattle.agent_run.specs.Writing.{Extends}

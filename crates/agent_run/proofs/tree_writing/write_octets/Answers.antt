@@ -1,4 +1,4 @@
-use Rattle.std.proofs.Common.{◌≡◌, ◌+◌, ◌-◌, ◌/◌, ◌%◌, ◌*◌, ◌^◌, arith, sym, ap, ◌∙◌}
+use Rattle.std.proofs.Common.{◌≡◌, ◌-◌, ◌/◌, ◌%◌, ◌*◌, ◌^◌, arith}
 use Rattle.agent_run.proofs.WritingLaws.{octet_pushed}
 use Rattle.agent_run.specs.Integers.{octet_turned}
 use Rattle.agent_run.proofs.Extending.{extends_trans, extends_push}
