@@ -1,2 +1,3 @@
--- Lemmas of agent_bytes.
+-- Lemmas of agent_bytes, and its definitions computed at examples.
 pub mod ToldLemmas
+mod StandardFacts

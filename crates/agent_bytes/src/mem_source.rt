@@ -1,5 +1,5 @@
 //! A source in memory, for tests.
-ghost use Rattle.std.specs.Prelude.{◌≡◌, ◌⊎◌, ◌↔◌, ℕ, ◌+◌, ◌-◌, ◌^◌, ◌<◌, ◌≤◌, List, [], ◌++◌, Some, IfOk, OnOk, OnErr, IsErr, Contains, length, take, drop, min};
+ghost use Rattle.std.specs.Prelude.{◌≡◌, ◌↔◌, ◌<◌, ◌≤◌, ◌++◌, Some, IfOk, OnErr, IsErr, Contains, length, take, drop, min};
 ghost use Rattle.agent_bytes.specs.Faults.{Rose, one_more};
 ghost use Rattle.agent_bytes.specs.Told.{GivesFront};
 
