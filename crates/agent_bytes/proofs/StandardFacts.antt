@@ -1,9 +1,9 @@
 -- The definitions of agent_bytes computed at examples.
-use Rattle.std.proofs.Common.{◌≡◌, ◌+◌, ◌-◌, ◌^◌, [], ◌∷◌, Some, None, refl, inl, inr, lit<, lit≤}
+use Rattle.std.proofs.Common.{◌≡◌, [], ◌∷◌, Some, None, refl, inl, inr, lit<}
 use Rattle.std.specs.Prelude.{codes}
 use Rattle.agent_bytes.specs.Faults.{one_more, Rose}
-use Rattle.agent_bytes.specs.Told.{gained, GivesFront, GainsPart, IsFile, IsLonger}
-use Rattle.agent_bytes.specs.Memory.{bytes_named, WriteFails}
+use Rattle.agent_bytes.specs.Told.{gained, GainsPart, IsLonger}
+use Rattle.agent_bytes.specs.Memory.{bytes_named}
 
 -- a count goes up by one, and stays at its largest value
 counts_one : one_more 0 ≡ 1
@@ -28,10 +28,6 @@ gains_untold = refl
 -- of "abc" the first two bytes were written
 gains_two : GainsPart (Some []) (Some (codes "ab")) (codes "abc")
 gains_two = record { count = 2; short = lit< tt; written = refl }
-
--- two bytes of "abc" moved into a slice of three
-gives_two : GivesFront (codes "abc") (codes "c") (codes "abz") 2
-gives_two = record { within = lit≤ tt; moved = refl; rest = refl; some = λ _ _. lit< tt }
 
 -- of two files with one name the first counts
 first_named : bytes_named ((codes "f", codes "1") ∷ (codes "f", codes "2") ∷ []) (codes "f") ≡ Some (codes "1")
