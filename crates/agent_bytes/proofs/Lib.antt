@@ -1,2 +1,4 @@
--- Lemmas of agent_bytes.
+-- Lemmas of agent_bytes, and its definitions computed at examples.
+pub mod GivenLemmas
 pub mod ToldLemmas
+mod StandardFacts

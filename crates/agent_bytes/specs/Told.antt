@@ -1,5 +1,5 @@
 -- What the outside tells of its bytes. None stands for an adapter that tells nothing.
-use Rattle.std.specs.Prelude.{◌≡◌, ℕ, ◌<◌, ◌≤◌, List, ◌++◌, length, take, drop, Option, Some, None, IsSomeAnd}
+use Rattle.std.specs.Prelude.{◌≡◌, ℕ, ◌<◌, List, ◌++◌, length, take, Option, Some, None, IsSomeAnd}
 
 -- the bytes that a sink tells once it has gained some
 abbrev pub gained : Option (List ℕ) → List ℕ → Option (List ℕ)
@@ -11,20 +11,6 @@ pub record GainsPart (before after : Option (List ℕ)) (bytes : List ℕ) : Typ
   pub count : ℕ
   pub short : count < length bytes
   pub written : after ≡ gained before (take count bytes)
-
--- the first `count` bytes left went to the front of the slice, which has these elements now;
--- none went only where the slice is empty or none was left
-pub record GivesFront (left after into : List ℕ) (count : ℕ) : Type 0 where
-  pub within : count ≤ length left
-  pub moved : take count into ≡ take count left
-  pub rest : after ≡ drop count left
-  pub some : 0 < length into → 0 < length left → 0 < count
-
--- the same, where it is told
-abbrev pub Gives : Option (List ℕ) → Option (List ℕ) → List ℕ → ℕ → Type 0
-Gives None after into count = after ≡ None
-Gives (Some left) after into count =
-    IsSomeAnd after (λ rest. GivesFront left rest into count)
 
 -- the named file is there and has these bytes, where it is told
 abbrev pub IsFile : Option (List ℕ → Option (List ℕ)) → List ℕ → List ℕ → Type 0

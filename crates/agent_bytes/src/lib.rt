@@ -6,6 +6,7 @@
 
 mod count;
 mod failed;
+mod file_source;
 mod files;
 mod mem_files;
 mod mem_sink;
@@ -18,10 +19,12 @@ mod stdout_sink;
 mod writing;
 
 pub use failed::{Failed, FileRefusal};
+pub use file_source::FileSource;
 pub use files::Files;
 pub use mem_files::MemFiles;
 pub use mem_sink::MemSink;
 pub use mem_source::MemSource;
+pub use reading::read_up_to;
 pub use real_files::RealFiles;
 pub use sink::Sink;
 pub use source::Source;

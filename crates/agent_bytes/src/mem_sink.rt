@@ -1,7 +1,6 @@
 //! A sink in memory, for tests.
-ghost use Rattle.std.specs.Prelude.{◌≡◌, ◌⊎◌, ◌↔◌, ℕ, ◌+◌, ◌-◌, ◌^◌, ◌<◌, ◌≤◌, List, [], ◌++◌, Some, IfOk, OnOk, OnErr, IsErr, IsOk, Contains, length, take, min};
+ghost use Rattle.std.specs.Prelude.{◌≡◌, ◌↔◌, ◌-◌, ◌<◌, ◌≤◌, [], ◌++◌, Some, IfOk, OnErr, IsErr, length, take, min};
 ghost use Rattle.agent_bytes.specs.Faults.{Rose, one_more};
-ghost use Rattle.agent_bytes.specs.Told.{gained};
 ghost use Rattle.agent_bytes.specs.Memory.{WriteFails};
 
 use crate::count::counted_up;

@@ -1,7 +1,6 @@
 //! A source in memory, for tests.
-ghost use Rattle.std.specs.Prelude.{◌≡◌, ◌⊎◌, ◌↔◌, ℕ, ◌+◌, ◌-◌, ◌^◌, ◌<◌, ◌≤◌, List, [], ◌++◌, Some, IfOk, OnOk, OnErr, IsErr, Contains, length, take, drop, min};
+ghost use Rattle.std.specs.Prelude.{◌≡◌, ◌↔◌, ◌<◌, ◌≤◌, [], ◌++◌, Some, IfOk, OnErr, IsErr, Contains, length, take, drop, min};
 ghost use Rattle.agent_bytes.specs.Faults.{Rose, one_more};
-ghost use Rattle.agent_bytes.specs.Told.{GivesFront};
 
 use crate::count::counted_up;
 use crate::failed::Failed;
@@ -98,7 +97,9 @@ impl MemSource {
         ensures gave { IfOk result (λ count.
             self.new ≡ record self.old { left = drop count self.old.left }) }
         ensures read { IfOk result (λ count.
-            GivesFront self.old.left self.new.left into.new count) }
+            self.old.left ≡ take count into.new ++ self.new.left) }
+        ensures ended { IfOk result (λ count.
+            count ≡ 0 → 0 < length into.new → self.new.left ≡ []) }
         ensures kept { OnErr result (self.new ≡ self.old) }
         ensures untouched { OnErr result (into.new ≡ into.old) }
     {
@@ -139,7 +140,9 @@ impl Source for MemSource {
 
         // As every source.
         ensures read { IfOk result (λ count.
-            GivesFront self.old.left self.new.left into.new count) }
+            self.old.left ≡ take count into.new ++ self.new.left) }
+        ensures ended { IfOk result (λ count.
+            count ≡ 0 → 0 < length into.new → self.new.left ≡ []) }
         ensures failed { OnErr result (Rose self.old.faults self.new.faults) }
         ensures counted { self.old.faults ≤ self.new.faults }
     {

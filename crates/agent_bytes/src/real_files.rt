@@ -3,6 +3,7 @@ ghost use Rattle.std.specs.Prelude.{◌≡◌, None};
 
 use crate::count::counted_up;
 use crate::failed::FileRefusal;
+use crate::file_source::FileSource;
 use crate::files::Files;
 use crate::reading::read_up_to;
 use std::alloc::Global;
@@ -48,7 +49,7 @@ impl<'a, R: rt::Files> Files for RealFiles<'a, R> {
 
     fn read_file(&mut self, alloc: Global, name: &str, limit: u64) -> Result<Vec<u8>, FileRefusal> {
         let answer = match fs::open(self.rt, name) {
-            Ok(mut file) => read_up_to(&mut file, alloc, limit),
+            Ok(file) => read_up_to(&mut FileSource::new(file), alloc, limit),
             Err(_) => Err(FileRefusal::Failed),
         };
         if let Err(FileRefusal::Failed) = answer {

@@ -1,7 +1,7 @@
 //! Where bytes are read.
-ghost use Rattle.std.specs.Prelude.{◌≡◌, ℕ, ◌≤◌, List, Option, IfOk, OnOk, OnErr, length};
+ghost use Rattle.std.specs.Prelude.{◌≡◌, ℕ, ◌<◌, ◌≤◌, List, Option, IfOk, OnOk, OnErr, length, take};
+ghost use Rattle.std.specs.Io.KnownBytes.{Consumes, IsAtEnd};
 ghost use Rattle.agent_bytes.specs.Faults.{Rose};
-ghost use Rattle.agent_bytes.specs.Told.{Gives};
 
 use crate::failed::Failed;
 
@@ -21,7 +21,11 @@ pub trait Source {
 
         // The bytes moved are the first of those that were left, and the others are left.
         ensures read { IfOk result (λ count.
-            Gives (left self.old) (left self.new) into.new count) }
+            Consumes (left self.old) (left self.new) (take count into.new)) }
+        ensures ended { IfOk result (λ count.
+            count ≡ 0 → 0 < length into.new → IsAtEnd (left self.new)) }
+
+        // A failed call moves nothing.
         ensures kept { OnErr result (left self.new ≡ left self.old) }
         ensures untouched { OnErr result (into.new ≡ into.old) }
 

@@ -1,7 +1,7 @@
 //! Tests of the adapters: those in memory by tables, those over the runtime on a real file.
 use crate::{
     FileRefusal, Files, MemFiles, MemSink, MemSource, RealFiles, Sink, Source, StdoutSink,
-    write_all,
+    read_up_to, write_all,
 };
 use std::fs;
 use std::test::Fail;
@@ -55,6 +55,12 @@ fn reading_from_memory_gives_turns_up_to_the_end_and_skips_no_byte_at_a_fault(
     }
     assert_eq!(rt; source.calls(), 5);
     assert_eq!(rt; source.faults(), 1);
+    let failing = vec![in alloc; 1]?;
+    let mut source = MemSource::new(b"abcde".to_vec(alloc)?, failing).in_turns(2);
+    let refused = read_up_to(&mut source, alloc, 5).err();
+    assert_eq!(rt; refused, Some(FileRefusal::Failed));
+    let rest = read_up_to(&mut source, alloc, 3)?;
+    assert_eq!(rt; rest.as_slice(), b"cde".as_slice());
     Ok(())
 }
 
