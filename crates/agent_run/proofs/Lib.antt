@@ -1,4 +1,5 @@
 pub mod Extending
 pub mod IntegerLaws
+pub mod PlayLaws
 pub mod ReadingSteps
 pub mod WritingLaws
