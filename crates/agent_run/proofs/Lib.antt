@@ -1,4 +1,5 @@
 pub mod Extending
+pub mod FindingLaws
 pub mod IntegerLaws
 pub mod PlayLaws
 pub mod ReadingSteps
