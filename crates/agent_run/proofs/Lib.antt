@@ -1,8 +1,10 @@
 pub mod Extending
+pub mod FindingLaws
 pub mod IdentifierSteps
 pub mod IntegerLaws
 pub mod IntegerReading
 pub mod OutLines
+pub mod PlayLaws
 pub mod ReadingSteps
 mod StandardFacts
 pub mod SubidentifierLaws

@@ -21,6 +21,14 @@ script_lines bind sends = Open bind ∷ map (Send sole) sends
 abbrev pub so_far : AgentState → List Entry → Play
 so_far agent journal = record { agent = agent; journal = journal; moment = 0 }
 
+-- before any entry
+pub record IsFresh (agent : AgentState) (journal : List Entry) : Type 0 where
+  pub unwritten : journal ≡ []
+  pub uncounted : agent.entries ≡ 0
+  pub unopened : agent.associations ≡ []
+  pub unasked : agent.operations ≡ []
+
+-- between two lines
 pub record IsReady (agent : AgentState) (journal : List Entry) : Type 0 where
   pub counted : agent.entries ≡ length journal
   pub association : Association
@@ -28,3 +36,7 @@ pub record IsReady (agent : AgentState) (journal : List Entry) : Type 0 where
   pub live : association.state ≡ Live
   pub taken : association.taken ≡ length association.placed
   pub idle : outstanding agent sole ≡ 0
+
+-- all that was placed for the association is taken
+abbrev pub with_placed_taken : Association → Association
+with_placed_taken a = record a { taken = length a.placed }

@@ -1,2 +1,3 @@
 pub mod RisingLaws
 mod StandardFacts
+pub mod StepLaws
