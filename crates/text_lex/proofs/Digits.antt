@@ -1,8 +1,8 @@
 -- Digits of a text are digits of a number.
-use Rattle.std.proofs.Common.{◌≡◌, ◌≢◌, ℕ, ◌+◌, ◌-◌, ◌<◌, ◌≤◌, Bool, true, false, cond, List, [], ◌∷◌, length, get_or, slice_index, slice_range, take, drop, refl, sym, ap, subst, arith, ◌∙◌, ⊎_elim, rules, get_or-drop, get_or-take, length-take, length-drop}
-use Rattle.std.proofs.lemmas.Bool.{both_ways, or_cases, eqb-true, false≢true}
-use Rattle.std.proofs.lemmas.Str.Parse.{numerals_by_value, tells_by_index, IsNumeralModel}
-use Rattle.std.specs.Prelude.{◌==◌, ◌&&◌, IsTrue}
+use Rattle.std.proofs.Common.{◌≡◌, ◌≢◌, ℕ, ◌+◌, ◌-◌, ◌<◌, Bool, true, false, cond, List, [], ◌∷◌, length, get_or, slice_index, slice_range, refl, sym, subst, arith, ⊎_elim, rules, get_or-drop, get_or-take, length-take, length-drop}
+use Rattle.std.proofs.lemmas.Bool.{or_cases, eqb-true, false≢true}
+use Rattle.std.proofs.lemmas.Str.Parse.{numerals_by_value, tells_by_index}
+use Rattle.std.specs.Prelude.{◌==◌, ◌&&◌}
 use Rattle.std.specs.Char.{is_ascii_alphabetic}
 use Rattle.std.specs.List.{list_any}
 use Rattle.std.specs.Int.{IsInRange}

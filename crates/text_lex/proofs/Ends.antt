@@ -1,13 +1,12 @@
 -- Steps through comments, words, strings and runs.
-use Rattle.std.proofs.Common.{◌≡◌, ◌≢◌, ℕ, ◌+◌, ◌*◌, ◌<◌, ◌≤◌, ◌⊎◌, Bool, true, false, List, length, slice_index, take, get_or, refl, sym, ap, subst, arith, ◌∙◌, ⊎_elim}
+use Rattle.std.proofs.Common.{◌≡◌, ◌≢◌, ℕ, ◌+◌, ◌*◌, ◌<◌, ◌≤◌, Bool, true, false, List, length, slice_index, take, get_or, refl, sym, ap, arith, ◌∙◌, ⊎_elim}
 use Rattle.std.proofs.lemmas.Bool.{both_ways, cases_lt}
 use Rattle.std.proofs.lemmas.Bool.Decides.{nat_tests}
 use Rattle.std.proofs.lemmas.List.{get_or_past}
 use Rattle.std.proofs.lemmas.Int.Digits.{digits_value_more}
-use Rattle.std.proofs.lemmas.Str.Parse.{digits_value-take-le, digit_at}
-use Rattle.std.specs.Str.Parse.{digits_value, AllDigits}
+use Rattle.std.proofs.lemmas.Str.Parse.{digits_value-take-le}
+use Rattle.std.specs.Str.Parse.{digits_value}
 use Rattle.std.specs.Char.{digit_value}
-use Rattle.std.specs.Prelude.{IsTrue}
 use Rattle.text_lex.specs.Octets.{is_word_octet}
 use Rattle.text_lex.specs.Lexemes.{WordRest, StringRest}
 use Rattle.text_lex.specs.Lexemes.WordRest.{ends, octet, hyphen}

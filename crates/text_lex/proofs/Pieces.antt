@@ -1,15 +1,13 @@
 -- What an octet begins decides which tokens may stand there.
-use Rattle.std.proofs.Common.{◌≡◌, ◌≢◌, ℕ, ◌+◌, ◌<◌, ◌≤◌, ◌⊎◌, ◌^◌, Bool, true, false, List, length, slice_index, slice_range, refl, sym, ap, subst, arith, ◌∙◌, ⊎_elim, inl, inr}
-use Rattle.std.specs.Prelude.{◌==◌, IsTrue}
-use Rattle.std.proofs.lemmas.Bool.{both_ways, or_cases, or_parts, eqb-true, eq-eqb, and_from, cases_order, false≢true}
+use Rattle.std.proofs.Common.{◌≡◌, ◌≢◌, ℕ, ◌+◌, ◌<◌, ◌⊎◌, ◌^◌, Bool, true, false, List, length, slice_index, slice_range, refl, sym, ap, subst, arith, ◌∙◌, ⊎_elim, inl, inr}
+use Rattle.std.proofs.lemmas.Bool.{both_ways, or_cases, eqb-true, cases_order, false≢true}
 use Rattle.std.specs.Str.Parse.{digits_value}
 use Rattle.text_lex.specs.Octets.{start_of, is_one_of}
-use Rattle.text_lex.specs.Comments.{AreHyphens, CommentRest}
+use Rattle.text_lex.specs.Comments.{AreHyphens}
 use Rattle.text_lex.specs.Lexemes.{WordRest, StringRest, IsRun, IsQuotedRun, IsSign, Spells}
 use Rattle.text_lex.specs.Lexemes.Spells.{word, number, string, hexadecimal, binary, sign}
-use Rattle.text_lex.specs.Pieces.{IsGap, IsLexeme, IsFault, IsPiece, fault_of}
+use Rattle.text_lex.specs.Pieces.{IsFault, fault_of}
 use Rattle.text_lex.specs.Pieces.IsGap.{blank, comment}
-use Rattle.text_lex.specs.declared.lex_refusal.LexKind.TheVariants.{BadByte, OpenString, BadNumber, BadBits}
 use Rattle.text_lex.specs.declared.lexing_octets.Start.{Start}
 use Rattle.text_lex.specs.declared.lexing_octets.Start.TheVariants.{Blank, Delimiter, Letter, Digit, Apostrophe, Sign, Nothing}
 use Rattle.text_lex.specs.declared.lexing_octets.TheConstants.{DIGITS, HEX_DIGITS, BITS, HEX_SUFFIX, BIT_SUFFIX, APOSTROPHE}

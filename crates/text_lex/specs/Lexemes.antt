@@ -1,5 +1,5 @@
 -- The forms of tokens at a place of a text: X.722, section 8.2; X.680, section 12.
-use Rattle.std.specs.Prelude.{◌≡◌, ℕ, ◌+◌, ◌<◌, ◌≤◌, ◌^◌, ◌≢◌, ◌⊎◌, List, Bool, length, slice_index, slice_range, IsTrue}
+use Rattle.std.specs.Prelude.{◌≡◌, ℕ, ◌+◌, ◌<◌, ◌≤◌, ◌^◌, ◌≢◌, List, Bool, length, slice_index, slice_range, IsTrue}
 use Rattle.std.specs.Str.Parse.{digits_value}
 use Rattle.text_lex.specs.Octets.{is_one_of, is_word_octet, start_of}
 use Rattle.text_lex.specs.declared.lexing_octets.Start.TheVariants.{Delimiter, Letter, Digit, Apostrophe, Sign}

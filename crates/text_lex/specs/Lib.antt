@@ -3,3 +3,4 @@ pub mod Octets
 pub mod Comments
 pub mod Lexemes
 pub mod Pieces
+pub mod Lexed
