@@ -5,3 +5,4 @@ pub mod Ends
 pub mod Once
 pub mod Pieces
 pub mod Reading
+pub mod Slices

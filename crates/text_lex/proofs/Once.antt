@@ -1,5 +1,5 @@
 -- At each place stands one thing: the end, one gap, one token or one fault.
-use Rattle.std.proofs.Common.{◌≡◌, ℕ, ◌+◌, Bool, true, false, List, ◌∷◌, length, slice_index, slice_range, refl, sym, ap, subst, arith, ◌∙◌, ⊎_elim}
+use Rattle.std.proofs.Common.{◌≡◌, ◌≤◌, ℕ, ◌+◌, Bool, true, false, List, ◌∷◌, length, slice_index, slice_range, refl, sym, ap, subst, arith, ◌∙◌, ⊎_elim}
 use Rattle.std.proofs.lemmas.List.{get_or_past}
 use Rattle.text_lex.specs.Octets.{start_of, is_one_of}
 use Rattle.text_lex.specs.Comments.{AreHyphens, CommentRest}
@@ -31,8 +31,8 @@ hyphens_are_no_blank : (text : List ℕ) (announced : Bool) (i : ℕ) → AreHyp
 hyphens_are_no_blank text announced i are_hyphens is_blank =
     let is_sign = ap (start_of announced) are_hyphens.0 ∙ hyphen_is_sign announced in cc
 
-past_is_nothing : (text : List ℕ) (announced : Bool) (i : ℕ) → i ≡ length text → start_of announced (slice_index text i) ≡ Nothing
-past_is_nothing text announced i past = ap (start_of announced) (get_or_past text i 0 (omega arith)) ∙ end_is_nothing announced
+pub past_is_nothing : (text : List ℕ) (announced : Bool) (i : ℕ) → length text ≤ i → start_of announced (slice_index text i) ≡ Nothing
+past_is_nothing text announced i past = ap (start_of announced) (get_or_past text i 0 past) ∙ end_is_nothing announced
 
 comment_once : (text : List ℕ) (i j k : ℕ) → CommentRest text i j → CommentRest text i k → j ≡ k
 comment_once text i j k (hyphens are j_is) (hyphens _ k_is) = j_is ∙ sym k_is
@@ -96,11 +96,11 @@ no_token text announced i k m first (comment are _) one = one.lexeme.no_comment 
 
 -- behind the end stands nothing
 end_no_gap : (text : List ℕ) (announced : Bool) (i k : ℕ) → i ≡ length text → IsGap text announced i k → ⊥
-end_no_gap text announced i k past (blank is_blank _) = let nothing = past_is_nothing text announced i past in cc
+end_no_gap text announced i k past (blank is_blank _) = let nothing = past_is_nothing text announced i (omega arith) in cc
 end_no_gap text announced i k past (comment are _) = let h = are.0 in let zero : slice_index text i ≡ 0 = get_or_past text i 0 (omega arith) in omega arith
 
 end_no_token : (text : List ℕ) (announced : Bool) (i k : ℕ) (first : Token) → i ≡ length text → IsToken text announced i k first → ⊥
-end_no_token text announced i k first past one = spelt_nothing text announced first.kind i k (past_is_nothing text announced i past) one.lexeme.spelt
+end_no_token text announced i k first past one = spelt_nothing text announced first.kind i k (past_is_nothing text announced i (omega arith)) one.lexeme.spelt
 
 -- a text has one list of tokens
 pub tokens_once : (text : List ℕ) (before : List Token) (i : ℕ) (first second : List Token) → Lexed text before i first → Lexed text before i second → first ≡ second

@@ -4,3 +4,5 @@ pub mod Comments
 pub mod Lexemes
 pub mod Pieces
 pub mod Lexed
+pub mod Slices
+pub mod Laws

@@ -1,7 +1,8 @@
 //! The tokens of a document: X.722, section 8.2; X.680, section 12.
 
-ghost use Rattle.std.specs.Prelude.{◌≡◌, reverse, IfOk, IfErr};
+ghost use Rattle.std.specs.Prelude.{◌≡◌, reverse, IfOk, IfErr, All, AllPairs};
 ghost use Rattle.text_lex.specs.Lexed.{is_word, announces, AreTokensOf, IsRefused};
+ghost use Rattle.text_lex.specs.Slices.{IsSlice, EndsBefore};
 
 use super::bytes::Bytes;
 use super::lex_refusal::LexRefusal;
@@ -48,6 +49,8 @@ fn announce_string(tokens: &[Token]) -> bool
 /// Cuts a document into its tokens, in order; white space and comments between them are left out.
 pub fn lex(alloc: Global, bytes: &[u8]) -> Result<Vec<Token>, LexRefusal>
     ensures tokens { IfOk result (λ tokens. AreTokensOf bytes.now tokens.items) }
+    ensures slices { IfOk result (λ tokens. All (IsSlice bytes.now) tokens.items) }
+    ensures rising { IfOk result (λ tokens. AllPairs EndsBefore tokens.items) }
 
     // A fault comes exactly where no tokens make up the document, and is the first.
     ensures refused { IfErr result (IsRefused bytes.now) }

@@ -2,6 +2,7 @@
 use Rattle.std.proofs.Common.{reverse, refl, ap, ◌∙◌}
 use Rattle.text_lex.specs.Lexed.{announces}
 use Rattle.text_lex.proofs.Reading.{read_none, read_gap, read_token, read_all, read_fault}
+use Rattle.text_lex.proofs.Slices.{tokens_slices}
 use Rattle.text_lex.proofs.lexing.lex.Goals as goal
 
 pub loop-at-init : goal.loop-at-init
@@ -24,3 +25,9 @@ returns-in-Wrong-clause-refused c = read_fault _ _ _ _ _ c.loop-at.invariant c.i
 
 pub returns-clause-tokens : goal.returns-clause-tokens
 returns-clause-tokens c = read_all _ _ _ _ c.loop-at.invariant c.loop-at-test.false
+
+pub returns-clause-slices : goal.returns-clause-slices
+returns-clause-slices c = (tokens_slices _ _ _ _ (read_all _ _ _ _ c.loop-at.invariant c.loop-at-test.false)).slices
+
+pub returns-clause-rising : goal.returns-clause-rising
+returns-clause-rising c = (tokens_slices _ _ _ _ (read_all _ _ _ _ c.loop-at.invariant c.loop-at-test.false)).rising
