@@ -7,17 +7,16 @@ use Rattle.std.proofs.lemmas.Int.Digits.{digits_value_more}
 use Rattle.std.proofs.lemmas.Str.Parse.{digits_value-take-le}
 use Rattle.std.specs.Str.Parse.{digits_value}
 use Rattle.std.specs.Char.{digit_value}
-use Rattle.text_lex.specs.Octets.{is_word_octet}
+use Rattle.text_lex.specs.Octets.{is_word_octet, hyphen_octet}
 use Rattle.text_lex.specs.Lexemes.{WordRest, StringRest}
 use Rattle.text_lex.specs.Lexemes.WordRest.{ends, octet, hyphen}
 use Rattle.text_lex.specs.Lexemes.StringRest.{octet as plain, doubled, ends as closes}
-use Rattle.text_lex.specs.declared.lexing_octets.TheConstants.{HYPHEN}
 
 -- the octets behind the end are 0, so what 0 is not stands within
 pub octet_inside : (test : ℕ → Bool) (text : List ℕ) (i : ℕ) → test 0 ≡ false → test (slice_index text i) ≡ true → i < length text
 octet_inside test text i at_zero at_octet = ⊎_elim (λ below. below) (λ past. absurd (both_ways _ (ap test (get_or_past text i 0 past) ∙ at_zero) at_octet)) (cases_lt i (length text))
 
-pub hyphen_is_no_word_octet : is_word_octet HYPHEN ≡ false
+pub hyphen_is_no_word_octet : is_word_octet hyphen_octet ≡ false
 unfolding is_word_octet
 hyphen_is_no_word_octet = refl
 

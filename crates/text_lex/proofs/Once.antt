@@ -1,7 +1,7 @@
 -- At each place stands one thing: the end, one gap, one token or one fault.
 use Rattle.std.proofs.Common.{◌≡◌, ◌≤◌, ℕ, ◌+◌, Bool, true, false, List, ◌∷◌, length, slice_index, slice_range, refl, sym, ap, subst, arith, ◌∙◌, ⊎_elim}
 use Rattle.std.proofs.lemmas.List.{get_or_past}
-use Rattle.text_lex.specs.Octets.{start_of, is_one_of}
+use Rattle.text_lex.specs.Octets.{start_of, is_one_of, hyphen_octet, hexadecimal_digits, binary_digits, hexadecimal_suffix, binary_suffix}
 use Rattle.text_lex.specs.Comments.{AreHyphens, CommentRest}
 use Rattle.text_lex.specs.Comments.CommentRest.{hyphens, line_end, text_end, octet}
 use Rattle.text_lex.specs.Lexemes.{IsQuotedRun, Spells}
@@ -14,10 +14,9 @@ use Rattle.text_lex.specs.Lexed.Breaks.{here, gap as past_gap, token as past_tok
 use Rattle.text_lex.specs.declared.token.Token.{Token}
 use Rattle.text_lex.specs.declared.lex_refusal.LexKind.{LexKind}
 use Rattle.text_lex.specs.declared.lexing_octets.Start.TheVariants.{Blank, Sign, Nothing}
-use Rattle.text_lex.specs.declared.lexing_octets.TheConstants.{HYPHEN, HEX_DIGITS, BITS, HEX_SUFFIX, BIT_SUFFIX}
 use Rattle.text_lex.proofs.Pieces.{spelt_word, spelt_number, spelt_string, spelt_bits, spelt_sign, spelt_nothing, spelt_blank, bits_run}
 
-hyphen_is_sign : (announced : Bool) → start_of announced HYPHEN ≡ Sign
+hyphen_is_sign : (announced : Bool) → start_of announced hyphen_octet ≡ Sign
 unfolding start_of is_one_of
 hyphen_is_sign true = refl
 hyphen_is_sign false = refl
@@ -59,7 +58,7 @@ gap_once text announced i j k (comment are _) (blank is_blank k_is) = absurd (hy
 gap_once text announced i j k (comment _ rest) (comment _ again) = comment_once text (i + 2) j k rest again
 
 -- a run in apostrophes has one suffix
-suffix_once : (text : List ℕ) (i k m : ℕ) → IsQuotedRun HEX_DIGITS.now text HEX_SUFFIX i k → IsQuotedRun BITS.now text BIT_SUFFIX i m → ⊥
+suffix_once : (text : List ℕ) (i k m : ℕ) → IsQuotedRun hexadecimal_digits text hexadecimal_suffix i k → IsQuotedRun binary_digits text binary_suffix i m → ⊥
 suffix_once text i k m hex bits =
     let same = bits_run text (i + 1) bits.stop hex.stop bits.run bits.apostrophe hex.run in
     let suffix = ap (λ n. slice_index text (n + 1)) same in

@@ -7,5 +7,4 @@ pub fn tokens_are_determined()
     ensures one_list { OneListOfTokens }
     ensures one_fault { OneFirstFault }
     ensures never_both { NeverTokensAndFault }
-{
-}
+{}
