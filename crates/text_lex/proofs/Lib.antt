@@ -6,3 +6,4 @@ pub mod Once
 pub mod Pieces
 pub mod Reading
 pub mod Slices
+pub mod StandardFacts

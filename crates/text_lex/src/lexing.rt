@@ -46,7 +46,11 @@ fn announce_string(tokens: &[Token]) -> bool
         | (is_word(previous, PRESENT) & is_word(last, IF))
 }
 
-/// Cuts a document into its tokens, in order; white space and comments between them are left out.
+/// Cuts a document into its tokens, in order; white space and comments between them are left out. The
+/// octets are read once.
+///
+/// A fault's place is the first octet of what is in hand there, counted from 0: a string without its end,
+/// a number past 64 bits, a `'..'H` or `'..'B` that is none, or an octet that begins no token.
 pub fn lex(alloc: Global, bytes: &[u8]) -> Result<Vec<Token>, LexRefusal>
     ensures tokens { IfOk result (λ tokens. AreTokensOf bytes.now tokens.items) }
     ensures slices { IfOk result (λ tokens. All (IsSlice bytes.now) tokens.items) }
@@ -72,10 +76,8 @@ pub fn lex(alloc: Global, bytes: &[u8]) -> Result<Vec<Token>, LexRefusal>
                 at = end;
             }
             Piece::Wrong { kind } => {
-                return Err(LexRefusal::Fault {
-                    at: at as u64,
-                    kind,
-                });
+                let place = at as u64;
+                return Err(LexRefusal::Fault { at: place, kind });
             }
         }
     }
