@@ -8,7 +8,7 @@ use std::test::Fail;
 
 /// Texts with their tokens, each as its kind, its place, a space, its octets and a bar; or with their
 /// fault and its place.
-const CASES: [(&str, &str); 66] = [
+const CASES: [(&str, &str); 78] = [
     // words and comments
     ("", ""),
     (" \t\r\n", ""),
@@ -82,8 +82,21 @@ const CASES: [(&str, &str); 66] = [
     ("'01'", "BadBits at 0"),
     ("'2'B", "BadBits at 0"),
     ("x 'af'H", "BadBits at 2"),
+    ("'0'h", "BadBits at 0"),
+    ("'0 1'B", "BadBits at 0"),
+    ("x '1'X y", "BadBits at 2"),
     ("x '", "BadBits at 2"),
+    // octets that begin no token
+    ("\0", "BadByte at 0"),
+    ("a \u{7f} b", "BadByte at 2"),
     ("a \0", "BadByte at 2"),
+    ("a/ /", "BadByte at 3"),
+    ("a_b", "BadByte at 1"),
+    ("1+2", "BadByte at 1"),
+    ("a <", "BadByte at 2"),
+    ("~", "BadByte at 0"),
+    ("\u{e9}", "BadByte at 0"),
+    ("\"\u{e9}\0\" --\u{e9}\0--", "2@0 \"\u{e9}\0\"|"),
 ];
 
 fn shown(alloc: Global, text: &[u8]) -> Result<String, AllocError> {
