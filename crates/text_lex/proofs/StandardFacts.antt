@@ -1,23 +1,23 @@
 -- Examples of the definitions, computed: X.722, section 8.2; X.680, section 12.
-use Rattle.std.proofs.Common.{◌≡◌, ◌≢◌, ℕ, ◌+◌, ◌<◌, ◌≤◌, Bool, true, false, List, [], ◌∷◌, length, slice_index, lit<, lit≤, refl, sym, ap, arith, ◌∙◌, ⊎_elim}
+use Rattle.std.proofs.Common.{◌≡◌, ℕ, ◌≤◌, Bool, true, false, List, [], ◌∷◌, lit<, lit≤, refl, arith}
 use Rattle.std.specs.Prelude.{codes}
 use Rattle.std.proofs.lemmas.Bool.{false≢true}
-use Rattle.text_lex.specs.Octets.{is_one_of, is_word_octet, start_of, quotation_octet, decimal_digits, hexadecimal_digits, hyphen_octet}
-use Rattle.text_lex.specs.Comments.{AreHyphens, CommentRest}
-use Rattle.text_lex.specs.Comments.CommentRest.{hyphens, line_end, text_end, octet as comment_octet}
-use Rattle.text_lex.specs.Lexemes.{WordRest, StringRest, IsRun, IsQuotedRun, IsSign, Spells}
+use Rattle.text_lex.specs.Octets.{is_one_of, is_word_octet, start_of, quotation_octet}
+use Rattle.text_lex.specs.Comments.{CommentRest}
+use Rattle.text_lex.specs.Comments.CommentRest.{hyphens, octet as comment_octet}
+use Rattle.text_lex.specs.Lexemes.{WordRest, StringRest, IsSign}
 use Rattle.text_lex.specs.Lexemes.WordRest.{ends as word_ends, octet as word_octet, hyphen as word_hyphen}
 use Rattle.text_lex.specs.Lexemes.StringRest.{octet as string_octet, doubled, ends as string_ends}
-use Rattle.text_lex.specs.Lexemes.IsSign.{assignment, range, single}
-use Rattle.text_lex.specs.Lexemes.Spells.{word, number, string, hexadecimal, binary, sign}
-use Rattle.text_lex.specs.Pieces.{IsGap, IsLexeme, IsFault}
+use Rattle.text_lex.specs.Lexemes.IsSign.{assignment}
+use Rattle.text_lex.specs.Lexemes.Spells.{word}
+use Rattle.text_lex.specs.Pieces.{IsGap}
 use Rattle.text_lex.specs.Pieces.IsGap.{blank, comment}
-use Rattle.text_lex.specs.Lexed.{is_word, announces, IsToken, AreTokensOf, Lexed, Breaks}
+use Rattle.text_lex.specs.Lexed.{is_word, announces, IsToken, AreTokensOf, Breaks}
 use Rattle.text_lex.specs.Lexed.Lexed.{ended, gap, token}
 use Rattle.text_lex.specs.Lexed.Breaks.{here}
 use Rattle.text_lex.specs.declared.token.Token.{Token}
 use Rattle.text_lex.specs.declared.token.TheConstants.{WORD}
-use Rattle.text_lex.specs.declared.lexing_octets.Start.TheVariants.{Letter, Delimiter, Apostrophe, Nothing}
+use Rattle.text_lex.specs.declared.lexing_octets.Start.TheVariants.{Delimiter, Nothing}
 use Rattle.text_lex.specs.declared.lex_refusal.LexKind.TheVariants.{BadByte}
 use Rattle.text_lex.proofs.Pieces.{spelt_word, spelt_nothing}
 
