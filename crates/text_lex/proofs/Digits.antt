@@ -1,17 +1,16 @@
 -- Digits of a text are digits of a number.
-use Rattle.std.proofs.Common.{◌≡◌, ◌≢◌, ℕ, ◌+◌, ◌-◌, ◌<◌, ◌≤◌, Bool, true, false, cond, List, [], ◌∷◌, length, get_or, slice_index, slice_range, take, drop, refl, sym, ap, subst, arith, ◌∙◌, ⊎_elim, rules, get_or-drop, get_or-take, length-take, length-drop}
-use Rattle.std.proofs.lemmas.Bool.{both_ways, or_cases, eqb-true, false≢true}
-use Rattle.std.proofs.lemmas.Str.Parse.{numerals_by_value, tells_by_index, IsNumeralModel}
-use Rattle.std.specs.Prelude.{◌==◌, ◌&&◌, IsTrue}
+use Rattle.std.proofs.Common.{◌≡◌, ◌≢◌, ℕ, ◌+◌, ◌-◌, ◌<◌, Bool, true, false, cond, List, [], ◌∷◌, length, get_or, slice_index, slice_range, refl, sym, subst, arith, ⊎_elim, rules, get_or-drop, get_or-take, length-take, length-drop}
+use Rattle.std.proofs.lemmas.Bool.{or_cases, eqb-true, false≢true}
+use Rattle.std.proofs.lemmas.Str.Parse.{numerals_by_value, tells_by_index}
+use Rattle.std.specs.Prelude.{◌==◌, ◌&&◌}
 use Rattle.std.specs.Char.{is_ascii_alphabetic}
 use Rattle.std.specs.List.{list_any}
 use Rattle.std.specs.Int.{IsInRange}
 use Rattle.std.specs.Str.Parse.{AllDigits}
-use Rattle.text_lex.specs.Octets.{is_one_of, start_of}
+use Rattle.text_lex.specs.Octets.{is_one_of, start_of, decimal_digits, blank_octets, delimiter_octets, sign_octets, quotation_octet, apostrophe_octet}
 use Rattle.text_lex.specs.declared.lexing_octets.Start.{Start}
 use Rattle.text_lex.specs.declared.lexing_octets.Start.TheVariants.{Blank, Delimiter, Letter, Digit, Apostrophe, Sign, Nothing}
 use Rattle.text_lex.specs.Lexemes.{IsRun}
-use Rattle.text_lex.specs.declared.lexing_octets.TheConstants.{DIGITS, BLANKS, DELIMITERS, SIGNS, QUOTATION_MARK, APOSTROPHE}
 
 abbrev EachInRange : ℕ → ℕ → List ℕ → Type 0
 EachInRange low high [] = Unit {0}
@@ -22,12 +21,12 @@ any_in_range low high octet [] each found = absurd (false≢true found)
 any_in_range low high octet (x ∷ xs) each found =
     ⊎_elim (λ here. subst (IsInRange low high) (eqb-true x octet here) each.0) (λ later. any_in_range low high octet xs each.1 later) (or_cases _ _ found)
 
-pub digit_in_range : (octet : ℕ) → is_one_of DIGITS.now octet ≡ true → IsInRange 48 57 octet
+pub digit_in_range : (octet : ℕ) → is_one_of decimal_digits octet ≡ true → IsInRange 48 57 octet
 unfolding is_one_of
-digit_in_range octet found = any_in_range 48 57 octet DIGITS.now (search rules) found
+digit_in_range octet found = any_in_range 48 57 octet decimal_digits (search rules) found
 
 -- a run of digits is read as a number
-pub run_all_digits : (text : List ℕ) (i k : ℕ) → IsRun DIGITS.now text i k → AllDigits 10 (slice_range text i k)
+pub run_all_digits : (text : List ℕ) (i k : ℕ) → IsRun decimal_digits text i k → AllDigits 10 (slice_range text i k)
 run_all_digits text i k run =
     (numerals_by_value _ tells_by_index).to (slice_range text i k) (λ m lt.
     let len : length (slice_range text i k) ≡ k - i = simp (length-take, length-drop) (omega arith) in
@@ -58,11 +57,11 @@ letter_is_no_digit : Letter ≢ Digit
 letter_is_no_digit = λ e. cc
 
 -- what begins as a digit is one
-pub digit_begins : (announced : Bool) (octet : ℕ) → start_of announced octet ≡ Digit → is_one_of DIGITS.now octet ≡ true
+pub digit_begins : (announced : Bool) (octet : ℕ) → start_of announced octet ≡ Digit → is_one_of decimal_digits octet ≡ true
 unfolding start_of
 digit_begins announced octet begins =
-    held_cond _ _ (no_digit (octet == APOSTROPHE) (is_one_of SIGNS.now octet))
+    held_cond _ _ (no_digit (octet == apostrophe_octet) (is_one_of sign_octets octet))
     (past_cond (is_ascii_alphabetic octet) _ _ letter_is_no_digit
-    (past_cond (announced && is_one_of DELIMITERS.now octet) _ _ delimiter_is_no_digit
-    (past_cond (octet == QUOTATION_MARK) _ _ delimiter_is_no_digit
-    (past_cond (is_one_of BLANKS.now octet) _ _ blank_is_no_digit begins))))
+    (past_cond (announced && is_one_of delimiter_octets octet) _ _ delimiter_is_no_digit
+    (past_cond (octet == quotation_octet) _ _ delimiter_is_no_digit
+    (past_cond (is_one_of blank_octets octet) _ _ blank_is_no_digit begins))))

@@ -1,24 +1,22 @@
 -- Steps through comments, words, strings and runs.
-use Rattle.std.proofs.Common.{◌≡◌, ◌≢◌, ℕ, ◌+◌, ◌*◌, ◌<◌, ◌≤◌, ◌⊎◌, Bool, true, false, List, length, slice_index, take, get_or, refl, sym, ap, subst, arith, ◌∙◌, ⊎_elim}
+use Rattle.std.proofs.Common.{◌≡◌, ◌≢◌, ℕ, ◌+◌, ◌*◌, ◌<◌, ◌≤◌, Bool, true, false, List, length, slice_index, take, get_or, refl, sym, ap, arith, ◌∙◌, ⊎_elim}
 use Rattle.std.proofs.lemmas.Bool.{both_ways, cases_lt}
 use Rattle.std.proofs.lemmas.Bool.Decides.{nat_tests}
 use Rattle.std.proofs.lemmas.List.{get_or_past}
 use Rattle.std.proofs.lemmas.Int.Digits.{digits_value_more}
-use Rattle.std.proofs.lemmas.Str.Parse.{digits_value-take-le, digit_at}
-use Rattle.std.specs.Str.Parse.{digits_value, AllDigits}
+use Rattle.std.proofs.lemmas.Str.Parse.{digits_value-take-le}
+use Rattle.std.specs.Str.Parse.{digits_value}
 use Rattle.std.specs.Char.{digit_value}
-use Rattle.std.specs.Prelude.{IsTrue}
-use Rattle.text_lex.specs.Octets.{is_word_octet}
+use Rattle.text_lex.specs.Octets.{is_word_octet, hyphen_octet}
 use Rattle.text_lex.specs.Lexemes.{WordRest, StringRest}
 use Rattle.text_lex.specs.Lexemes.WordRest.{ends, octet, hyphen}
 use Rattle.text_lex.specs.Lexemes.StringRest.{octet as plain, doubled, ends as closes}
-use Rattle.text_lex.specs.declared.lexing_octets.TheConstants.{HYPHEN}
 
 -- the octets behind the end are 0, so what 0 is not stands within
 pub octet_inside : (test : ℕ → Bool) (text : List ℕ) (i : ℕ) → test 0 ≡ false → test (slice_index text i) ≡ true → i < length text
 octet_inside test text i at_zero at_octet = ⊎_elim (λ below. below) (λ past. absurd (both_ways _ (ap test (get_or_past text i 0 past) ∙ at_zero) at_octet)) (cases_lt i (length text))
 
-pub hyphen_is_no_word_octet : is_word_octet HYPHEN ≡ false
+pub hyphen_is_no_word_octet : is_word_octet hyphen_octet ≡ false
 unfolding is_word_octet
 hyphen_is_no_word_octet = refl
 

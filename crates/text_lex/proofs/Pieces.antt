@@ -1,18 +1,15 @@
 -- What an octet begins decides which tokens may stand there.
-use Rattle.std.proofs.Common.{◌≡◌, ◌≢◌, ℕ, ◌+◌, ◌<◌, ◌≤◌, ◌⊎◌, ◌^◌, Bool, true, false, List, length, slice_index, slice_range, refl, sym, ap, subst, arith, ◌∙◌, ⊎_elim, inl, inr}
-use Rattle.std.specs.Prelude.{◌==◌, IsTrue}
-use Rattle.std.proofs.lemmas.Bool.{both_ways, or_cases, or_parts, eqb-true, eq-eqb, and_from, cases_order, false≢true}
+use Rattle.std.proofs.Common.{◌≡◌, ◌≢◌, ℕ, ◌+◌, ◌<◌, ◌⊎◌, ◌^◌, Bool, true, false, List, length, slice_index, slice_range, refl, sym, ap, subst, arith, ◌∙◌, ⊎_elim, inl, inr}
+use Rattle.std.proofs.lemmas.Bool.{both_ways, or_cases, eqb-true, cases_order, false≢true}
 use Rattle.std.specs.Str.Parse.{digits_value}
-use Rattle.text_lex.specs.Octets.{start_of, is_one_of}
-use Rattle.text_lex.specs.Comments.{AreHyphens, CommentRest}
+use Rattle.text_lex.specs.Octets.{start_of, is_one_of, decimal_digits, hexadecimal_digits, binary_digits, hexadecimal_suffix, binary_suffix, apostrophe_octet}
+use Rattle.text_lex.specs.Comments.{AreHyphens}
 use Rattle.text_lex.specs.Lexemes.{WordRest, StringRest, IsRun, IsQuotedRun, IsSign, Spells}
 use Rattle.text_lex.specs.Lexemes.Spells.{word, number, string, hexadecimal, binary, sign}
-use Rattle.text_lex.specs.Pieces.{IsGap, IsLexeme, IsFault, IsPiece, fault_of}
+use Rattle.text_lex.specs.Pieces.{IsFault, fault_of}
 use Rattle.text_lex.specs.Pieces.IsGap.{blank, comment}
-use Rattle.text_lex.specs.declared.lex_refusal.LexKind.TheVariants.{BadByte, OpenString, BadNumber, BadBits}
 use Rattle.text_lex.specs.declared.lexing_octets.Start.{Start}
 use Rattle.text_lex.specs.declared.lexing_octets.Start.TheVariants.{Blank, Delimiter, Letter, Digit, Apostrophe, Sign, Nothing}
-use Rattle.text_lex.specs.declared.lexing_octets.TheConstants.{DIGITS, HEX_DIGITS, BITS, HEX_SUFFIX, BIT_SUFFIX, APOSTROPHE}
 use Rattle.text_lex.specs.declared.token.TheConstants.{WORD, NUMBER, STRING, HEX_STRING, BIT_STRING, SIGN}
 
 module _ (text : List ℕ) (announced : Bool) (kind i k : ℕ) where
@@ -24,7 +21,7 @@ module _ (text : List ℕ) (announced : Bool) (kind i k : ℕ) where
   spelt_word start (binary _ other _) = absurd (cc)
   spelt_word start (sign _ other _) = absurd (cc)
 
-  pub spelt_number : start_of announced (slice_index text i) ≡ Digit → Spells text announced kind i k → (kind ≡ NUMBER) × IsRun DIGITS.now text i k × (digits_value 10 (slice_range text i k) < 2 ^ 64)
+  pub spelt_number : start_of announced (slice_index text i) ≡ Digit → Spells text announced kind i k → (kind ≡ NUMBER) × IsRun decimal_digits text i k × (digits_value 10 (slice_range text i k) < 2 ^ 64)
   spelt_number start (word _ other _) = absurd (cc)
   spelt_number start (number is_kind _ run fits) = (is_kind, run, fits)
   spelt_number start (string _ other _) = absurd (cc)
@@ -40,7 +37,7 @@ module _ (text : List ℕ) (announced : Bool) (kind i k : ℕ) where
   spelt_string start (binary _ other _) = absurd (cc)
   spelt_string start (sign _ other _) = absurd (cc)
 
-  pub spelt_bits : start_of announced (slice_index text i) ≡ Apostrophe → Spells text announced kind i k → ((kind ≡ HEX_STRING) × IsQuotedRun HEX_DIGITS.now text HEX_SUFFIX i k) ⊎ ((kind ≡ BIT_STRING) × IsQuotedRun BITS.now text BIT_SUFFIX i k)
+  pub spelt_bits : start_of announced (slice_index text i) ≡ Apostrophe → Spells text announced kind i k → ((kind ≡ HEX_STRING) × IsQuotedRun hexadecimal_digits text hexadecimal_suffix i k) ⊎ ((kind ≡ BIT_STRING) × IsQuotedRun binary_digits text binary_suffix i k)
   spelt_bits start (word _ other _) = absurd (cc)
   spelt_bits start (number _ other _ _) = absurd (cc)
   spelt_bits start (string _ other _) = absurd (cc)
@@ -88,21 +85,21 @@ run_once octets text i j k first second =
     (λ above. absurd (second.stops (omega (arith, first.within)) (first.each k second.forward above)))
     differ) (cases_order j k)
 
-bits_are_hex_digits : (octet : ℕ) → is_one_of BITS.now octet ≡ true → is_one_of HEX_DIGITS.now octet ≡ true
+bits_are_hex_digits : (octet : ℕ) → is_one_of binary_digits octet ≡ true → is_one_of hexadecimal_digits octet ≡ true
 unfolding is_one_of
 bits_are_hex_digits octet found =
-    let hex : ℕ → Type 0 = λ c. is_one_of HEX_DIGITS.now c ≡ true in
+    let hex : ℕ → Type 0 = λ c. is_one_of hexadecimal_digits c ≡ true in
     ⊎_elim (λ zero. subst hex (eqb-true 48 octet zero) refl) (λ later. ⊎_elim (λ one. subst hex (eqb-true 49 octet one) refl) (λ none_left. absurd (false≢true none_left)) (or_cases _ _ later)) (or_cases _ _ found)
 
-apostrophe_is_no_hex_digit : is_one_of HEX_DIGITS.now APOSTROPHE ≡ false
+apostrophe_is_no_hex_digit : is_one_of hexadecimal_digits apostrophe_octet ≡ false
 unfolding is_one_of
 apostrophe_is_no_hex_digit = refl
 
 -- bits up to an apostrophe are the hexadecimal digits up to there
-pub bits_run : (text : List ℕ) (i j k : ℕ) → IsRun BITS.now text i j → slice_index text j ≡ APOSTROPHE → IsRun HEX_DIGITS.now text i k → j ≡ k
+pub bits_run : (text : List ℕ) (i j k : ℕ) → IsRun binary_digits text i j → slice_index text j ≡ apostrophe_octet → IsRun hexadecimal_digits text i k → j ≡ k
 bits_run text i j k bits apostrophe hex =
     ⊎_elim (λ same. same) (λ differ. ⊎_elim
-    (λ below. absurd (both_ways _ (ap (is_one_of HEX_DIGITS.now) apostrophe ∙ apostrophe_is_no_hex_digit) (hex.each j bits.forward below)))
+    (λ below. absurd (both_ways _ (ap (is_one_of hexadecimal_digits) apostrophe ∙ apostrophe_is_no_hex_digit) (hex.each j bits.forward below)))
     (λ above. absurd (hex.stops (omega (arith, bits.within)) (bits_are_hex_digits _ (bits.each k hex.forward above))))
     differ) (cases_order j k)
 

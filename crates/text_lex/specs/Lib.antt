@@ -3,3 +3,6 @@ pub mod Octets
 pub mod Comments
 pub mod Lexemes
 pub mod Pieces
+pub mod Lexed
+pub mod Slices
+pub mod Laws

@@ -1,5 +1,5 @@
 -- What a document goes on with at a place: a gap, a token or a fault. X.722, section 8.2.
-use Rattle.std.specs.Prelude.{◌≡◌, ℕ, ◌+◌, ◌<◌, ◌≤◌, ◌⊎◌, List, Bool, length, slice_index}
+use Rattle.std.specs.Prelude.{◌≡◌, ℕ, ◌+◌, ◌<◌, ◌≤◌, List, Bool, length, slice_index}
 use Rattle.text_lex.specs.Octets.{start_of}
 use Rattle.text_lex.specs.Comments.{AreHyphens, CommentRest}
 use Rattle.text_lex.specs.Lexemes.{Spells}

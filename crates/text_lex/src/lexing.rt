@@ -1,5 +1,9 @@
 //! The tokens of a document: X.722, section 8.2; X.680, section 12.
 
+ghost use Rattle.std.specs.Prelude.{◌≡◌, reverse, IfOk, IfErr, All, AllPairs};
+ghost use Rattle.text_lex.specs.Lexed.{is_word, announces, AreTokensOf, IsRefused};
+ghost use Rattle.text_lex.specs.Slices.{IsSlice, EndsBefore};
+
 use super::bytes::Bytes;
 use super::lex_refusal::LexRefusal;
 use super::lexing_pieces::{Piece, piece_at};
@@ -17,12 +21,18 @@ const PRESENT: &[u8] = b"PRESENT";
 const IF: &[u8] = b"IF";
 
 /// Whether a token is a word of these octets.
-fn is_word(token: &Token, word: &[u8]) -> bool {
+#[tactic(auto, unfolding(crate::specs::Lexed::is_word))]
+fn is_word(token: &Token, word: &[u8]) -> bool
+    ensures { result ≡ is_word token.now word.now }
+{
     (token.kind == WORD) & (token.text.as_slice() == word)
 }
 
 /// Whether the last tokens announce a string: DESCRIPTION, DEFINED AS or PRESENT IF.
-fn announce_string(tokens: &[Token]) -> bool {
+#[tactic(auto, unfolding(crate::specs::Lexed::announces))]
+fn announce_string(tokens: &[Token]) -> bool
+    ensures { result ≡ announces (reverse tokens.now) }
+{
     let Some((last, before)) = tokens.split_last() else {
         return false;
     };
@@ -36,8 +46,19 @@ fn announce_string(tokens: &[Token]) -> bool {
         | (is_word(previous, PRESENT) & is_word(last, IF))
 }
 
-/// Cuts a document into its tokens, in order; white space and comments between them are left out.
-pub fn lex(alloc: Global, bytes: &[u8]) -> Result<Vec<Token>, LexRefusal> {
+/// Cuts a document into its tokens, in order; white space and comments between them are left out. The
+/// octets are read once.
+///
+/// A fault's place is the first octet of what is in hand there, counted from 0: a string without its end,
+/// a number past 64 bits, a `'..'H` or `'..'B` that is none, or an octet that begins no token.
+pub fn lex(alloc: Global, bytes: &[u8]) -> Result<Vec<Token>, LexRefusal>
+    ensures tokens { IfOk result (λ tokens. AreTokensOf bytes.now tokens.items) }
+    ensures slices { IfOk result (λ tokens. All (IsSlice bytes.now) tokens.items) }
+    ensures rising { IfOk result (λ tokens. AllPairs EndsBefore tokens.items) }
+
+    // A fault comes exactly where no tokens make up the document, and is the first.
+    ensures refused { IfErr result (IsRefused bytes.now) }
+{
     let mut tokens = Vec::new(alloc);
     let mut announced = false;
     let mut at = 0usize;
@@ -55,10 +76,8 @@ pub fn lex(alloc: Global, bytes: &[u8]) -> Result<Vec<Token>, LexRefusal> {
                 at = end;
             }
             Piece::Wrong { kind } => {
-                return Err(LexRefusal::Fault {
-                    at: at as u64,
-                    kind,
-                });
+                let place = at as u64;
+                return Err(LexRefusal::Fault { at: place, kind });
             }
         }
     }

@@ -6,6 +6,7 @@ pub mod bytes;
 pub mod lex_refusal;
 pub mod lexing;
 mod lexing_ends;
+pub mod lexing_laws;
 mod lexing_octets;
 mod lexing_pieces;
 pub mod syntax_refusal;

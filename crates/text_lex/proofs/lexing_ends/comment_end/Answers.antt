@@ -1,5 +1,5 @@
 -- Each step goes on with the rest of the comment.
-use Rattle.std.proofs.Common.{◌≡◌, ℕ, ◌+◌, ◌<◌, ◌≤◌, length, arith, rules, refl}
+use Rattle.std.proofs.Common.{arith, refl}
 use Rattle.std.proofs.lemmas.Bool.Decides.{not_from_Decides}
 use Rattle.text_lex.specs.Comments.CommentRest.{hyphens, line_end, text_end, octet}
 use Rattle.text_lex.proofs.lexing_ends.comment_end.Goals as goal

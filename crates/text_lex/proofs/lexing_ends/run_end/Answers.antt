@@ -1,5 +1,5 @@
 -- At the end of the text the run stops.
-use Rattle.std.proofs.Common.{◌≡◌, ℕ, ◌+◌, ◌<◌, ◌≤◌, length, arith, rules, refl}
+use Rattle.std.proofs.Common.{arith}
 use Rattle.text_lex.proofs.lexing_ends.run_end.Goals as goal
 
 pub returns-clause-run : goal.returns-clause-run

@@ -1,7 +1,7 @@
 -- Each step goes on with the rest of the string, both ways.
-use Rattle.std.proofs.Common.{◌≡◌, ℕ, ◌+◌, ◌<◌, ◌≤◌, length, arith, refl, sym, ◌∙◌}
+use Rattle.std.proofs.Common.{arith, refl, sym, ◌∙◌}
 use Rattle.text_lex.specs.Lexemes.StringRest.{octet, doubled, ends}
-use Rattle.text_lex.proofs.Ends.{string_step, doubled_step, string_past}
+use Rattle.text_lex.proofs.Ends.{string_step, doubled_step}
 use Rattle.text_lex.proofs.lexing_ends.string_end.Goals as goal
 
 pub loop-at-preserved-then-text-at : goal.loop-at-preserved-then-text-at

@@ -1,8 +1,7 @@
 -- Each step goes on with the rest, both ways.
-use Rattle.std.proofs.Common.{◌≡◌, ℕ, ◌+◌, ◌<◌, ◌≤◌, true, false, length, arith, rules, refl, sym, ap, ◌∙◌, ⊎_elim}
-use Rattle.std.proofs.lemmas.Bool.{and_parts, and_cases, both_ways, eqb-true, eqb-false, cases_lt}
+use Rattle.std.proofs.Common.{◌+◌, arith, refl, sym, ap, ◌∙◌, ⊎_elim}
+use Rattle.std.proofs.lemmas.Bool.{and_parts, eqb-true, cases_lt}
 use Rattle.text_lex.specs.Octets.{is_word_octet}
-use Rattle.text_lex.specs.Lexemes.{WordRest}
 use Rattle.text_lex.specs.Lexemes.WordRest.{ends, octet, hyphen}
 use Rattle.text_lex.proofs.Ends.{octet_inside, word_step, hyphen_step, word_past, nothing_is_no_word_octet}
 use Rattle.text_lex.proofs.lexing_ends.word_end.Goals as goal

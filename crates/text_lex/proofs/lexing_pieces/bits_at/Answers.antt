@@ -1,5 +1,5 @@
 -- Neither a hexadecimal nor a binary string stands where both tests failed.
-use Rattle.std.proofs.Common.{◌≡◌, ℕ, ◌+◌, slice_index, refl, sym, ap, ◌∙◌, ⊎_elim}
+use Rattle.std.proofs.Common.{◌+◌, slice_index, ap, ◌∙◌, ⊎_elim}
 use Rattle.std.proofs.lemmas.Bool.{both_ways, and_from, eq-eqb}
 use Rattle.text_lex.specs.declared.lexing_octets.Start.TheVariants.{Apostrophe}
 use Rattle.text_lex.proofs.Pieces.{fault_at, spelt_bits, run_once}

@@ -1,5 +1,5 @@
 -- A run of digits spells a number.
-use Rattle.std.proofs.Common.{◌≡◌, ℕ, ◌+◌, ◌≤◌, arith, refl}
+use Rattle.std.proofs.Common.{arith, refl}
 use Rattle.text_lex.specs.Lexemes.Spells.{number}
 use Rattle.text_lex.proofs.Digits.{run_all_digits, digit_begins}
 use Rattle.text_lex.proofs.Pieces.{run_once, run_forward, spelt_number}

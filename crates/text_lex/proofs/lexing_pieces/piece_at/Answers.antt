@@ -1,5 +1,5 @@
 -- The longest sign is the token where an octet begins one.
-use Rattle.std.proofs.Common.{◌≡◌, ℕ, ◌+◌, ◌≤◌, arith, refl, sym}
+use Rattle.std.proofs.Common.{refl, sym}
 use Rattle.std.proofs.lemmas.Bool.Decides.{not_from_Decides}
 use Rattle.text_lex.specs.Lexemes.Spells.{sign}
 use Rattle.text_lex.proofs.Pieces.{spelt_sign}

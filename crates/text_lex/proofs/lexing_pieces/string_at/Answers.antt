@@ -1,5 +1,5 @@
 -- The string that was found is the one that stands there.
-use Rattle.std.proofs.Common.{◌≡◌, ℕ, ◌+◌, ◌≤◌, arith, refl}
+use Rattle.std.proofs.Common.{arith, refl}
 use Rattle.text_lex.specs.Lexemes.Spells.{string}
 use Rattle.text_lex.proofs.Ends.{string_once}
 use Rattle.text_lex.proofs.Pieces.{spelt_string}
