@@ -1,5 +1,5 @@
 -- Worked runs, computed from the definitions alone: a Get of the root, and a Get of an object that is not there.
-use Rattle.std.specs.Prelude.{◌≡◌, ℕ, pos, true, false, List, [], ◌∷◌, ◌++◌, codes, Option, None, Some, refl}
+use Rattle.std.specs.Prelude.{◌≡◌, ℕ, pos, true, false, List, [], ◌∷◌, codes, refl}
 use Rattle.std.specs.Fmt.{digits}
 use Rattle.hex.specs.Hex.{encode_with}
 use Rattle.term_values.specs.Typed.TypeSyntax.{Integer}
@@ -11,7 +11,7 @@ use Rattle.term_values.specs.BerReading.{identifier_of, length_at, front_of}
 use Rattle.term_model.specs.declared.schema.Set.{Set}
 use Rattle.term_model.specs.declared.schema.Rules.{Rules}
 use Rattle.term_model.specs.Moment.{moment_text}
-use Rattle.term_model.specs.Played.{ScriptLine, played, run_text}
+use Rattle.term_model.specs.Played.{played, run_text}
 use Rattle.term_model.specs.Played.ScriptLine.{Open, Send}
 use Rattle.term_model.specs.Step.{step}
 

@@ -1,6 +1,5 @@
 -- The state of the one-manager agent: what it starts from, and what it holds of associations and operations.
-use Rattle.std.specs.Prelude.{ℕ, suc, zero, ◌+◌, ◌-◌, ◌==◌, ◌&&◌, Bool, true, false, not, List, [], ◌∷◌, length, map, count_by, slice_get, slice_set, Option, None, Some, option_and_then, is_some, if◌then◌else◌}
-use Rattle.std.specs.Option.{option_map, option_map_or}
+use Rattle.std.specs.Prelude.{ℕ, ◌-◌, ◌==◌, ◌&&◌, Bool, true, false, not, List, [], length, map, count_by, slice_get, Option, None, Some, if◌then◌else◌}
 use Rattle.term_model.specs.declared.agent_state.AgentState.{AgentState}
 use Rattle.term_model.specs.declared.agent_state.Association.{Association}
 use Rattle.term_model.specs.declared.agent_state.AssociationState.{AssociationState}

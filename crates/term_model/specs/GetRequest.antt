@@ -14,11 +14,9 @@ use Rattle.term_values.specs.Tree.TreeValue.{Primitive, Constructed}
 use Rattle.term_values.specs.Tree.TreeValues.{Nothing, Then}
 use Rattle.term_model.specs.declared.name.Rdn.{Rdn}
 use Rattle.term_model.specs.declared.request.Asked.{Asked}
-use Rattle.term_model.specs.declared.request.Head.{Head}
 use Rattle.term_model.specs.declared.request.IdRef.{IdRef}
 use Rattle.term_model.specs.declared.request.IdRef.TheVariants.{Global}
 use Rattle.term_model.specs.declared.request.Instance.{Instance}
-use Rattle.term_model.specs.declared.request.Named.{Named}
 use Rattle.term_model.specs.declared.request.Named.TheVariants as named
 use Rattle.term_model.specs.declared.request.Request.{Request}
 use Rattle.term_model.specs.declared.request.Request.TheVariants.{Get}

@@ -1,5 +1,5 @@
 -- A moment as GeneralizedTime in UTC, YYYYMMDDHHMMSSZ: X.680, section 46; the calendar is that of ISO 8601.
-use Rattle.std.specs.Prelude.{ℕ, zero, suc, ◌+◌, ◌-◌, ◌*◌, ◌/◌, ◌%◌, ◌==◌, ◌&&◌, ◌||◌, Bool, List, [], ◌∷◌, ◌++◌, nat_lt, if◌then◌else◌}
+use Rattle.std.specs.Prelude.{ℕ, zero, suc, ◌+◌, ◌-◌, ◌/◌, ◌%◌, ◌==◌, ◌&&◌, ◌||◌, Bool, List, [], ◌∷◌, ◌++◌, nat_lt, if◌then◌else◌}
 
 abbrev pub is_leap_year : ℕ → Bool
 is_leap_year year = year % 4 == 0 && (if year % 100 == 0 then year % 400 == 0 else year % 4 == 0)

@@ -1,7 +1,7 @@
 -- What a request does to one object: X.711, section 7.4.
-use Rattle.std.specs.Prelude.{ℕ, List, [], ◌∷◌, ◌++◌, Bool, true, false, ◌&&◌, Option, None, Some, filter, map, flat_map}
+use Rattle.std.specs.Prelude.{ℕ, List, ◌++◌, Bool, true, false, ◌&&◌, filter, map, flat_map}
 use Rattle.std.specs.List.{list_any}
-use Rattle.term_values.specs.declared.tag.TheConstants.Tag.{SEQUENCE, SET, GENERALIZED_TIME}
+use Rattle.term_values.specs.declared.tag.TheConstants.Tag.{SEQUENCE, SET}
 use Rattle.term_values.specs.Der.{encoded}
 use Rattle.term_values.specs.Fits.{der}
 use Rattle.term_values.specs.Oid.{oid_contents}

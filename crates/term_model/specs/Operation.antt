@@ -1,5 +1,5 @@
 -- Whole operations on the objects of the system: X.711, section 7.
-use Rattle.std.specs.Prelude.{ℕ, ℤ, pos, List, [], ◌∷◌, ◌++◌, Bool, Option, None, Some, find, nat_lt, length, if◌then◌else◌}
+use Rattle.std.specs.Prelude.{ℕ, ℤ, pos, List, [], ◌∷◌, Option, None, Some, find, nat_lt, length, if◌then◌else◌}
 use Rattle.std.specs.Option.{option_map}
 use Rattle.term_model.specs.declared.agent_state.NamedObject.{NamedObject}
 use Rattle.term_model.specs.declared.name.Rdn.{Rdn}

@@ -1,5 +1,5 @@
 -- Remote operations in frames: X.229, section 9. A frame is four octets of length and an APDU.
-use Rattle.std.specs.Prelude.{ℕ, ℤ, pos, negsuc, List, [], ◌∷◌, ◌++◌, Bool, true, false, ◌^◌, nat_lt, length, if◌then◌else◌, Option, None, Some, option_and_then}
+use Rattle.std.specs.Prelude.{ℕ, ℤ, pos, negsuc, List, ◌++◌, Bool, true, false, ◌^◌, nat_lt, length, if◌then◌else◌, Option, None, Some, option_and_then}
 use Rattle.term_values.specs.declared.tag.Tag.{Tag}
 use Rattle.term_values.specs.declared.tag.TheConstants.Tag.{INTEGER, SEQUENCE}
 use Rattle.term_values.specs.Der.{encoded}

@@ -7,7 +7,7 @@ use Rattle.std.specs.List.{list_all}
 use Rattle.std.proofs.Common.{inl, inr, subst, get_or}
 use Rattle.std.proofs.lemmas.List.Elements.{All-from_get_or}
 use Rattle.std.proofs.lemmas.Bool.{lt-ltb, ltb-true, le-ltb}
-use Rattle.term_values.specs.Oid.{groups, groups_before, subidentifier, numbers_in, oid_contents, oid_in, arcs_of, is_oid, is_arc, begins}
+use Rattle.term_values.specs.Oid.{groups, subidentifier, numbers_in, oid_contents, oid_in, arcs_of, is_oid, is_arc, begins}
 
 -- one group: the last one of its number
 last_group : (begun octet : ℕ) (rest : List ℕ) → octet < 128 → numbers_in begun (octet ∷ rest) ≡ (begun * 128 + octet % 128) ∷ numbers_in 0 rest
@@ -156,10 +156,10 @@ taken_apart contents found arcs e =
     let P : Option (List ℕ) → Type 0 = λ answer. answer ≡ Some arcs → Parts arcs in
     chosen P (is_oid found && (list_all is_arc found && pointwise ◌==◌ (oid_contents found) contents)) (Some found) None
     (λ t same.
-      let one = both (is_oid found) (list_all is_arc found && pointwise ◌==◌ (oid_contents found) contents) t in
-      let two = both (list_all is_arc found) (pointwise ◌==◌ (oid_contents found) contents) one.1 in
-      let is : found ≡ arcs = cc in
-      subst Parts is (one.0, two.0, octets_same (oid_contents found) contents two.1))
+    let one = both (is_oid found) (list_all is_arc found && pointwise ◌==◌ (oid_contents found) contents) t in
+    let two = both (list_all is_arc found) (pointwise ◌==◌ (oid_contents found) contents) one.1 in
+    let is : found ≡ arcs = cc in
+    subst Parts is (one.0, two.0, octets_same (oid_contents found) contents two.1))
     (λ _ same. absurd (cc)) e
 
 -- what was written for an identifier denotes it
@@ -172,7 +172,7 @@ oid_read (first ∷ second ∷ others) e h =
     let parts = first_number first second others (begun first second begins_so.1) in
     let rest_fits = both (is_arc second) (list_all is_arc others) (both (is_arc first) (is_arc second && list_all is_arc others) h).1 in
     let numbers : numbers_in 0 (oid_contents (first ∷ second ∷ others)) ≡ (first * 40 + second) ∷ others =
-          subidentifier_read (first * 40 + second) (flat_map subidentifier others) parts.0 ∙ ap (λ ns. (first * 40 + second) ∷ ns) (numbers_of_all others rest_fits.1) in
+    subidentifier_read (first * 40 + second) (flat_map subidentifier others) parts.0 ∙ ap (λ ns. (first * 40 + second) ∷ ns) (numbers_of_all others rest_fits.1) in
     let read : arcs_of (numbers_in 0 (oid_contents (first ∷ second ∷ others))) ≡ first ∷ second ∷ others = ap arcs_of numbers ∙ parts.1 in
     picked (oid_contents (first ∷ second ∷ others)) (arcs_of (numbers_in 0 (oid_contents (first ∷ second ∷ others)))) (first ∷ second ∷ others) read e h refl
 

@@ -1,5 +1,5 @@
 -- Examples of X.690, computed from the definitions.
-use Rattle.std.specs.Prelude.{◌≡◌, [], ◌∷◌, List, ℕ, true, false, pos, negsuc, Some, None, refl}
+use Rattle.std.specs.Prelude.{◌≡◌, [], ◌∷◌, pos, negsuc, Some, None, refl}
 use Rattle.term_values.specs.Octets.{integer_contents, integer_in}
 use Rattle.term_values.specs.Oid.{oid_contents, subidentifier, oid_in}
 use Rattle.term_values.specs.Der.{written, identifier_octets, length_octets}
@@ -58,6 +58,7 @@ example_integer_read = refl
 example_integer_padded : integer_in (0x00 ∷ 0x01 ∷ []) ≡ None
 unfolding integer_in
 example_integer_padded = refl
+
 -- that tree is read back as it is written
 example_writable : IsWritable 1 (Constructed (record { class = 0; number = 16 }) (Then (Primitive (record { class = 0; number = 2 }) (0 ∷ 0x80 ∷ [])) Nothing))
 unfolding identifier_octets length_octets

@@ -1,5 +1,5 @@
 -- Whole numbers as octets, the most significant one first: X.690, sections 8.1.3.5 and 8.3.
-use Rattle.std.specs.Prelude.{◌≡◌, ℕ, zero, suc, ◌+◌, ◌-◌, ◌*◌, ◌/◌, ◌%◌, ◌^◌, List, [], ◌∷◌, Bool, true, false, ◌&&◌, not, ◌==◌, nat_lt, nat_le, Option, None, Some, length, map, if◌then◌else◌, ℤ, pos, negsuc}
+use Rattle.std.specs.Prelude.{ℕ, zero, suc, ◌+◌, ◌-◌, ◌*◌, ◌/◌, ◌%◌, ◌^◌, List, [], ◌∷◌, Bool, true, false, ◌&&◌, not, ◌==◌, nat_lt, nat_le, Option, None, Some, length, map, if◌then◌else◌, ℤ, pos, negsuc}
 
 -- the number that octets stand for
 abbrev pub number : List ℕ → ℕ
