@@ -1,5 +1,4 @@
 pub mod Integers
-pub mod Parts
 pub mod Playing
 pub mod Reading
 pub mod Subidentifiers

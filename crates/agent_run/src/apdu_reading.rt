@@ -1,15 +1,15 @@
 //! Reads what managers send: a BIND, and an invoke of m-Get. X.229, section 9; X.711, section 7.4.
 
-ghost use Rattle.std.specs.Prelude.{◌≡◌, Option, None, Some, IfOk, IfSome, if◌then◌else◌};
+ghost use Rattle.std.specs.Prelude.{◌≡◌, Option, Some, IfOk, option_and_then};
 ghost use Rattle.std.specs.Option.{option_map, option_copied};
 ghost use Rattle.term_values.specs.BerReading.{tree_in};
-ghost use Rattle.term_values.specs.Tree.{listed};
 ghost use Rattle.term_values.specs.Der.{written};
 ghost use Rattle.term_values.specs.Oid.{oid_in};
+ghost use Rattle.term_values.specs.Tree.{listed};
 ghost use Rattle.term_model.specs.Bind.{title_in, title_of};
-ghost use Rattle.term_model.specs.GetRequest.{asked_in, assertion_of, get_of, instance_of, rdn_of, rdns_of};
-ghost use Rattle.term_model.specs.RemoteOperation.{id_of, integer_of};
-ghost use Rattle.agent_run.specs.Parts.{contents_under, inside_under, oid_under};
+ghost use Rattle.term_model.specs.GetRequest.{asked_by, asked_in, assertion_of, get_of, instance_of, rdn_of, rdns_of};
+ghost use Rattle.term_model.specs.Parts.{contents_under, inside_under, integer_under, oid_under, one_under, three_under, two_under};
+ghost use Rattle.term_model.specs.RemoteOperation.{id_of, invoke_of};
 
 use crate::tree_reading::{read_integer_contents, read_oid_contents, read_tree};
 use crate::tree_writing::write_tree;
@@ -58,13 +58,49 @@ fn contents_of(tree: &Tree, tag: Tag) -> Option<&[u8]>
     }
 }
 
+/// The one value inside a constructed value of this tag.
+fn one_of(tree: &Tree, tag: Tag) -> Option<&Tree>
+    ensures { option_copied result ≡ one_under tag tree.now }
+{
+    match inside_of(tree, tag) {
+        Some([first]) => Some(first),
+        _ => None,
+    }
+}
+
+/// The two values inside a constructed value of this tag.
+fn two_of(tree: &Tree, tag: Tag) -> Option<(&Tree, &Tree)>
+    ensures { option_map (λ parts. (parts.0.now, parts.1.now)) result ≡ two_under tag tree.now }
+{
+    match inside_of(tree, tag) {
+        Some([first, second]) => Some((first, second)),
+        _ => None,
+    }
+}
+
+/// The three values inside a constructed value of this tag.
+fn three_of(tree: &Tree, tag: Tag) -> Option<(&Tree, &Tree, &Tree)>
+    ensures { option_map (λ parts. (parts.0.now, parts.1.now, parts.2.now)) result ≡ three_under tag tree.now }
+{
+    match inside_of(tree, tag) {
+        Some([first, second, third]) => Some((first, second, third)),
+        _ => None,
+    }
+}
+
 /// The tree that all of the octets spell.
 fn whole_tree(alloc: Global, bytes: &[u8]) -> Result<Option<Tree>, AllocError>
     ensures { IfOk result (λ tree. tree ≡ tree_in bytes.now) }
 {
     match read_tree(alloc, bytes)? {
-        Some((tree, size)) if size == bytes.len() => Ok(Some(tree)),
-        _ => Ok(None),
+        None => Ok(None),
+        Some((tree, size)) => {
+            if size == bytes.len() {
+                Ok(Some(tree))
+            } else {
+                Ok(None)
+            }
+        }
     }
 }
 
@@ -91,17 +127,23 @@ fn oid_of(alloc: Global, tree: &Tree, tag: Tag) -> Result<Option<Oid>, AllocErro
     }
 }
 
-/// The title in a BIND; none where the octets are no BIND.
+/// The title in a BIND.
+fn title_of(alloc: Global, bind: &Tree) -> Result<Option<Oid>, AllocError>
+    ensures { IfOk result (λ title. title ≡ title_of bind.now) }
+{
+    match one_of(bind, Tag::SEQUENCE) {
+        None => Ok(None),
+        Some(title) => oid_of(alloc, title, Tag::OBJECT_IDENTIFIER),
+    }
+}
+
+/// The title in the octets of a BIND; none where they are no BIND.
 pub(crate) fn title_in(alloc: Global, bind: &[u8]) -> Result<Option<Oid>, AllocError>
     ensures { IfOk result (λ title. title ≡ title_in bind.now) }
 {
-    let tree = match whole_tree(alloc, bind)? {
-        None => return Ok(None),
-        Some(tree) => tree,
-    };
-    match inside_of(&tree, Tag::SEQUENCE) {
-        Some([title]) => oid_of(alloc, title, Tag::OBJECT_IDENTIFIER),
-        _ => Ok(None),
+    match whole_tree(alloc, bind)? {
+        None => Ok(None),
+        Some(tree) => title_of(alloc, &tree),
     }
 }
 
@@ -118,15 +160,15 @@ fn written(alloc: Global, tree: &Tree) -> Result<Bytes, AllocError>
 fn assertion_of(alloc: Global, tree: &Tree) -> Result<Option<Rdn>, AllocError>
     ensures { IfOk result (λ rdn. rdn ≡ assertion_of tree.now) }
 {
-    match inside_of(tree, Tag::SEQUENCE) {
-        Some([id, value]) => match oid_of(alloc, id, Tag::OBJECT_IDENTIFIER)? {
+    match two_of(tree, Tag::SEQUENCE) {
+        None => Ok(None),
+        Some((id, value)) => match oid_of(alloc, id, Tag::OBJECT_IDENTIFIER)? {
             None => Ok(None),
-            Some(attribute) => Ok(Some(Rdn {
-                attribute,
-                value: written(alloc, value)?,
-            })),
+            Some(attribute) => {
+                let value = written(alloc, value)?;
+                Ok(Some(Rdn { attribute, value }))
+            }
         },
-        _ => Ok(None),
     }
 }
 
@@ -134,40 +176,49 @@ fn assertion_of(alloc: Global, tree: &Tree) -> Result<Option<Rdn>, AllocError>
 fn rdn_of(alloc: Global, tree: &Tree) -> Result<Option<Rdn>, AllocError>
     ensures { IfOk result (λ rdn. rdn ≡ rdn_of tree.now) }
 {
-    match inside_of(tree, Tag::SET) {
-        Some([assertion]) => assertion_of(alloc, assertion),
-        _ => Ok(None),
+    match one_of(tree, Tag::SET) {
+        None => Ok(None),
+        Some(assertion) => assertion_of(alloc, assertion),
     }
 }
 
 /// An RDNSequence.
-fn rdns_of(alloc: Global, trees: &[Tree]) -> Result<Option<Vec<Rdn>>, AllocError>
-    ensures { IfOk result (λ rdns. option_map (λ v. v.items) rdns ≡ rdns_of (listed trees.now)) }
+fn rdns_of(alloc: Global, trees: &[Tree]) -> Result<Option<Name>, AllocError>
+    ensures { IfOk result (λ name. name ≡ rdns_of (listed trees.now)) }
 {
-    let mut rdns = Vec::new(alloc);
+    let mut parts = Vec::new(alloc);
     for tree in trees {
         match rdn_of(alloc, tree)? {
             None => return Ok(None),
-            Some(rdn) => rdns.push(rdn)?,
+            Some(rdn) => parts.push(rdn)?,
         }
     }
-    Ok(Some(rdns))
+    Ok(Some(Name { parts }))
+}
+
+/// The name in an ObjectInstance in localDistinguishedName.
+fn local_name(alloc: Global, tree: &Tree) -> Result<Option<Name>, AllocError>
+    ensures { IfOk result (λ name. name ≡ option_and_then rdns_of (inside_under LOCAL_DISTINGUISHED_NAME tree.now)) }
+{
+    match inside_of(tree, LOCAL_DISTINGUISHED_NAME) {
+        None => Ok(None),
+        Some(inside) => rdns_of(alloc, inside),
+    }
 }
 
 /// An ObjectInstance in localDistinguishedName.
 fn instance_of(alloc: Global, tree: &Tree) -> Result<Option<Instance>, AllocError>
     ensures { IfOk result (λ instance. instance ≡ instance_of tree.now) }
 {
-    let inside = match inside_of(tree, LOCAL_DISTINGUISHED_NAME) {
-        None => return Ok(None),
-        Some(inside) => inside,
-    };
-    match rdns_of(alloc, inside)? {
+    match local_name(alloc, tree)? {
         None => Ok(None),
-        Some(parts) => Ok(Some(Instance {
-            raw: written(alloc, tree)?,
-            named: Named::Object(Name { parts }),
-        })),
+        Some(name) => {
+            let raw = written(alloc, tree)?;
+            Ok(Some(Instance {
+                raw,
+                named: Named::Object(name),
+            }))
+        }
     }
 }
 
@@ -175,8 +226,9 @@ fn instance_of(alloc: Global, tree: &Tree) -> Result<Option<Instance>, AllocErro
 fn get_of(alloc: Global, argument: &Tree) -> Result<Option<Request>, AllocError>
     ensures { IfOk result (λ request. request ≡ get_of argument.now) }
 {
-    match inside_of(argument, Tag::SEQUENCE) {
-        Some([class, instance]) => match oid_of(alloc, class, GLOBAL_FORM)? {
+    match two_of(argument, Tag::SEQUENCE) {
+        None => Ok(None),
+        Some((class, instance)) => match oid_of(alloc, class, GLOBAL_FORM)? {
             None => Ok(None),
             Some(class) => match instance_of(alloc, instance)? {
                 None => Ok(None),
@@ -188,41 +240,45 @@ fn get_of(alloc: Global, argument: &Tree) -> Result<Option<Request>, AllocError>
                 })),
             },
         },
-        _ => Ok(None),
     }
+}
+
+/// An INTEGER.
+fn integer_of(tree: &Tree) -> Option<i64>
+    ensures { result ≡ integer_under Tag.INTEGER tree.now }
+{
+    read_integer_contents(contents_of(tree, Tag::INTEGER)?)
 }
 
 /// An invoke id, which has at most 32 bits.
 fn id_of(tree: &Tree) -> Option<i32>
     ensures { result ≡ id_of tree.now }
 {
-    let number = read_integer_contents(contents_of(tree, Tag::INTEGER)?)?;
-    i32::try_from(number).ok()
+    i32::try_from(integer_of(tree)?).ok()
 }
 
-/// The operation of an invoke.
-fn operation_of(tree: &Tree) -> Option<i64>
-    ensures { result ≡ integer_of tree.now }
+/// The request that an invoke brings; none where it is none of m-Get in the form of X.711.
+fn invoked(alloc: Global, apdu: &Tree) -> Result<Option<Asked>, AllocError>
+    ensures { IfOk result (λ asked. asked ≡ option_and_then asked_by (invoke_of apdu.now)) }
 {
-    read_integer_contents(contents_of(tree, Tag::INTEGER)?)
-}
-
-/// The request that an APDU brings; none where it is no invoke of m-Get in the form of X.711.
-pub(crate) fn asked_in(alloc: Global, apdu: &[u8]) -> Result<Option<Asked>, AllocError>
-    ensures { IfOk result (λ asked. asked ≡ asked_in apdu.now) }
-{
-    let tree = match whole_tree(alloc, apdu)? {
-        None => return Ok(None),
-        Some(tree) => tree,
-    };
-    match inside_of(&tree, INVOKE) {
-        Some([id, operation, argument]) => match (id_of(id), operation_of(operation)) {
+    match three_of(apdu, INVOKE) {
+        None => Ok(None),
+        Some((id, operation, argument)) => match (id_of(id), integer_of(operation)) {
             (Some(id), Some(M_GET)) => match get_of(alloc, argument)? {
                 None => Ok(None),
                 Some(request) => Ok(Some(Asked { id, request })),
             },
             _ => Ok(None),
         },
-        _ => Ok(None),
+    }
+}
+
+/// The request that an APDU brings; none where it is no invoke of m-Get in the form of X.711.
+pub(crate) fn asked_in(alloc: Global, apdu: &[u8]) -> Result<Option<Asked>, AllocError>
+    ensures { IfOk result (λ asked. asked ≡ asked_in apdu.now) }
+{
+    match whole_tree(alloc, apdu)? {
+        None => Ok(None),
+        Some(tree) => invoked(alloc, &tree),
     }
 }

@@ -10,6 +10,7 @@ use Rattle.term_values.specs.Tag.{is_same_tag}
 use Rattle.term_values.specs.Tree.{TreeValue}
 use Rattle.term_values.specs.Tree.TreeValue.{Primitive, Constructed}
 use Rattle.term_values.specs.Tree.TreeValues.{Nothing, Then}
+use Rattle.term_model.specs.Parts.{oid_under, one_under}
 use Rattle.term_model.specs.RemoteOperation.{integer}
 
 -- the written BIND of a manager with this title
@@ -18,8 +19,7 @@ bind title = encoded true SEQUENCE (encoded false OBJECT_IDENTIFIER (oid_content
 
 -- the title in a BIND
 abbrev pub title_of : TreeValue → Option (List ℕ)
-title_of (Constructed tag (Then (Primitive inner contents) Nothing)) = if is_same_tag tag SEQUENCE && is_same_tag inner OBJECT_IDENTIFIER then oid_in contents else None
-title_of _ = None
+title_of tree = option_and_then (oid_under OBJECT_IDENTIFIER) (one_under SEQUENCE tree)
 
 abbrev pub title_in : List ℕ → Option (List ℕ)
 title_in bytes = option_and_then title_of (tree_in bytes)

@@ -20,6 +20,7 @@ use Rattle.term_model.specs.declared.request.Instance.{Instance}
 use Rattle.term_model.specs.declared.request.Named.TheVariants as named
 use Rattle.term_model.specs.declared.request.Request.{Request}
 use Rattle.term_model.specs.declared.request.Request.TheVariants.{Get}
+use Rattle.term_model.specs.Parts.{inside_under, oid_under, one_under, two_under}
 use Rattle.term_model.specs.RemoteOperation.{Invoke, invoke_of, invoke_tag, integer}
 
 -- the number of the operation m-Get
@@ -32,16 +33,16 @@ global_form = context 0
 abbrev pub local_distinguished_name : Tag
 local_distinguished_name = context 4
 
--- an attribute value assertion alone in its SET
-abbrev pub assertion_of : TreeValue → Option Rdn
-assertion_of (Constructed tag (Then (Primitive inner contents) (Then value Nothing))) =
-    if is_same_tag tag SEQUENCE && is_same_tag inner OBJECT_IDENTIFIER then option_map (λ arcs. record { attribute = arcs; value = written value }) (oid_in contents)
-    else None
-assertion_of _ = None
+-- an attribute value assertion
+abbrev pub assertion_parts : TreeValue × TreeValue → Option Rdn
+assertion_parts parts = option_map (λ arcs. record { attribute = arcs; value = written parts.1 }) (oid_under OBJECT_IDENTIFIER parts.0)
 
+abbrev pub assertion_of : TreeValue → Option Rdn
+assertion_of tree = option_and_then assertion_parts (two_under SEQUENCE tree)
+
+-- one that is alone in its SET
 abbrev pub rdn_of : TreeValue → Option Rdn
-rdn_of (Constructed tag (Then assertion Nothing)) = if is_same_tag tag SET then assertion_of assertion else None
-rdn_of _ = None
+rdn_of tree = option_and_then assertion_of (one_under SET tree)
 
 -- an RDNSequence
 abbrev pub rdns_of : TreeValues → Option (List Rdn)
@@ -49,22 +50,18 @@ rdns_of Nothing = Some []
 rdns_of (Then first others) = option_and_then (λ rdn. option_map (λ rdns. rdn ∷ rdns) (rdns_of others)) (rdn_of first)
 
 abbrev pub class_of : TreeValue → Option IdRef
-class_of (Primitive tag contents) = if is_same_tag tag global_form then option_map Global (oid_in contents) else None
-class_of (Constructed tag inside) = None
+class_of tree = option_map Global (oid_under global_form tree)
 
+-- an instance as it is given back, with what it names
 abbrev pub instance_of : TreeValue → Option Instance
-instance_of (Constructed tag inside) =
-    if is_same_tag tag local_distinguished_name
-    then option_map (λ rdns. record { raw = written (Constructed tag inside); named = named.Object rdns }) (rdns_of inside)
-    else None
-instance_of (Primitive tag contents) = None
+instance_of tree =
+    option_map (λ rdns. record { raw = written tree; named = named.Object rdns }) (option_and_then rdns_of (inside_under local_distinguished_name tree))
+
+abbrev pub get_parts : TreeValue × TreeValue → Option Request
+get_parts parts = option_and_then (λ class. option_map (λ base. Get (record { class = class; base = base })) (instance_of parts.1)) (class_of parts.0)
 
 abbrev pub get_of : TreeValue → Option Request
-get_of (Constructed tag (Then class (Then instance Nothing))) =
-    if is_same_tag tag SEQUENCE
-    then option_and_then (λ c. option_map (λ i. Get (record { class = c; base = i })) (instance_of instance)) (class_of class)
-    else None
-get_of _ = None
+get_of tree = option_and_then get_parts (two_under SEQUENCE tree)
 
 abbrev pub asked_by : Invoke → Option Asked
 asked_by invoke =

@@ -6,6 +6,7 @@ pub mod History
 pub mod Moment
 pub mod ObjectOperation
 pub mod Operation
+pub mod Parts
 pub mod Played
 pub mod RemoteOperation
 pub mod Rising

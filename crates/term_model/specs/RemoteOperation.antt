@@ -3,6 +3,7 @@ use Rattle.std.specs.Prelude.{ℕ, ℤ, pos, negsuc, List, ◌++◌, Bool, true,
 use Rattle.term_values.specs.declared.tag.Tag.{Tag}
 use Rattle.term_values.specs.declared.tag.TheConstants.Tag.{INTEGER, SEQUENCE}
 use Rattle.term_values.specs.Der.{encoded}
+use Rattle.term_model.specs.Parts.{integer_under, three_under}
 use Rattle.term_values.specs.Octets.{octets, integer_contents, integer_in}
 use Rattle.term_values.specs.Tag.{context, is_same_tag}
 use Rattle.term_values.specs.Tree.{TreeValue, TreeValues}
@@ -40,25 +41,18 @@ pub record Invoke : Type 0 where
   pub operation : ℤ
   pub argument : TreeValue
 
--- an INTEGER
-abbrev pub integer_of : TreeValue → Option ℤ
-integer_of (Primitive tag contents) = if is_same_tag tag INTEGER then integer_in contents else None
-integer_of (Constructed tag inside) = None
-
 abbrev pub is_within_32_bits : ℤ → Bool
 is_within_32_bits (pos n) = nat_lt n (2 ^ 31)
 is_within_32_bits (negsuc n) = nat_lt n (2 ^ 31)
 
 -- an invoke id, which has at most 32 bits
 abbrev pub id_of : TreeValue → Option ℤ
-id_of tree = option_and_then (λ n. if is_within_32_bits n then Some n else None) (integer_of tree)
+id_of tree = option_and_then (λ n. if is_within_32_bits n then Some n else None) (integer_under INTEGER tree)
 
 -- what an APDU invokes, without a linked id and with an argument
-abbrev pub invoke_parts : TreeValues → Option Invoke
-invoke_parts (Then id (Then operation (Then argument Nothing))) =
-    option_and_then (λ i. option_and_then (λ o. Some (record { id = i; operation = o; argument = argument })) (integer_of operation)) (id_of id)
-invoke_parts _ = None
+abbrev pub invoke_parts : TreeValue × TreeValue × TreeValue → Option Invoke
+invoke_parts parts =
+    option_and_then (λ id. option_and_then (λ operation. Some (record { id = id; operation = operation; argument = parts.2 })) (integer_under INTEGER parts.1)) (id_of parts.0)
 
 abbrev pub invoke_of : TreeValue → Option Invoke
-invoke_of (Constructed tag inside) = if is_same_tag tag invoke_tag then invoke_parts inside else None
-invoke_of (Primitive tag contents) = None
+invoke_of tree = option_and_then invoke_parts (three_under invoke_tag tree)
