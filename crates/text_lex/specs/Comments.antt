@@ -1,6 +1,6 @@
 -- White space and comments, which stand between tokens: X.680, section 12.6.
-use Rattle.text_lex.specs.Octets.{hyphen_octet, line_feed_octet}
 use Rattle.std.specs.Prelude.{◌≡◌, ℕ, ◌+◌, ◌<◌, ◌≢◌, List, length, slice_index}
+use Rattle.text_lex.specs.Octets.{hyphen_octet, line_feed_octet}
 
 -- two hyphens, which begin a comment and may end one
 abbrev pub AreHyphens : List ℕ → ℕ → Type 0

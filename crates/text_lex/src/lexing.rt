@@ -46,11 +46,12 @@ fn announce_string(tokens: &[Token]) -> bool
         | (is_word(previous, PRESENT) & is_word(last, IF))
 }
 
-/// Cuts a document into its tokens, in order; white space and comments between them are left out. The
-/// octets are read once.
+/// Cuts a document into its tokens, in order; white space and comments between them are left out.
+/// The octets are read once.
 ///
-/// A fault's place is the first octet of what is in hand there, counted from 0: a string without its end,
-/// a number past 64 bits, a `'..'H` or `'..'B` that is none, or an octet that begins no token.
+/// A fault's place is the first octet of what is in hand there, counted from 0: a string without
+/// its end, a number past 64 bits, a `'..'H` or `'..'B` that is none, or an octet that begins no
+/// token. `Memory` says that there was no room for the tokens.
 pub fn lex(alloc: Global, bytes: &[u8]) -> Result<Vec<Token>, LexRefusal>
     ensures tokens { IfOk result (λ tokens. AreTokensOf bytes.now tokens.items) }
     ensures slices { IfOk result (λ tokens. All (IsSlice bytes.now) tokens.items) }

@@ -7,8 +7,8 @@ use std::process::Abort;
 use std::str;
 use std::test::Fail;
 
-// Each row is a text, an arrow and its tokens, each token as its kind, its place, a space, its octets and
-// a bar; or its fault and the fault's place.
+// Each row is a text, an arrow and its tokens, each token as its kind, its place, a space, its octets
+// and a bar; or its fault and the fault's place.
 
 /// Words and comments.
 const WORDS: &str = "\
