@@ -1,6 +1,7 @@
 pub mod Extending
 pub mod FindingLaws
 pub mod IntegerLaws
+pub mod JournalLaws
 pub mod PlayLaws
 pub mod ReadingSteps
 pub mod WritingLaws

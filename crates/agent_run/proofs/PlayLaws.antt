@@ -21,11 +21,11 @@ use Rattle.std.specs.Option.{option_map_or}
 use Rattle.term_model.specs.Bind.{title_in}
 use Rattle.term_model.specs.GetRequest.{asked_in}
 use Rattle.term_model.specs.Operation.{exec}
-use Rattle.term_model.specs.Played.{Play, with_entry, taken_all, all_taken, answered, line_played, closed, closed_from, beginning, lines_played}
+use Rattle.term_model.specs.Played.{Play, with_entry, taken_all, all_taken, answered, line_played, closed, closed_from, beginning, lines_played, played}
 use Rattle.term_model.specs.Played.ScriptLine.{Open, Send}
 use Rattle.term_model.specs.Step.{is_legal, step, queued, with_placed, with_taken, with_state, bound, reply_bytes, may_take}
 use Rattle.term_model.proofs.StepLaws.{step_legal, numbered_last, changed_last, legal_counts}
-use Rattle.agent_run.specs.Playing.{IsFresh, IsReady, so_far, sole}
+use Rattle.agent_run.specs.Playing.{IsFresh, IsReady, script_lines, so_far, sole}
 
 -- a state with one association
 abbrev pub state_of : Set → List NamedObject → Association → List Operation → ℕ → AgentState
@@ -337,3 +337,11 @@ ready_at agent journal play e r = subst (λ (p : Play). IsReady p.agent p.journa
 -- the association of a script is closed at the end
 pub closed_alone : (play : Play) → IsReady play.agent play.journal → closed_from (length play.agent.associations) sole play ≡ closed sole play
 closed_alone play r = ap (λ n. closed_from n sole play) (ap (λ (xs : List Association). length xs) r.one)
+
+-- once its association is closed, a script is played
+pub script_closed : (schema : Set) (bind : List ℕ) (sends : List (List ℕ)) (agent : AgentState) (journal : List Entry) → IsReady agent journal → so_far agent journal ≡ lines_played (beginning schema) (script_lines bind sends) → closed sole (so_far agent journal) ≡ played schema (script_lines bind sends)
+unfolding played
+script_closed schema bind sends agent journal r e = sym (closed_alone (so_far agent journal) r) ∙ ap (λ (p : Play). closed_from (length p.agent.associations) sole p) e
+
+pub script_more : (schema : Set) (bind : List ℕ) (sends : List (List ℕ)) (apdu : List ℕ) → lines_played (beginning schema) (script_lines bind (sends ++ apdu ∷ [])) ≡ line_played (lines_played (beginning schema) (script_lines bind sends)) (Send sole apdu)
+script_more schema bind sends apdu = lines_more (line_played (beginning schema) (Open bind)) sends apdu

@@ -1,2 +1,3 @@
 mod StandardFacts
+pub mod HistoryLaws
 pub mod StepLaws
