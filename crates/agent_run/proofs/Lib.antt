@@ -3,6 +3,7 @@ pub mod FindingLaws
 pub mod IdentifierSteps
 pub mod IntegerLaws
 pub mod IntegerReading
+pub mod JournalLaws
 pub mod OutLines
 pub mod PlayLaws
 pub mod ReadingSteps

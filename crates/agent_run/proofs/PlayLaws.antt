@@ -1,7 +1,7 @@
 -- What the lines of a script in the first form come to: each entry is legal where it stands, and the association is as before.
 use Rattle.std.proofs.Common.{◌≡◌, ℕ, ℤ, ◌+◌, ◌-◌, ◌<◌, ◌≤◌, Bool, true, false, List, [], ◌∷◌, ◌++◌, length, Option, Some, None, refl, sym, ap, ◌∙◌, ⊎_elim, arith, subst, length-append}
-use Rattle.std.specs.Prelude.{◌==◌, count_by, map, not, ◌&&◌, if◌then◌else◌}
-use Rattle.std.proofs.lemmas.Bool.{cases_Bool, eqb-false, eqb-true, eq-eqb, le-leb, lt-ltb, le-ltb}
+use Rattle.std.specs.Prelude.{◌==◌, count_by, map, not, ◌&&◌, if◌then◌else◌, is_some}
+use Rattle.std.proofs.lemmas.Bool.{false≢true, cases_Bool, eqb-false, eqb-true, eq-eqb, ne_eqb, le-leb, lt-ltb, le-ltb}
 use Rattle.std.proofs.lemmas.List.{append-nil, length_push}
 use Rattle.std.proofs.lemmas.List.Sums.{sum_by_push}
 use Rattle.term_model.specs.declared.agent_state.AgentState.{AgentState}
@@ -16,15 +16,16 @@ use Rattle.term_model.specs.declared.entry.Why.TheVariants as why
 use Rattle.term_model.specs.declared.request.Asked.{Asked}
 use Rattle.term_model.specs.declared.request.Request.{Request}
 use Rattle.term_model.specs.declared.schema.Set.{Set}
-use Rattle.term_model.specs.AgentState.{start, is_ended_state, outstanding, left_to_take}
+use Rattle.term_model.specs.AgentState.{start, association_of, is_ended_state, outstanding, left_to_take}
+use Rattle.std.specs.Option.{option_map_or}
 use Rattle.term_model.specs.Bind.{title_in}
 use Rattle.term_model.specs.GetRequest.{asked_in}
 use Rattle.term_model.specs.Operation.{exec}
-use Rattle.term_model.specs.Played.{Play, with_entry, taken_all, all_taken, answered, line_played, closed, beginning, lines_played}
+use Rattle.term_model.specs.Played.{Play, with_entry, taken_all, all_taken, answered, line_played, closed, closed_from, beginning, lines_played, played}
 use Rattle.term_model.specs.Played.ScriptLine.{Open, Send}
 use Rattle.term_model.specs.Step.{is_legal, step, queued, with_placed, with_taken, with_state, bound, reply_bytes, may_take}
-use Rattle.term_model.proofs.StepLaws.{step_legal, numbered_last, changed_last}
-use Rattle.agent_run.specs.Playing.{IsReady, so_far, sole}
+use Rattle.term_model.proofs.StepLaws.{step_legal, numbered_last, changed_last, legal_counts}
+use Rattle.agent_run.specs.Playing.{IsFresh, IsReady, script_lines, so_far, sole}
 
 -- a state with one association
 abbrev pub state_of : Set → List NamedObject → Association → List Operation → ℕ → AgentState
@@ -99,7 +100,7 @@ ended_idle operations invoke request place h = sum_by_push (λ o. if is_open o t
 answered_none : (operations : List Operation) (play : Play) → play.agent.operations ≡ operations → answered (length operations) play ≡ play
 answered_none operations play e = rw (e, le-ltb (length operations) (length operations) (omega arith)) refl
 
-answered_some : (before number : ℕ) (play : Play) → length play.agent.operations ≡ number → before < number → answered before play ≡ with_entry (with_entry play (entry.Granted number play.moment)) (entry.Committed number)
+pub answered_some : (before number : ℕ) (play : Play) → length play.agent.operations ≡ number → before < number → answered before play ≡ with_entry (with_entry play (entry.Granted number play.moment)) (entry.Committed number)
 answered_some before number play e h = rw (e, lt-ltb before number h) refl
 
 -- after a send the association lives
@@ -139,16 +140,16 @@ all_taken_alone play l = rw l.one refl
 taken_to : (schema : Set) (objects : List NamedObject) (a : Association) (operations : List Operation) (entries count : ℕ) → may_take count (left_to_take a) ≡ true → step (state_of schema objects a operations entries) (entry.Taken sole count) ≡ state_of schema objects (with_taken count a) operations (entries + 1)
 taken_to schema objects a operations entries count h = step_legal (state_of schema objects a operations entries) (entry.Taken sole count) h
 
-may_take_all : (left : ℕ) → (left ≡ 0 → ⊥) → may_take left left ≡ true
+pub may_take_all : (left : ℕ) → (left ≡ 0 → ⊥) → may_take left left ≡ true
 may_take_all left some = rw (eq-eqb left left refl, le-leb 1 left (omega arith)) refl
 
 left_of_live : (a : Association) → a.state ≡ Live → left_to_take a ≡ length a.placed - a.taken
 left_of_live a live = rw live refl
 
-taken_all_none : (play : Play) (a : Association) → play.agent.associations ≡ a ∷ [] → left_to_take a ≡ 0 → taken_all sole play ≡ play
+pub taken_all_none : (play : Play) (a : Association) → play.agent.associations ≡ a ∷ [] → left_to_take a ≡ 0 → taken_all sole play ≡ play
 taken_all_none play a one h = rw (one, h) refl
 
-taken_all_some : (play : Play) (a : Association) → play.agent.associations ≡ a ∷ [] → (left_to_take a == 0) ≡ false → taken_all sole play ≡ with_entry play (entry.Taken sole (left_to_take a))
+pub taken_all_some : (play : Play) (a : Association) → play.agent.associations ≡ a ∷ [] → (left_to_take a == 0) ≡ false → taken_all sole play ≡ with_entry play (entry.Taken sole (left_to_take a))
 taken_all_some play a one h = rw (one, h) refl
 
 -- once all is taken, the script may go on
@@ -273,3 +274,74 @@ opened_ready schema bind title e =
 pub lines_more : (play : Play) (sends : List (List ℕ)) (apdu : List ℕ) → lines_played play (map (Send sole) (sends ++ apdu ∷ [])) ≡ line_played (lines_played play (map (Send sole) sends)) (Send sole apdu)
 lines_more play [] apdu = refl
 lines_more play (x ∷ sends) apdu = lines_more (line_played play (Send sole x)) sends apdu
+
+-- what is left, where something is left, is taken
+taken_by : (number count : ℕ) (play : Play) (o : Option Association) → count ≡ option_map_or left_to_take o 0
+  → option_map_or (λ (a : Association). if left_to_take a == 0 then play else with_entry play (entry.Taken number (left_to_take a))) o play ≡ (if count == 0 then play else with_entry play (entry.Taken number count))
+taken_by number count play None e = rw e refl
+taken_by number count play (Some a) e = rw e refl
+
+pub taken_none : (play : Play) (number count : ℕ) → count ≡ option_map_or left_to_take (association_of play.agent number) 0 → count ≡ 0 → taken_all number play ≡ play
+taken_none play number count e none = taken_by number count play (association_of play.agent number) e ∙ rw none refl
+
+pub taken_some : (play : Play) (number count : ℕ) → count ≡ option_map_or left_to_take (association_of play.agent number) 0 → (count ≡ 0 → ⊥) → taken_all number play ≡ with_entry play (entry.Taken number count)
+taken_some play number count e some = taken_by number count play (association_of play.agent number) e ∙ rw (ne_eqb count 0 some) refl
+
+-- what was played so far, when a step was taken and its entry was written down
+pub noted : (before after : AgentState) (entries journal : List Entry) (next : Entry) → after ≡ step before next → journal ≡ entries ++ next ∷ [] → so_far after journal ≡ with_entry (so_far before entries) next
+noted before after entries journal next e f = ap (λ a. so_far a journal) e ∙ ap (λ j. so_far (step before next) j) f
+
+pub lives_counted : (agent : AgentState) (journal : List Entry) (play : Play) → so_far agent journal ≡ play → Lives play → agent.entries ≡ length journal
+lives_counted agent journal play e l = let c = l.counted in subst (λ (p : Play). p.agent.entries ≡ length p.journal) (sym e) c
+
+-- an entry that is legal is counted once
+pub note_counted : (before after : AgentState) (entries journal : List Entry) (next : Entry) → after ≡ step before next → journal ≡ entries ++ next ∷ [] → is_legal before next ≡ true → before.entries ≡ length entries → after.entries ≡ length journal
+note_counted before after entries journal next e f legal counted =
+    ap (λ (s : AgentState). s.entries) e ∙ (legal_counts before next legal ∙ (ap (λ n. n + 1) counted ∙ sym (ap (λ xs. length xs) f ∙ length_push entries next)))
+
+-- an agent before any entry
+fresh_form : (agent : AgentState) (journal : List Entry) → IsFresh agent journal → agent ≡ record { schema = agent.schema; objects = agent.objects; associations = []; operations = []; entries = 0 }
+fresh_form agent journal f =
+    ap (λ xs. record agent { associations = xs }) f.unopened
+    ∙ (ap (λ xs. record agent { associations = []; operations = xs }) f.unasked
+    ∙ ap (λ n. record agent { associations = []; operations = []; entries = n }) f.uncounted)
+
+some_of : {T : Type 0} (o : Option T) → is_some o ≡ true → (x : T) × (o ≡ Some x)
+some_of None h = absurd (false≢true h)
+some_of (Some x) h = (x, refl)
+
+-- a BIND with a title opens an association that is live
+pub fresh_lives : (agent : AgentState) (journal : List Entry) (bind : List ℕ) → IsFresh agent journal → is_some (title_in bind) ≡ true → Lives (with_entry (so_far agent journal) (entry.Opened sole bind))
+fresh_lives agent journal bind f titled =
+    let t = some_of (title_in bind) titled in
+    let next : step agent (entry.Opened sole bind) ≡ state_of agent.schema agent.objects (bound sole (Some t.0)) [] 1 =
+      ap (λ s. step s (entry.Opened sole bind)) (fresh_form agent journal f) ∙ opened_to agent.schema agent.objects bind t.0 t.1 in
+    let whole : journal ++ entry.Opened sole bind ∷ [] ≡ entry.Opened sole bind ∷ [] = ap (λ xs. xs ++ entry.Opened sole bind ∷ []) f.unwritten in
+    subst (λ (p : Play). Lives p)
+    (sym (ap (λ s. play_of s (journal ++ entry.Opened sole bind ∷ [])) next ∙ ap (λ xs. play_of (state_of agent.schema agent.objects (bound sole (Some t.0)) [] 1) xs) whole))
+    (record { counted = refl; association = bound sole (Some t.0); one = refl; live = refl; within = omega arith; idle = refl })
+
+pub fresh_line : (agent : AgentState) (journal : List Entry) (bind : List ℕ) → IsFresh agent journal → line_played (so_far agent journal) (Open bind) ≡ all_taken (with_entry (so_far agent journal) (entry.Opened sole bind))
+fresh_line agent journal bind f = ap (λ n. all_taken (with_entry (so_far agent journal) (entry.Opened n bind))) (ap (λ (xs : List Association). length xs + 1) f.unopened)
+
+pub open_line : (agent : AgentState) (journal : List Entry) (bind : List ℕ) → IsFresh agent journal → is_some (title_in bind) ≡ true → line_played (so_far agent journal) (Open bind) ≡ taken_all sole (with_entry (so_far agent journal) (entry.Opened sole bind))
+open_line agent journal bind f titled = fresh_line agent journal bind f ∙ all_taken_alone (with_entry (so_far agent journal) (entry.Opened sole bind)) (fresh_lives agent journal bind f titled)
+
+pub send_line : (agent : AgentState) (journal : List Entry) (apdu : List ℕ) → IsReady agent journal → line_played (so_far agent journal) (Send sole apdu) ≡ taken_all sole (answered (length agent.operations) (with_entry (so_far agent journal) (entry.Arrived sole apdu)))
+send_line agent journal apdu r = all_taken_alone (answered (length agent.operations) (with_entry (so_far agent journal) (entry.Arrived sole apdu))) (answered_lives agent journal apdu r)
+
+-- a play that is ready is so however it is written
+pub ready_at : (agent : AgentState) (journal : List Entry) (play : Play) → so_far agent journal ≡ play → IsReady play.agent play.journal → IsReady agent journal
+ready_at agent journal play e r = subst (λ (p : Play). IsReady p.agent p.journal) (sym e) r
+
+-- the association of a script is closed at the end
+pub closed_alone : (play : Play) → IsReady play.agent play.journal → closed_from (length play.agent.associations) sole play ≡ closed sole play
+closed_alone play r = ap (λ n. closed_from n sole play) (ap (λ (xs : List Association). length xs) r.one)
+
+-- once its association is closed, a script is played
+pub script_closed : (schema : Set) (bind : List ℕ) (sends : List (List ℕ)) (agent : AgentState) (journal : List Entry) → IsReady agent journal → so_far agent journal ≡ lines_played (beginning schema) (script_lines bind sends) → closed sole (so_far agent journal) ≡ played schema (script_lines bind sends)
+unfolding played
+script_closed schema bind sends agent journal r e = sym (closed_alone (so_far agent journal) r) ∙ ap (λ (p : Play). closed_from (length p.agent.associations) sole p) e
+
+pub script_more : (schema : Set) (bind : List ℕ) (sends : List (List ℕ)) (apdu : List ℕ) → lines_played (beginning schema) (script_lines bind (sends ++ apdu ∷ [])) ≡ line_played (lines_played (beginning schema) (script_lines bind sends)) (Send sole apdu)
+script_more schema bind sends apdu = lines_more (line_played (beginning schema) (Open bind)) sends apdu

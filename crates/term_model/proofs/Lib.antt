@@ -1,3 +1,4 @@
 pub mod RisingLaws
 mod StandardFacts
+pub mod HistoryLaws
 pub mod StepLaws
