@@ -1,9 +1,12 @@
 //! The top call: the words of a command line, the files that they name, and what is written.
 
+ghost use Rattle.std.specs.Prelude.{IfOk, IsSome};
+ghost use Rattle.term_model.specs.Bind.{title_in};
+
 use crate::first_form::read_first_form;
 use crate::first_records::first_records;
 use crate::not_read::NotRead;
-use crate::playing::perform_script;
+use crate::playing::{Script, perform_script};
 use crate::refusal::{DONE, OUT_OF_MEMORY, Refusal, Unbuilt, WRITE_FAULT};
 use crate::script_form::read_script;
 use crate::texts::run_text;
@@ -57,14 +60,23 @@ fn read_document<'a>(alloc: Global, document: &[u8]) -> Result<Set, Refusal<'a>>
     first_records(alloc, form).map_err(|fault| not_built(fault, Unbuilt::Document))
 }
 
+/// The script, for the class of a document.
+fn read_script_for<'a>(alloc: Global, text: &[u8], schema: &Set) -> Result<Script, Refusal<'a>>
+    ensures { IfOk result (λ script. IsSome (title_in script.bind)) }
+{
+    match schema.classes.items.as_slice() {
+        [class] => match read_script(alloc, text, &class.id) {
+            Ok(script) => Ok(script),
+            Err(fault) => Err(not_built(fault, Unbuilt::Script)),
+        },
+        _ => Err(Refusal::NotBuilt(Unbuilt::Script)),
+    }
+}
+
 /// What `run` prints of a script and a document.
 fn run<'a>(alloc: Global, script: &[u8], document: &[u8]) -> Result<Vec<u8>, Refusal<'a>> {
     let schema = read_document(alloc, document)?;
-    let script = match schema.classes.items.as_slice() {
-        [class] => read_script(alloc, script, &class.id),
-        _ => Err(NotRead::Outside),
-    };
-    let script = script.map_err(|fault| not_built(fault, Unbuilt::Script))?;
+    let script = read_script_for(alloc, script, &schema)?;
     let played = perform_script(alloc, schema, script)?;
     Ok(run_text(alloc, &played.journal, &played.agent)?)
 }

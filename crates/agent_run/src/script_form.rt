@@ -1,7 +1,8 @@
 //! The first form of a script: a line `open HEX` with a written BIND, then lines `send 1 HEX`, each with a written invoke of
 //! m-Get whose argument has the document's class in globalForm and a localDistinguishedName.
 
-ghost use Rattle.std.specs.Prelude.{◌<◌, IfSome};
+ghost use Rattle.std.specs.Prelude.{◌<◌, IfOk, IfSome, IsSome};
+ghost use Rattle.term_model.specs.Bind.{title_in};
 
 use crate::apdu_reading::{asked_in, title_in};
 use crate::apdu_writing::{write_bind, write_get};
@@ -55,11 +56,17 @@ fn behind<'a>(line: &'a [u8], front: &[u8]) -> Result<&'a [u8], NotRead> {
 }
 
 /// The octets of a written BIND.
-fn read_open(alloc: Global, line: &[u8]) -> Result<Bytes, NotRead> {
+fn read_open(alloc: Global, line: &[u8]) -> Result<Bytes, NotRead>
+    ensures { IfOk result (λ bind. IsSome (title_in bind)) }
+{
     let bind = read_octets(alloc, behind(line, OPEN)?)?;
-    let title = title_in(alloc, bind.as_slice())?.ok_or(NotRead::Outside)?;
-    let written = write_bind(alloc, &title)?;
-    if written.as_slice() == bind.as_slice() { Ok(bind) } else { Err(NotRead::Outside) }
+    match title_in(alloc, bind.as_slice())? {
+        None => Err(NotRead::Outside),
+        Some(title) => {
+            let written = write_bind(alloc, &title)?;
+            if written.as_slice() == bind.as_slice() { Ok(bind) } else { Err(NotRead::Outside) }
+        }
+    }
 }
 
 /// The octets of a written invoke of m-Get for an object of this class.
@@ -75,7 +82,9 @@ fn read_send(alloc: Global, line: &[u8], class: &Oid) -> Result<Bytes, NotRead> 
 
 /// The script that the bytes spell in the first form, for a document whose class has this identifier. `Outside`: they are
 /// no such script.
-pub(crate) fn read_script(alloc: Global, text: &[u8], class: &Oid) -> Result<Script, NotRead> {
+pub(crate) fn read_script(alloc: Global, text: &[u8], class: &Oid) -> Result<Script, NotRead>
+    ensures { IfOk result (λ script. IsSome (title_in script.bind)) }
+{
     let mut lines = text.split(|byte| *byte == LINE_FEED);
     let bind = match lines.next() {
         Some(line) => read_open(alloc, line)?,
