@@ -5,6 +5,7 @@ pub mod IntegerLaws
 pub mod IntegerReading
 pub mod JournalLaws
 pub mod OutLines
+pub mod PartLaws
 pub mod PlayLaws
 pub mod ReadingSteps
 mod StandardFacts

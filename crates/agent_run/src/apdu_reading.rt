@@ -8,7 +8,7 @@ ghost use Rattle.term_values.specs.Oid.{oid_in};
 ghost use Rattle.term_values.specs.Tree.{listed};
 ghost use Rattle.term_model.specs.Bind.{title_in, title_of};
 ghost use Rattle.term_model.specs.GetRequest.{asked_by, asked_in, assertion_of, get_of, instance_of, rdn_of, rdns_of};
-ghost use Rattle.term_model.specs.Parts.{contents_under, inside_under, integer_under, oid_under, one_under, three_under, two_under};
+ghost use Rattle.term_model.specs.Parts.{contents_under, inside_under, integer_under, oid_under, one, one_under, three, three_under, two, two_under};
 ghost use Rattle.term_model.specs.RemoteOperation.{id_of, invoke_of};
 
 use crate::tree_reading::{read_integer_contents, read_oid_contents, read_tree};
@@ -58,34 +58,46 @@ fn contents_of(tree: &Tree, tag: Tag) -> Option<&[u8]>
     }
 }
 
+/// The value that stands alone in a list.
+fn alone(trees: &[Tree]) -> Option<&Tree>
+    ensures { option_copied result ≡ one (listed trees.now) }
+{
+    if trees.len() == 1 { Some(&trees[0]) } else { None }
+}
+
+/// The values of a list of two.
+fn pair(trees: &[Tree]) -> Option<(&Tree, &Tree)>
+    ensures { option_map (λ parts. (parts.0.now, parts.1.now)) result ≡ two (listed trees.now) }
+{
+    if trees.len() == 2 { Some((&trees[0], &trees[1])) } else { None }
+}
+
+/// The values of a list of three.
+fn triple(trees: &[Tree]) -> Option<(&Tree, &Tree, &Tree)>
+    ensures { option_map (λ parts. (parts.0.now, parts.1.now, parts.2.now)) result ≡ three (listed trees.now) }
+{
+    if trees.len() == 3 { Some((&trees[0], &trees[1], &trees[2])) } else { None }
+}
+
 /// The one value inside a constructed value of this tag.
 fn one_of(tree: &Tree, tag: Tag) -> Option<&Tree>
     ensures { option_copied result ≡ one_under tag tree.now }
 {
-    match inside_of(tree, tag) {
-        Some([first]) => Some(first),
-        _ => None,
-    }
+    alone(inside_of(tree, tag)?)
 }
 
 /// The two values inside a constructed value of this tag.
 fn two_of(tree: &Tree, tag: Tag) -> Option<(&Tree, &Tree)>
     ensures { option_map (λ parts. (parts.0.now, parts.1.now)) result ≡ two_under tag tree.now }
 {
-    match inside_of(tree, tag) {
-        Some([first, second]) => Some((first, second)),
-        _ => None,
-    }
+    pair(inside_of(tree, tag)?)
 }
 
 /// The three values inside a constructed value of this tag.
 fn three_of(tree: &Tree, tag: Tag) -> Option<(&Tree, &Tree, &Tree)>
     ensures { option_map (λ parts. (parts.0.now, parts.1.now, parts.2.now)) result ≡ three_under tag tree.now }
 {
-    match inside_of(tree, tag) {
-        Some([first, second, third]) => Some((first, second, third)),
-        _ => None,
-    }
+    triple(inside_of(tree, tag)?)
 }
 
 /// The tree that all of the octets spell.

@@ -1,12 +1,13 @@
 //! Object identifiers: X.660, clause 7, and X.690, section 8.19.
 
-ghost use Rattle.std.specs.Prelude.{◌==◌, ◌≡◌, ◌↔◌, ◌<◌, IsSome, IfSome, IfOk, IsTrue, length};
+ghost use Rattle.std.specs.Prelude.{◌==◌, ◌≡◌, ◌↔◌, ◌<◌, IsSome, IfSome, IfOk, IsTrue, length, true};
 ghost use Rattle.std.specs.Ordering.{nat_cmp, as_partial_cmp};
 ghost use Rattle.std.specs.Cmp.Lexicographic.{pointwise, slice_cmp};
 ghost use Rattle.std.specs.Cmp.{partial_order_from_own_ties};
 ghost use Rattle.std.specs.Cmp.Rules.{comparing};
 ghost use Rattle.std.proofs.Common.{rules};
-ghost use Rattle.term_values.specs.Oid.{is_oid, begins};
+ghost use Rattle.term_values.specs.Oid.{is_oid, is_arc, begins};
+ghost use Rattle.std.specs.List.{list_all};
 
 use std::alloc::{AllocError, Global};
 use std::cmp::Ordering;
@@ -73,8 +74,10 @@ impl Oid {
     pub fn arcs(&self) -> &[u32]
         ensures arcs { result.now ≡ self.now }
         ensures identifier { IsTrue (is_oid self.now) }
+        ensures numbers { list_all is_arc self.now ≡ true }
     {
-        self.arcs.as_slice()
+        let arcs = self.arcs.as_slice();
+        arcs
     }
 }
 
