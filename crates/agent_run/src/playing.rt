@@ -9,9 +9,14 @@ ghost use Rattle.term_model.specs.Played.ScriptLine.{Open, Send};
 ghost use Rattle.term_model.specs.Step.{is_legal};
 ghost use Rattle.agent_run.specs.Playing.{IsFresh, IsReady, script_lines, so_far};
 
-use crate::agent_steps::{SCRIPT_START, arrive, close_at_end, commit, finish, grant, open, take_all};
+use crate::agent_steps::{
+    SCRIPT_START, arrive, close_at_end, commit, finish, grant, open, take_all,
+};
 use std::alloc::{AllocError, Global};
-use term_model::{AgentState, Associations, Entries, Entry, NamedObject, Object, Objects, Oids, Operations, Set, Why};
+use term_model::{
+    AgentState, Associations, Entries, Entry, NamedObject, Object, Objects, Oids, Operations, Set,
+    Why,
+};
 use term_values::Bytes;
 
 /// The number of the one association of a script.

@@ -49,7 +49,7 @@ begins_itself xs = record { rest = []; whole = sym (append-nil xs) }
 begins_through : (xs ys zs : List ℕ) → Begins xs ys → Begins ys zs → Begins xs zs
 begins_through xs ys zs p q = record {
   rest = p.rest ++ q.rest;
-  whole = q.whole ∙ (ap (λ l. l ++ q.rest) p.whole ∙ append_assoc xs p.rest q.rest)
+  whole = q.whole ∙ (ap (λ l. l ++ q.rest) p.whole ∙ append_assoc xs p.rest q.rest);
 }
 
 -- what was placed for the association at an index, and for the one under a number

@@ -1,3 +1,4 @@
 mod StandardFacts
 pub mod HistoryLaws
+pub mod ScriptLaws
 pub mod StepLaws

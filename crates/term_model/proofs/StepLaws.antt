@@ -155,7 +155,7 @@ exec_objects schema objects (Get head) moment = refl
 
 -- a Get changes no object
 pub performed_as : (agent : AgentState) (number moment : ℕ) (o : Operation) (octets : List ℕ) → octets ≡ reply_bytes o (exec agent.schema agent.objects o.request moment)
-  → record agent { associations = changed_association agent.associations o.association (with_placed octets); operations = changed_operation agent.operations number (operation.Ended agent.entries) } ≡ performed agent number o moment
+    → record agent { associations = changed_association agent.associations o.association (with_placed octets); operations = changed_operation agent.operations number (operation.Ended agent.entries) } ≡ performed agent number o moment
 performed_as agent number moment o octets e =
     ap (λ bs. record agent { associations = changed_association agent.associations o.association (with_placed bs); operations = changed_operation agent.operations number (operation.Ended agent.entries) }) e
     ∙ ap (λ xs. record agent {
@@ -171,9 +171,9 @@ granted_then agent number moment legal =
     let o = p.0 in
     let s = p.1 in
     let there : operation_of (step agent (entry.Granted number moment)) number ≡ Some (record o { state = operation.Granted moment }) =
-      ap (λ (after : AgentState). operation_of after number) (step_legal agent (entry.Granted number moment) legal)
-      ∙ (ap (λ xs. numbered xs number) (changed_operation_at agent.operations number (operation.Granted moment) o s.there)
-      ∙ numbered_set agent.operations number (record o { state = operation.Granted moment }) s.positive s.within) in
+    ap (λ (after : AgentState). operation_of after number) (step_legal agent (entry.Granted number moment) legal)
+    ∙ (ap (λ xs. numbered xs number) (changed_operation_at agent.operations number (operation.Granted moment) o s.there)
+    ∙ numbered_set agent.operations number (record o { state = operation.Granted moment }) s.positive s.within) in
     ap (λ q. option_and_then (λ (b : Operation). granted_moment b.state) q) there
 
 -- a legal entry is one entry more

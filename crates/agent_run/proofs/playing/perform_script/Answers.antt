@@ -19,7 +19,7 @@ loop-apdu-init c = record {
       c.in_ok-open.ensures.played
       ∙ (ap (λ a. line_played (so_far a c.new.result.items) (Open c.args.script.bind)) c.in_ok-opened_agent.ensures
       ∙ ap (λ xs. line_played (so_far (start c.args.schema) xs) (Open c.args.script.bind)) c.new.ensures.items);
-  rest = c.into_iter-apdu-iterator.ensures.into_iter_gives.0
+  rest = c.into_iter-apdu-iterator.ensures.into_iter_gives.0;
 }
 
 pub loop-apdu-preserved : goal.loop-apdu-preserved
@@ -34,7 +34,7 @@ loop-apdu-preserved c =
           ∙ sym (script_more c.args.schema c.args.script.bind yielded apdu));
       rest =
           append_assoc yielded (apdu ∷ []) c.next.new.self.rest.items
-          ∙ (ap (λ xs. yielded ++ xs) (sym c.in-Some.ensures.steps.0) ∙ c.loop-apdu.invariant.rest)
+          ∙ (ap (λ xs. yielded ++ xs) (sym c.in-Some.ensures.steps.0) ∙ c.loop-apdu.invariant.rest);
     }
 
 pub close-requires : goal.close-requires
