@@ -29,7 +29,7 @@ pub record IsFaithful (schema : Set) (play : Play) : Type 0 where
 entry_faithful : (schema : Set) (play : Play) (next : Entry) → IsFaithful schema play → is_legal play.agent next ≡ true → IsFaithful schema (with_entry play next)
 entry_faithful schema play next f h = record {
   legal = legal_more schema play.journal next f.legal (ap (λ s. is_legal s next) f.replayed ∙ h);
-  replayed = replay_more schema play.journal next ∙ ap (λ s. step s next) f.replayed
+  replayed = replay_more schema play.journal next ∙ ap (λ s. step s next) f.replayed;
 }
 
 taken_legal : (agent : AgentState) (a : Association) → agent.associations ≡ a ∷ [] → (left_to_take a ≡ 0 → ⊥) → is_legal agent (entry.Taken sole (left_to_take a)) ≡ true
@@ -75,7 +75,6 @@ send_faithful schema agent journal apdu r f =
     subst (λ p. IsFaithful schema p) (sym (send_line agent journal apdu r))
     (taken_faithful schema (answered (length agent.operations) (with_entry (so_far agent journal) (entry.Arrived sole apdu))) (answered_lives agent journal apdu r) (answered_faithful schema agent journal apdu r f))
 
-
 -- the script's time stands still
 chosen_moment : (b : Bool) (p q : Play) (moment : ℕ) → p.moment ≡ moment → q.moment ≡ moment → (if b then p else q).moment ≡ moment
 chosen_moment true p q moment e f = e
@@ -117,7 +116,7 @@ sent_good schema play apdu g =
     (record {
       still = at_start next (send_moment agent journal apdu g.ready);
       ready = send_ready agent journal apdu g.ready;
-      faithful = send_faithful schema agent journal apdu g.ready faithful
+      faithful = send_faithful schema agent journal apdu g.ready faithful;
     })
 
 sends_good : (schema : Set) (play : Play) (sends : List (List ℕ)) → IsGood schema play → IsGood schema (lines_played play (map (Send sole) sends))
@@ -140,7 +139,7 @@ opened_good schema bind titled =
     (record {
       still = at_start (taken_all sole play) (taken_moment sole play);
       ready = taken_ready play l;
-      faithful = taken_faithful schema play l opened
+      faithful = taken_faithful schema play l opened;
     })
 
 closed_faithful : (schema : Set) (agent : AgentState) (journal : List Entry) → IsReady agent journal → IsFaithful schema (so_far agent journal) → IsFaithful schema (closed sole (so_far agent journal))

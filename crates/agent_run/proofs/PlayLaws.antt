@@ -105,7 +105,7 @@ answered_some before number play e h = rw (e, lt-ltb before number h) refl
 
 -- after a send the association lives
 queued_lives : (schema : Set) (objects : List NamedObject) (a : Association) (operations : List Operation) (entries : ℕ) (journal : List Entry) (q : Option Asked) → a.state ≡ Live → a.taken ≤ length a.placed → count_by is_open operations ≡ 0 → entries ≡ length journal
-  → Lives (answered (length operations) (play_of (state_of schema objects a (operations ++ queued sole q) entries) journal))
+    → Lives (answered (length operations) (play_of (state_of schema objects a (operations ++ queued sole q) entries) journal))
 queued_lives schema objects a operations entries journal None live within idle count =
     let play = play_of (state_of schema objects a (operations ++ []) entries) journal in
     subst (λ p. Lives p) (sym (answered_none operations play (append-nil operations)))
@@ -120,8 +120,8 @@ queued_lives schema objects a operations entries journal (Some asked) live withi
     let agent = state_of schema (exec schema objects asked.request 0).objects (with_placed bytes a) (operations ++ ended asked.id asked.request (entries + 1) ∷ []) (entries + 1 + 1) in
     let whole = (journal ++ entry.Granted number 0 ∷ []) ++ entry.Committed number ∷ [] in
     let form : answered (length operations) play ≡ play_of agent whole =
-      answered_some (length operations) number play (length_push operations o) (omega arith)
-      ∙ ap (λ s. play_of s whole) (ap (λ s. step s (entry.Committed number)) first ∙ second) in
+    answered_some (length operations) number play (length_push operations o) (omega arith)
+    ∙ ap (λ s. play_of s whole) (ap (λ s. step s (entry.Committed number)) first ∙ second) in
     let longer : length whole ≡ length journal + 1 + 1 = length_push (journal ++ entry.Granted number 0 ∷ []) (entry.Committed number) ∙ ap (λ n. n + 1) (length_push journal (entry.Granted number 0)) in
     subst (λ p. Lives p) (sym form)
     (record {
@@ -130,7 +130,7 @@ queued_lives schema objects a operations entries journal (Some asked) live withi
       one = refl;
       live = live;
       within = omega (arith, length-append a.placed bytes);
-      idle = ended_idle operations asked.id asked.request (entries + 1) idle
+      idle = ended_idle operations asked.id asked.request (entries + 1) idle;
     })
 
 -- the association is the only one
@@ -167,9 +167,9 @@ taken_ready play l =
     let some = eqb-false (left_to_take a) 0 e in
     let count = left_to_take a in
     let form : taken_all sole play ≡ record play { agent = state_of play.agent.schema play.agent.objects (with_taken count a) play.agent.operations (play.agent.entries + 1); journal = play.journal ++ entry.Taken sole count ∷ [] } =
-      taken_all_some play a l.one e
-      ∙ ap (λ s. record play { agent = s; journal = play.journal ++ entry.Taken sole count ∷ [] })
-      (ap (λ s. step s (entry.Taken sole count)) (is_state_of play.agent a l.one) ∙ taken_to play.agent.schema play.agent.objects a play.agent.operations play.agent.entries count (may_take_all count some)) in
+    taken_all_some play a l.one e
+    ∙ ap (λ s. record play { agent = s; journal = play.journal ++ entry.Taken sole count ∷ [] })
+    (ap (λ s. step s (entry.Taken sole count)) (is_state_of play.agent a l.one) ∙ taken_to play.agent.schema play.agent.objects a play.agent.operations play.agent.entries count (may_take_all count some)) in
     subst (λ (p : Play). IsReady p.agent p.journal) (sym form)
     (record {
       counted = ap (λ n. n + 1) l.counted ∙ sym (length_push play.journal (entry.Taken sole count));
@@ -177,7 +177,7 @@ taken_ready play l =
       one = refl;
       live = l.live;
       taken = omega arith;
-      idle = l.idle
+      idle = l.idle;
     }))
     (cases_Bool (left_to_take a == 0))
 
@@ -187,7 +187,7 @@ answered_lives agent journal apdu r =
     let a = r.association in
     let whole = journal ++ entry.Arrived sole apdu ∷ [] in
     let next : step agent (entry.Arrived sole apdu) ≡ state_of agent.schema agent.objects a (agent.operations ++ queued sole (asked_in apdu)) (agent.entries + 1) =
-      ap (λ s. step s (entry.Arrived sole apdu)) (is_state_of agent a r.one) ∙ arrived_to agent.schema agent.objects a agent.operations agent.entries apdu r.live r.idle in
+    ap (λ s. step s (entry.Arrived sole apdu)) (is_state_of agent a r.one) ∙ arrived_to agent.schema agent.objects a agent.operations agent.entries apdu r.live r.idle in
     let longer = length_push journal (entry.Arrived sole apdu) in
     let counted = r.counted in
     subst (λ s. Lives (answered (length agent.operations) (play_of s whole))) (sym next)
@@ -212,7 +212,7 @@ pub grant_legal : (agent : AgentState) (journal : List Entry) (apdu : List ℕ) 
 grant_legal agent journal apdu number r e h =
     let a = r.association in
     let next : step agent (entry.Arrived sole apdu) ≡ state_of agent.schema agent.objects a (agent.operations ++ queued sole (asked_in apdu)) (agent.entries + 1) =
-      ap (λ s. step s (entry.Arrived sole apdu)) (is_state_of agent a r.one) ∙ arrived_to agent.schema agent.objects a agent.operations agent.entries apdu r.live r.idle in
+    ap (λ s. step s (entry.Arrived sole apdu)) (is_state_of agent a r.one) ∙ arrived_to agent.schema agent.objects a agent.operations agent.entries apdu r.live r.idle in
     let size = ap (λ (s : AgentState). length s.operations) next in
     ap (λ s. is_legal s (entry.Granted number 0)) next ∙ queued_waits agent.schema agent.objects a agent.operations (agent.entries + 1) (asked_in apdu) number (e ∙ size) h
 
@@ -238,7 +238,7 @@ ready_ends agent journal r =
     let a = r.association in
     let b = with_state Finished a in
     let next : step agent (entry.Finished sole) ≡ state_of agent.schema agent.objects b agent.operations (agent.entries + 1) =
-      ap (λ s. step s (entry.Finished sole)) (is_state_of agent a r.one) ∙ finished_to agent.schema agent.objects a agent.operations agent.entries r.live in
+    ap (λ s. step s (entry.Finished sole)) (is_state_of agent a r.one) ∙ finished_to agent.schema agent.objects a agent.operations agent.entries r.live in
     let play = with_entry (so_far agent journal) (entry.Finished sole) in
     let one : (step agent (entry.Finished sole)).associations ≡ b ∷ [] = ap (λ (s : AgentState). s.associations) next in
     let taken = r.taken in
@@ -248,12 +248,12 @@ ready_ends agent journal r =
       counted = ap (λ (s : AgentState). s.entries) next ∙ ap (λ n. n + 1) r.counted;
       none_left = none_left;
       legal = ap (λ s. is_legal s (entry.Closed sole why.End)) next ∙ rw (r.idle, none) refl;
-      whole = closed_live (so_far agent journal) a r.one r.live ∙ ap (λ p. with_entry p (entry.Closed sole why.End)) none_left
+      whole = closed_live (so_far agent journal) a r.one r.live ∙ ap (λ p. with_entry p (entry.Closed sole why.End)) none_left;
     }
 
 -- the association is opened by a BIND with a title
 opened_to : (schema : Set) (objects : List NamedObject) (bind title : List ℕ) → title_in bind ≡ Some title
-  → step (record { schema = schema; objects = objects; associations = []; operations = []; entries = 0 }) (entry.Opened sole bind) ≡ state_of schema objects (bound sole (Some title)) [] 1
+    → step (record { schema = schema; objects = objects; associations = []; operations = []; entries = 0 }) (entry.Opened sole bind) ≡ state_of schema objects (bound sole (Some title)) [] 1
 opened_to schema objects bind title e =
     step_legal (record { schema = schema; objects = objects; associations = []; operations = []; entries = 0 }) (entry.Opened sole bind) refl
     ∙ ap (λ t. state_of schema objects (bound sole t) [] 1) e
@@ -277,7 +277,7 @@ lines_more play (x ∷ sends) apdu = lines_more (line_played play (Send sole x))
 
 -- what is left, where something is left, is taken
 taken_by : (number count : ℕ) (play : Play) (o : Option Association) → count ≡ option_map_or left_to_take o 0
-  → option_map_or (λ (a : Association). if left_to_take a == 0 then play else with_entry play (entry.Taken number (left_to_take a))) o play ≡ (if count == 0 then play else with_entry play (entry.Taken number count))
+    → option_map_or (λ (a : Association). if left_to_take a == 0 then play else with_entry play (entry.Taken number (left_to_take a))) o play ≡ (if count == 0 then play else with_entry play (entry.Taken number count))
 taken_by number count play None e = rw e refl
 taken_by number count play (Some a) e = rw e refl
 
@@ -315,7 +315,7 @@ pub fresh_lives : (agent : AgentState) (journal : List Entry) (bind : List ℕ) 
 fresh_lives agent journal bind f titled =
     let t = some_of (title_in bind) titled in
     let next : step agent (entry.Opened sole bind) ≡ state_of agent.schema agent.objects (bound sole (Some t.0)) [] 1 =
-      ap (λ s. step s (entry.Opened sole bind)) (fresh_form agent journal f) ∙ opened_to agent.schema agent.objects bind t.0 t.1 in
+    ap (λ s. step s (entry.Opened sole bind)) (fresh_form agent journal f) ∙ opened_to agent.schema agent.objects bind t.0 t.1 in
     let whole : journal ++ entry.Opened sole bind ∷ [] ≡ entry.Opened sole bind ∷ [] = ap (λ xs. xs ++ entry.Opened sole bind ∷ []) f.unwritten in
     subst (λ (p : Play). Lives p)
     (sym (ap (λ s. play_of s (journal ++ entry.Opened sole bind ∷ [])) next ∙ ap (λ xs. play_of (state_of agent.schema agent.objects (bound sole (Some t.0)) [] 1) xs) whole))

@@ -13,8 +13,10 @@ use crate::apdu_writing::{bind_answer_frame, reply_frame};
 use crate::object_reading::get_one;
 use std::alloc::{AllocError, Global};
 use term_model::reply::NO_SUCH_OBJECT_INSTANCE;
-use term_model::{AgentState, Asked, Association, AssociationState, CmisError, Entry, Instance, Name, Named};
-use term_model::{Object, Objects, Operation, OperationState, Operations, Reply, Request, Set, Why};
+use term_model::{
+    AgentState, Asked, Association, AssociationState, CmisError, Entry, Instance, Name, Named,
+    Object, Objects, Operation, OperationState, Operations, Reply, Request, Set, Why,
+};
 use term_values::{Bytes, Oid};
 
 /// The result of a BIND that is accepted.
@@ -55,7 +57,12 @@ fn bound(alloc: Global, number: u64, title: Option<Oid>) -> Result<Association, 
 }
 
 /// An association is asked for by a BIND; its number is the next one. Octets that are no BIND are turned away.
-pub(crate) fn open(alloc: Global, agent: &mut AgentState, number: u64, bind: &[u8]) -> Result<(), AllocError>
+pub(crate) fn open(
+    alloc: Global,
+    agent: &mut AgentState,
+    number: u64,
+    bind: &[u8],
+) -> Result<(), AllocError>
     requires small { number < 2 ^ 63 }
     requires legal { IsTrue (is_legal agent.old (Entry.Opened number bind.now)) }
     requires room { agent.old.entries + 1 < 2 ^ 64 }
@@ -89,7 +96,12 @@ fn queue(agent: &mut AgentState, number: u64, asked: Option<Asked>) -> Result<()
 }
 
 /// An APDU arrives; where it brings a request, an operation is queued under the next number.
-pub(crate) fn arrive(alloc: Global, agent: &mut AgentState, number: u64, apdu: &[u8]) -> Result<(), AllocError>
+pub(crate) fn arrive(
+    alloc: Global,
+    agent: &mut AgentState,
+    number: u64,
+    apdu: &[u8],
+) -> Result<(), AllocError>
     requires legal { IsTrue (is_legal agent.old (Entry.Arrived number apdu.now)) }
     requires room { agent.old.entries + 1 < 2 ^ 64 }
     ensures { OnOk result (agent.new ≡ step agent.old (Entry.Arrived number apdu.now)) }
@@ -151,7 +163,12 @@ fn no_such_instance(alloc: Global, base: &Instance) -> Result<CmisError, AllocEr
 }
 
 /// What the agent answers to a Get of this base object, granted at the script's start.
-fn answer_get(alloc: Global, schema: &Set, objects: &Objects, base: &Instance) -> Result<Reply, AllocError>
+fn answer_get(
+    alloc: Global,
+    schema: &Set,
+    objects: &Objects,
+    base: &Instance,
+) -> Result<Reply, AllocError>
     ensures { IfOk result (λ reply. reply ≡ get_reply schema.now base.now 0 (object_at objects.now (name_of base.now))) }
 {
     let Named::Object(name) = &base.named;
@@ -162,7 +179,12 @@ fn answer_get(alloc: Global, schema: &Set, objects: &Objects, base: &Instance) -
 }
 
 /// The reply to an operation granted at the script's start, in its frame.
-fn answer_frame(alloc: Global, schema: &Set, objects: &Objects, operation: &Operation) -> Result<Vec<u8>, AllocError>
+fn answer_frame(
+    alloc: Global,
+    schema: &Set,
+    objects: &Objects,
+    operation: &Operation,
+) -> Result<Vec<u8>, AllocError>
     ensures { IfOk result (λ octets. octets.items ≡ reply_bytes operation.now (exec schema.now objects.now operation.now.request 0)) }
 {
     let Request::Get { head } = &operation.request;

@@ -3,14 +3,20 @@
 ghost use Rattle.std.specs.Prelude.{◌≡◌, ◌+◌, ◌^◌, ◌<◌, ◌++◌, [], ◌∷◌, length, IsTrue, OnOk, IfOk, IsSome};
 ghost use Rattle.term_model.specs.AgentState.{start};
 ghost use Rattle.term_model.specs.Bind.{title_in};
+ghost use Rattle.term_model.specs.History.{is_legal_journal, replay};
 ghost use Rattle.term_model.specs.Played.{answered, closed, line_played, played, taken_all, with_entry};
 ghost use Rattle.term_model.specs.Played.ScriptLine.{Open, Send};
 ghost use Rattle.term_model.specs.Step.{is_legal};
 ghost use Rattle.agent_run.specs.Playing.{IsFresh, IsReady, script_lines, so_far};
 
-use crate::agent_steps::{SCRIPT_START, arrive, close_at_end, commit, finish, grant, open, take_all};
+use crate::agent_steps::{
+    SCRIPT_START, arrive, close_at_end, commit, finish, grant, open, take_all,
+};
 use std::alloc::{AllocError, Global};
-use term_model::{AgentState, Associations, Entries, Entry, NamedObject, Object, Objects, Oids, Operations, Set, Why};
+use term_model::{
+    AgentState, Associations, Entries, Entry, NamedObject, Object, Objects, Oids, Operations, Set,
+    Why,
+};
 use term_values::Bytes;
 
 /// The number of the one association of a script.
@@ -178,8 +184,12 @@ impl Play {
 /// The journal of a script on the records of a document, and the agent after it.
 pub(crate) fn perform_script(alloc: Global, schema: Set, script: Script) -> Result<Play, AllocError>
     requires { IsSome (title_in script.bind) }
-    ensures { IfOk result (λ play. so_far play.agent play.journal
+    ensures played { IfOk result (λ play. so_far play.agent play.journal
         ≡ played schema (script_lines script.bind script.sends.items)) }
+
+    // The journal is one that the agent may have, and comes to the agent as it is.
+    ensures legal { IfOk result (λ play. IsTrue (is_legal_journal schema play.journal)) }
+    ensures replayed { IfOk result (λ play. replay schema play.journal ≡ play.agent) }
 {
     let mut play = Play {
         agent: opened_agent(alloc, schema)?,

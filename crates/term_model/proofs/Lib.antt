@@ -1,4 +1,5 @@
 pub mod RisingLaws
 mod StandardFacts
 pub mod HistoryLaws
+pub mod ScriptLaws
 pub mod StepLaws

@@ -3,6 +3,7 @@ pub mod Bind
 pub mod Comparing
 pub mod GetRequest
 pub mod History
+pub mod JournalLaws
 pub mod Moment
 pub mod ObjectOperation
 pub mod Operation

@@ -4,6 +4,7 @@
 
 pub mod agent_state;
 pub mod entry;
+pub mod laws;
 pub mod name;
 pub mod object;
 pub mod reply;

@@ -1,0 +1,5 @@
+use Rattle.term_model.proofs.HistoryLaws.{out_begins}
+use Rattle.term_model.proofs.laws.placed_stays.Goals as goal
+
+pub returns : goal.returns
+returns c = λ schema number xs ys. let b = out_begins schema number xs ys in (b.rest, b.whole)

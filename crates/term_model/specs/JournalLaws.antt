@@ -1,0 +1,25 @@
+-- Laws of journals: one that follows another goes on where that one ended, what was placed for an association stays, and the
+-- journal of a script comes to its agent.
+use Rattle.std.specs.Prelude.{◌≡◌, ℕ, ◌&&◌, List, [], ◌∷◌, ◌++◌}
+use Rattle.term_model.specs.declared.agent_state.AgentState.{AgentState}
+use Rattle.term_model.specs.declared.entry.Entry.{Entry}
+use Rattle.term_model.specs.declared.schema.Set.{Set}
+use Rattle.term_model.specs.History.{is_legal_from, out, replay, replay_from}
+use Rattle.term_model.specs.Played.{ScriptLine, played}
+use Rattle.term_model.specs.Step.{step}
+
+abbrev pub ReplayGoesOn : Type 0
+ReplayGoesOn = (agent : AgentState) (xs ys : List Entry) → replay_from agent (xs ++ ys) ≡ replay_from (replay_from agent xs) ys
+
+abbrev pub ReplayStepsOn : Type 0
+ReplayStepsOn = (schema : Set) (journal : List Entry) (next : Entry) → replay schema (journal ++ next ∷ []) ≡ step (replay schema journal) next
+
+abbrev pub LegalGoesOn : Type 0
+LegalGoesOn = (agent : AgentState) (xs ys : List Entry) → is_legal_from agent (xs ++ ys) ≡ (is_legal_from agent xs && is_legal_from (replay_from agent xs) ys)
+
+abbrev pub PlacedStays : Type 0
+PlacedStays = (schema : Set) (number : ℕ) (xs ys : List Entry) → (rest : List ℕ) × (out schema number (xs ++ ys) ≡ out schema number xs ++ rest)
+
+-- the journal of any script comes to the agent that the script came to
+abbrev pub ScriptReplays : Type 0
+ScriptReplays = (schema : Set) (script : List ScriptLine) → replay schema (played schema script).journal ≡ (played schema script).agent
