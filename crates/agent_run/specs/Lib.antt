@@ -1,5 +1,6 @@
 pub mod Integers
 pub mod Playing
 pub mod Reading
+pub mod Running
 pub mod Subidentifiers
 pub mod Writing

@@ -4,7 +4,7 @@ ghost use Rattle.std.specs.Prelude.{◌≡◌, ◌++◌, ◌+◌, ◌^◌, ◌<�
 ghost use Rattle.term_model.specs.Bind.{bind, bind_answer};
 ghost use Rattle.term_model.specs.GetRequest.{get_apdu};
 ghost use Rattle.term_model.specs.Operation.{reply_frame};
-ghost use Rattle.term_model.specs.RemoteOperation.{error_apdu, frame, result_apdu};
+ghost use Rattle.term_model.specs.RemoteOperation.{error_apdu, frame, integer, result_apdu};
 ghost use Rattle.term_model.specs.Operation.{sent_parameter};
 ghost use Rattle.term_values.specs.Der.{encoded};
 
@@ -89,14 +89,22 @@ fn sent_parameter(error: &CmisError) -> &[u8]
     }
 }
 
-/// The frame of an Error: the invoke id, the error's number and the parameter that is sent.
-fn coded_error_frame(alloc: Global, invoke: i64, code: i64, parameter: &[u8]) -> Result<Vec<u8>, AllocError>
-    ensures { IfOk result (λ octets. octets.items ≡ frame (error_apdu invoke code parameter.now)) }
+/// What stands in an Error: the invoke id, the error's number and the parameter that is sent.
+fn error_contents(alloc: Global, invoke: i64, code: i64, parameter: &[u8]) -> Result<Vec<u8>, AllocError>
+    ensures { IfOk result (λ octets. octets.items ≡ integer invoke ++ (integer code ++ parameter.now)) }
 {
     let mut contents = Vec::new(alloc);
     write_integer(alloc, invoke, &mut contents)?;
     write_integer(alloc, code, &mut contents)?;
     contents.extend_from_slice(parameter)?;
+    Ok(contents)
+}
+
+/// The frame of an Error with this number and parameter.
+fn coded_error_frame(alloc: Global, invoke: i64, code: i64, parameter: &[u8]) -> Result<Vec<u8>, AllocError>
+    ensures { IfOk result (λ octets. octets.items ≡ frame (error_apdu invoke code parameter.now)) }
+{
+    let contents = error_contents(alloc, invoke, code, parameter)?;
     framed(alloc, ERROR, &contents)
 }
 

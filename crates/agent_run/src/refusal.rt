@@ -1,5 +1,8 @@
 //! How a command ends when it is not done: its status, and the line that says why.
 
+ghost use Rattle.std.specs.Prelude.{◌≡◌};
+ghost use Rattle.agent_run.specs.Running.{IsNoFileFault, status_of};
+
 use std::alloc::{AllocError, AllocFailed, Global};
 use text_lex::LexKind;
 
@@ -46,12 +49,16 @@ pub(crate) enum Refusal<'a> {
 }
 
 impl From<AllocError> for Refusal<'_> {
+    ghost from_gives = { λ _ e. IsNoFileFault e };
+
     fn from(_error: AllocError) -> Self {
         Refusal::OutOfMemory
     }
 }
 
 impl<T: Drop> From<AllocFailed<T>> for Refusal<'_> {
+    ghost from_gives = { λ _ e. IsNoFileFault e };
+
     fn from(_error: AllocFailed<T>) -> Self {
         Refusal::OutOfMemory
     }
@@ -69,7 +76,9 @@ fn kind_name(kind: LexKind) -> &'static str {
 
 impl Refusal<'_> {
     /// The status with which the program ends.
-    pub(crate) fn status(&self) -> u8 {
+    pub(crate) fn status(&self) -> u8
+        ensures { result ≡ status_of self.now }
+    {
         match self {
             Refusal::FileFault(_) => FILE_FAULT,
             Refusal::FileTooLarge(_) => FILE_TOO_LARGE,

@@ -1,20 +1,23 @@
 //! The top call: the words of a command line, the files that they name, and what is written.
 
-ghost use Rattle.std.specs.Prelude.{IfOk, IsSome};
+ghost use Rattle.std.specs.Prelude.{◌≡◌, ◌≢◌, ◌⊎◌, ◌≤◌, IfErr, IfOk, IsSome};
+ghost use Rattle.agent_bytes.specs.Faults.{Rose};
+ghost use Rattle.agent_bytes.specs.Told.{gained};
+ghost use Rattle.agent_run.specs.Running.{HasCause, IsNoFileFault, IsRun, Prints, status_of};
 ghost use Rattle.term_model.specs.Bind.{title_in};
 
 use crate::first_form::read_first_form;
 use crate::first_records::first_records;
 use crate::not_read::NotRead;
 use crate::playing::{Script, perform_script};
-use crate::refusal::{DONE, OUT_OF_MEMORY, Refusal, Unbuilt, WRITE_FAULT};
+use crate::refusal::{DONE, FILE_FAULT, OUT_OF_MEMORY, Refusal, Unbuilt, WRITE_FAULT};
 use crate::script_form::read_script;
 use crate::texts::run_text;
 use crate::words::read_words;
 use agent_bytes::{FileRefusal, Files, Sink, write_all};
-use std::alloc::Global;
+use std::alloc::{AllocError, Global};
 use term_model::Set;
-use text_lex::{LexRefusal, lex};
+use text_lex::{LexRefusal, Token, lex};
 
 /// The most bytes of a document.
 const MOST_DOCUMENT: u64 = 4_194_304;
@@ -26,7 +29,10 @@ const MOST_SCRIPT: u64 = 16_777_216;
 const MEMORY_LINE: &[u8] = b"memory\n";
 
 /// The bytes of a file.
-fn read_file<'a, F: Files>(alloc: Global, files: &mut F, name: &'a str, limit: u64) -> Result<Vec<u8>, Refusal<'a>> {
+fn read_file<'a, F: Files>(alloc: Global, files: &mut F, name: &'a str, limit: u64) -> Result<Vec<u8>, Refusal<'a>>
+    ensures cause { IfErr result (HasCause (F.faults files.old) (F.faults files.new)) }
+    ensures counted { F.faults files.old ≤ F.faults files.new }
+{
     match files.read_file(alloc, name, limit) {
         Ok(bytes) => Ok(bytes),
         Err(FileRefusal::Failed) => Err(Refusal::FileFault(name)),
@@ -42,27 +48,40 @@ fn line_of(text: &[u8], at: usize) -> u64 {
 }
 
 /// What is left of a text that was not read.
-fn not_built<'a>(fault: NotRead, what: Unbuilt) -> Refusal<'a> {
+fn not_built<'a>(fault: NotRead, what: Unbuilt) -> Refusal<'a>
+    ensures { IsNoFileFault result }
+{
     match fault {
         NotRead::Outside => Refusal::NotBuilt(what),
         NotRead::Memory => Refusal::OutOfMemory,
     }
 }
 
+/// The records that the tokens of a document define.
+fn read_records(alloc: Global, tokens: &[Token]) -> Result<Set, NotRead> {
+    let form = read_first_form(alloc, tokens)?;
+    first_records(alloc, form)
+}
+
 /// The records of a document.
-fn read_document<'a>(alloc: Global, document: &[u8]) -> Result<Set, Refusal<'a>> {
+fn read_document<'a>(alloc: Global, document: &[u8]) -> Result<Set, Refusal<'a>>
+    ensures { IfErr result IsNoFileFault }
+{
     let tokens = match lex(alloc, document) {
         Ok(tokens) => tokens,
         Err(LexRefusal::Fault { at, kind }) => return Err(Refusal::BadDocument(line_of(document, at as usize), kind)),
         Err(LexRefusal::Memory) => return Err(Refusal::OutOfMemory),
     };
-    let form = read_first_form(alloc, &tokens).map_err(|fault| not_built(fault, Unbuilt::Document))?;
-    first_records(alloc, form).map_err(|fault| not_built(fault, Unbuilt::Document))
+    match read_records(alloc, &tokens) {
+        Ok(schema) => Ok(schema),
+        Err(fault) => Err(not_built(fault, Unbuilt::Document)),
+    }
 }
 
 /// The script, for the class of a document.
 fn read_script_for<'a>(alloc: Global, text: &[u8], schema: &Set) -> Result<Script, Refusal<'a>>
-    ensures { IfOk result (λ script. IsSome (title_in script.bind)) }
+    ensures bound { IfOk result (λ script. IsSome (title_in script.bind)) }
+    ensures cause { IfErr result IsNoFileFault }
 {
     match schema.classes.items.as_slice() {
         [class] => match read_script(alloc, text, &class.id) {
@@ -73,16 +92,33 @@ fn read_script_for<'a>(alloc: Global, text: &[u8], schema: &Set) -> Result<Scrip
     }
 }
 
+/// What `run` prints of a script that is played on a schema.
+fn play(alloc: Global, schema: Set, script: Script) -> Result<Vec<u8>, AllocError>
+    requires { IsSome (title_in script.bind) }
+    ensures { IfOk result (λ text. IsRun text.items) }
+{
+    let played = perform_script(alloc, schema, script)?;
+    run_text(alloc, &played.journal, &played.agent)
+}
+
 /// What `run` prints of a script and a document.
-fn run<'a>(alloc: Global, script: &[u8], document: &[u8]) -> Result<Vec<u8>, Refusal<'a>> {
+fn run<'a>(alloc: Global, script: &[u8], document: &[u8]) -> Result<Vec<u8>, Refusal<'a>>
+    ensures text { IfOk result (λ text. IsRun text.items) }
+    ensures cause { IfErr result IsNoFileFault }
+{
     let schema = read_document(alloc, document)?;
     let script = read_script_for(alloc, script, &schema)?;
-    let played = perform_script(alloc, schema, script)?;
-    Ok(run_text(alloc, &played.journal, &played.agent)?)
+    match play(alloc, schema, script) {
+        Ok(text) => Ok(text),
+        Err(_) => Err(Refusal::OutOfMemory),
+    }
 }
 
 /// What a command prints where it is done.
-fn prepare<'a, F: Files>(alloc: Global, words: &'a [String], files: &mut F) -> Result<Vec<u8>, Refusal<'a>> {
+fn prepare<'a, F: Files>(alloc: Global, words: &'a [String], files: &mut F) -> Result<Vec<u8>, Refusal<'a>>
+    ensures text { IfOk result (λ text. IsRun text.items) }
+    ensures cause { IfErr result (HasCause (F.faults files.old) (F.faults files.new)) }
+{
     let places = match read_words(words) {
         Some(places) => places,
         None => return Err(Refusal::NotBuilt(Unbuilt::Command)),
@@ -93,10 +129,26 @@ fn prepare<'a, F: Files>(alloc: Global, words: &'a [String], files: &mut F) -> R
 }
 
 /// Writes a text, and answers the status where it was written.
-fn put<O: Sink>(out: &mut O, text: &[u8], status: u8) -> u8 {
+fn put<O: Sink>(out: &mut O, text: &[u8], status: u8) -> u8
+    requires { status ≢ WRITE_FAULT }
+    ensures done { result ≢ WRITE_FAULT → result ≡ status }
+    ensures written { result ≢ WRITE_FAULT → O.contents out.new ≡ gained (O.contents out.old) text.now }
+    ensures fault { result ≡ WRITE_FAULT → Rose (O.faults out.old) (O.faults out.new) }
+{
     match write_all(out, text) {
         Ok(()) => status,
         Err(_) => WRITE_FAULT,
+    }
+}
+
+/// Writes the line of a refusal, and answers its status.
+fn refuse<O: Sink>(alloc: Global, refusal: &Refusal<'_>, out: &mut O) -> u8
+    ensures status { result ≡ status_of refusal.now ⊎ (result ≡ OUT_OF_MEMORY ⊎ result ≡ WRITE_FAULT) }
+    ensures fault { result ≡ WRITE_FAULT → Rose (O.faults out.old) (O.faults out.new) }
+{
+    match refusal.line(alloc) {
+        Ok(line) => put(out, line.as_bytes(), refusal.status()),
+        Err(_) => put(out, MEMORY_LINE, OUT_OF_MEMORY),
     }
 }
 
@@ -105,13 +157,17 @@ fn put<O: Sink>(out: &mut O, text: &[u8], status: u8) -> u8 {
 /// The words are `run SCRIPT DOC`: the files are read in this order, the script is played on the document's objects, and the
 /// journal, a line of two dashes, a line `out A HEX` for each association and a line `objects N` are written to `out`. With
 /// another status than 0 and 6 one line is written that says why.
-pub fn agent<R: AllocGlobal, F: Files, O: Sink>(rt: &R, words: &[String], files: &mut F, out: &mut O) -> u8 {
+pub fn agent<R: AllocGlobal, F: Files, O: Sink>(rt: &R, words: &[String], files: &mut F, out: &mut O) -> u8
+    // What was written is what a script comes to on a schema: its journal, and what the agent placed.
+    ensures printed { result ≡ DONE → Prints (O.contents out.old) (O.contents out.new) }
+
+    // A fault comes only where the count rose in this call.
+    ensures file_fault { result ≡ FILE_FAULT → Rose (F.faults files.old) (F.faults files.new) }
+    ensures write_fault { result ≡ WRITE_FAULT → Rose (O.faults out.old) (O.faults out.new) }
+{
     let alloc = rt.alloc();
     match prepare(alloc, words, files) {
         Ok(text) => put(out, &text, DONE),
-        Err(refusal) => match refusal.line(alloc) {
-            Ok(line) => put(out, line.as_bytes(), refusal.status()),
-            Err(_) => put(out, MEMORY_LINE, OUT_OF_MEMORY),
-        },
+        Err(refusal) => refuse(alloc, &refusal, out),
     }
 }

@@ -1,6 +1,6 @@
 //! The texts that `run` prints: a line for each entry of the journal, two dashes, and what the journal comes to.
 
-ghost use Rattle.std.specs.Prelude.{◌≡◌, ◌++◌, ℕ, OnOk, codes, decimal, length};
+ghost use Rattle.std.specs.Prelude.{◌≡◌, ◌∷◌, ◌++◌, IfOk, OnOk, codes, decimal};
 ghost use Rattle.hex.specs.Hex.{encode_upper};
 ghost use Rattle.term_model.specs.Texts.{cause_text, placed_text, line, line_feed, two_words, one_word, journal_text, out_lines, objects_line, outs};
 
@@ -138,7 +138,9 @@ pub(crate) fn write_outs(alloc: Global, agent: &AgentState, into: &mut Vec<u8>) 
 }
 
 /// What `run` prints of a journal and the agent after it.
-pub(crate) fn run_text(alloc: Global, journal: &Entries, agent: &AgentState) -> Result<Vec<u8>, AllocError> {
+pub(crate) fn run_text(alloc: Global, journal: &Entries, agent: &AgentState) -> Result<Vec<u8>, AllocError>
+    ensures { IfOk result (λ text. text.items ≡ journal_text journal.now ++ ((45 ∷ 45 ∷ line_feed) ++ outs agent.now)) }
+{
     let mut text = Vec::new(alloc);
     write_journal(alloc, journal, &mut text)?;
     text.extend_from_slice(SEPARATOR)?;

@@ -1,5 +1,6 @@
+-- What was made of the front of the list so far.
 use Rattle.std.proofs.Common.{◌≡◌, take}
-use Rattle.std.specs.List.{map}
+use Rattle.std.specs.Prelude.{map}
 use Rattle.term_model.specs.ObjectOperation.{attribute_octets}
 use Rattle.agent_run.proofs.object_reading.attribute_set.Given as goal
 

@@ -1,5 +1,6 @@
+-- What was made of the front of the list so far.
 use Rattle.std.proofs.Common.{◌≡◌, take}
-use Rattle.std.specs.List.{map, filter}
+use Rattle.std.specs.Prelude.{map, filter}
 use Rattle.term_model.specs.declared.object.Attribute.{Attribute}
 use Rattle.term_model.specs.ObjectOperation.{attribute_octets, is_readable}
 use Rattle.agent_run.proofs.object_reading.readable_set.Given as goal

@@ -1,3 +1,4 @@
+-- What was made of the front of the list so far.
 use Rattle.std.proofs.Common.{◌≡◌, take}
 use Rattle.std.specs.List.{flat_map}
 use Rattle.term_model.specs.GetRequest.{rdn_octets}

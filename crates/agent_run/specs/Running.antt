@@ -1,0 +1,43 @@
+-- What a run of the program is: the text that it prints, and the causes of the statuses with which it ends otherwise.
+use Rattle.std.specs.Prelude.{◌≡◌, ℕ, List, IsTrue, Option}
+use Rattle.agent_bytes.specs.Faults.{Rose}
+use Rattle.agent_bytes.specs.Told.{gained}
+use Rattle.agent_run.specs.declared.refusal.Refusal.{Refusal}
+use Rattle.agent_run.specs.declared.refusal.Refusal.TheVariants.{FileFault, FileTooLarge, BadDocument, NotBuilt, OutOfMemory}
+use Rattle.term_model.specs.declared.schema.Set.{Set}
+use Rattle.term_model.specs.History.{is_legal_journal, replay}
+use Rattle.term_model.specs.Played.{played, run_text}
+use Rattle.agent_run.specs.Playing.{script_lines}
+
+-- the text is what a script comes to on a schema, and the script's journal is legal and comes to its agent
+pub record IsRun (text : List ℕ) : Type 0 where
+  pub schema : Set
+  pub bind : List ℕ
+  pub sends : List (List ℕ)
+  pub printed : text ≡ run_text schema (script_lines bind sends)
+  pub legal : IsTrue (is_legal_journal schema (played schema (script_lines bind sends)).journal)
+  pub replayed : replay schema (played schema (script_lines bind sends)).journal ≡ (played schema (script_lines bind sends)).agent
+
+-- what was written in a call is such a text, where it is told
+pub record Prints (before after : Option (List ℕ)) : Type 0 where
+  pub text : List ℕ
+  pub run : IsRun text
+  pub written : after ≡ gained before text
+
+-- a file that could not be read raised the count of faults
+abbrev pub HasCause : ℕ → ℕ → Refusal → Type 0
+HasCause before after (FileFault name) = Rose before after
+HasCause before after _ = Unit {0}
+
+-- a refusal that no file call caused
+abbrev pub IsNoFileFault : Refusal → Type 0
+IsNoFileFault (FileFault name) = ⊥
+IsNoFileFault _ = Unit {0}
+
+-- the status with which the program ends
+abbrev pub status_of : Refusal → ℕ
+status_of (FileFault name) = 3
+status_of (FileTooLarge name) = 10
+status_of (BadDocument line kind) = 4
+status_of (NotBuilt what) = 12
+status_of OutOfMemory = 8
