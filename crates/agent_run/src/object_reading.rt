@@ -2,8 +2,8 @@
 
 ghost use Rattle.std.specs.Prelude.{◌≡◌, ◌++◌, IfOk, OnOk, IsTrue, List, map, flat_map};
 ghost use Rattle.std.specs.List.{list_any};
-ghost use Rattle.term_model.specs.GetRequest.{instance_octets, rdn_octets};
-ghost use Rattle.term_model.specs.ObjectOperation.{attribute_octets, get_one, is_readable, lets_read, readable};
+ghost use Rattle.term_model.specs.GetRequest.{class_octets, instance_octets, rdn_octets};
+ghost use Rattle.term_model.specs.ObjectOperation.{attribute_octets, attributes_octets, get_one, is_readable, lets_read, readable, time_octets};
 ghost use Rattle.term_model.specs.Rising.{rising};
 ghost use Rattle.term_values.specs.Fits.{der};
 
@@ -130,16 +130,39 @@ pub(crate) fn write_instance(alloc: Global, name: &[Rdn], into: &mut Vec<u8>) ->
     write_value(true, LOCAL_DISTINGUISHED_NAME, &rdns, into)
 }
 
-/// The GetResult of an object, granted at the moment 0.
-pub(crate) fn get_one(alloc: Global, schema: &Set, name: &[Rdn], object: &Object) -> Result<Bytes, AllocError>
-    ensures { IfOk result (λ octets. octets ≡ get_one schema.now name.now object.now 0) }
+/// Appends the time of a result, the moment 0.
+fn write_epoch(into: &mut Vec<u8>) -> Result<(), AllocError>
+    ensures { OnOk result (into.new.items ≡ into.old.items ++ time_octets 0) }
+{
+    write_value(false, CURRENT_TIME, EPOCH_TEXT, into)
+}
+
+/// Appends the attributes that a Get without a list gives.
+fn write_attributes(alloc: Global, schema: &Set, object: &Object, into: &mut Vec<u8>) -> Result<(), AllocError>
+    ensures { OnOk result (into.new.items ≡ into.old.items ++ attributes_octets (readable schema.now object.now)) }
+{
+    let attributes = readable_set(alloc, schema, object)?;
+    write_value(true, ATTRIBUTE_LIST, &attributes, into)
+}
+
+/// What stands in the GetResult of an object, granted at the moment 0.
+fn result_contents(alloc: Global, schema: &Set, name: &[Rdn], object: &Object) -> Result<Vec<u8>, AllocError>
+    ensures { IfOk result (λ octets. octets.items
+        ≡ class_octets object.now.class ++ (instance_octets name.now ++ (time_octets 0 ++ attributes_octets (readable schema.now object.now)))) }
 {
     let mut contents = Vec::new(alloc);
     write_oid(alloc, GLOBAL_FORM, &object.class, &mut contents)?;
     write_instance(alloc, name, &mut contents)?;
-    write_value(false, CURRENT_TIME, EPOCH_TEXT, &mut contents)?;
-    let attributes = readable_set(alloc, schema, object)?;
-    write_value(true, ATTRIBUTE_LIST, &attributes, &mut contents)?;
+    write_epoch(&mut contents)?;
+    write_attributes(alloc, schema, object, &mut contents)?;
+    Ok(contents)
+}
+
+/// The GetResult of an object, granted at the moment 0.
+pub(crate) fn get_one(alloc: Global, schema: &Set, name: &[Rdn], object: &Object) -> Result<Bytes, AllocError>
+    ensures { IfOk result (λ octets. octets ≡ get_one schema.now name.now object.now 0) }
+{
+    let contents = result_contents(alloc, schema, name, object)?;
     let mut items = Vec::new(alloc);
     write_value(true, Tag::SEQUENCE, &contents, &mut items)?;
     Ok(Bytes { items })
