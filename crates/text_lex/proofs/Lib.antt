@@ -1,1 +1,6 @@
 -- The lemmas of this crate.
+pub mod Places
+pub mod Heads
+pub mod Sequences
+pub mod Turns
+pub mod Clauses
