@@ -49,7 +49,8 @@ clause_leads {tokens} {grammar} {on} n s {i} {j} {a} still comes one rivals = re
   spells = λ k b t. S.clause n still one.spelt t;
   only = only;
   begins = λ k b. B.clause n still one.spelt b;
-  furthest = furthest }
+  furthest = furthest;
+}
   where
     same : (k m p : ℕ) (x b : Tree) → m ≡ n → ((p ≡ j) × (x ≡ a)) ⊎ At tokens p closed → Spells tokens grammar (AnyOrder (filled m x s)) p k b → Spells tokens grammar (AnyOrder (filled n a s)) j k b
     same k m p x b e (inl q) r = spells_from q.0 (filled_at s e q.1 r)

@@ -181,7 +181,8 @@ pub stops_here : {tokens : List Token} {grammar : ℕ → Form} (named : ℕ →
 stops_here {tokens} {grammar} named heads {on} f i k order full fails = record {
   order = order;
   unspelt = λ j a s. unspelt j (spells_first named heads s);
-  furthest = λ j b. furthest j (begins_first named heads b) }
+  furthest = λ j b. furthest j (begins_first named heads b);
+}
   where
     unspelt : (j : ℕ) → SpellsFirst named tokens f i j → At tokens j on
     unspelt j (inl p) = absurd (cc (p.1, full))

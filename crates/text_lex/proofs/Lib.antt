@@ -4,3 +4,5 @@ pub mod Heads
 pub mod Sequences
 pub mod Turns
 pub mod Clauses
+pub mod Tokens
+pub mod Exits

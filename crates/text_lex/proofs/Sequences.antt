@@ -3,7 +3,7 @@
 use Rattle.std.proofs.Common.{◌≡◌, ℕ, ◌+◌, ◌≤◌, ◌<◌, Bool, true, false, List, [], ◌∷◌, Option, None, Some, ◌⊎◌, inl, inr, refl, sym, ◌∙◌, ap, subst, arith, slice_get}
 use Rattle.text_lex.specs.declared.token.Token.{Token}
 use Rattle.text_lex.specs.declared.syntax_refusal.SyntaxRefusal.{SyntaxRefusal}
-use Rattle.text_lex.specs.declared.syntax_refusal.SyntaxRefusal.TheVariants.{Syntax}
+use Rattle.text_lex.specs.declared.syntax_refusal.SyntaxRefusal.TheVariants.{Syntax, Memory}
 use Rattle.text_lex.specs.Form.{Form, Tree, Marks, Keep, Then, Or, Maybe, Listed, Many, AnyOrder, Named, Bare, Leaf, Pair, First, Second, Absent, Present, Numbered}
 use Rattle.text_lex.specs.Spelling as S
 use Rattle.text_lex.specs.Spelling.{At, passes, Spells}
@@ -222,3 +222,28 @@ stops_named {tokens} {grammar} {on} n {i} {k} one = record { order = one.order; 
 
 pub fault_named : {tokens : List Token} {grammar : ℕ → Form} {on : Token → Bool} (n : ℕ) {i k : ℕ} → IsFault tokens grammar on (grammar n) i k → IsFault tokens grammar on (Named n) i k
 fault_named n one = record { begun = B.named one.begun; stops = stops_named n one.stops }
+
+-- The refusals of the parts are refusals of the whole.
+pub fails_by : {tokens : List Token} {grammar : ℕ → Form} {on on' : Token → Bool} {f g : Form} {i j : ℕ} {e : SyntaxRefusal} → ((k : ℕ) → IsFault tokens grammar on f i k → IsFault tokens grammar on' g j k) → Fails tokens grammar on f i e → Fails tokens grammar on' g j e
+fails_by law r = record { fault = λ k is. law k (r.fault k is) }
+
+pub fails_at : {tokens : List Token} {grammar : ℕ → Form} {on : Token → Bool} {f : Form} {i k : ℕ} → IsFault tokens grammar on f i k → Fails tokens grammar on f i (Syntax k)
+fails_at {tokens} {grammar} {on} {f} {i} {k} r = record { fault = λ m is. subst (λ (x : ℕ). IsFault tokens grammar on f i x) (same m is) r }
+  where
+    same : (m : ℕ) → Syntax k ≡ Syntax m → k ≡ m
+    same m is = cc
+
+pub fails_memory : {tokens : List Token} {grammar : ℕ → Form} {on : Token → Bool} {f : Form} {i : ℕ} {e : SyntaxRefusal} → e ≡ Memory → Fails tokens grammar on f i e
+fails_memory is = record { fault = λ k other. absurd (cc (is, other)) }
+
+pub fails_front : {tokens : List Token} {grammar : ℕ → Form} {on on' : Token → Bool} {f g : Form} {i : ℕ} {e : SyntaxRefusal} → Apart tokens grammar on g → Fails tokens grammar on f i e → Fails tokens grammar on' (Then f g) i e
+fails_front away r = fails_by (λ k. fault_front away) r
+
+pub fails_rest : {tokens : List Token} {grammar : ℕ → Form} {on on' : Token → Bool} {f g : Form} {i j : ℕ} {a : Tree} {e : SyntaxRefusal} → IsSpelt tokens grammar on f i a j → Apart tokens grammar on g → Fails tokens grammar on' g j e → Fails tokens grammar on' (Then f g) i e
+fails_rest one away r = fails_by (λ k. fault_rest one away) r
+
+pub fails_named : {tokens : List Token} {grammar : ℕ → Form} {on : Token → Bool} (n : ℕ) {i : ℕ} {e : SyntaxRefusal} → Fails tokens grammar on (grammar n) i e → Fails tokens grammar on (Named n) i e
+fails_named n r = fails_by (λ k. fault_named n) r
+
+pub fails_present : {tokens : List Token} {grammar : ℕ → Form} {on : Token → Bool} {f : Form} {i : ℕ} {e : SyntaxRefusal} → At tokens i on → Fails tokens grammar on f i e → Fails tokens grammar on (Maybe f) i e
+fails_present comes r = fails_by (λ k. fault_present comes) r

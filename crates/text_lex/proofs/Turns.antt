@@ -1,15 +1,18 @@
 -- Laws on lists, repeats and clauses in any order: one turn leads from the form to what is left of it.
-use Rattle.std.proofs.Common.{◌≡◌, ◌≢◌, ℕ, zero, suc, ◌+◌, ◌≤◌, ◌<◌, Bool, true, false, List, [], ◌∷◌, Option, None, Some, ◌⊎◌, inl, inr, refl, sym, ◌∙◌, ap, subst, arith, slice_get}
+use Rattle.std.proofs.Common.{◌≡◌, ◌≢◌, ℕ, zero, suc, ◌+◌, ◌≤◌, ◌<◌, Bool, true, false, List, [], ◌∷◌, Option, None, Some, ◌⊎◌, inl, inr, refl, sym, ◌∙◌, ap, subst, arith, slice_get, length, map, drop, get_or, add-one}
+use Rattle.std.proofs.Math.Seq.{drop-cons}
+use Rattle.std.proofs.Math.ListN.{drop_of_length-le}
 use Rattle.text_lex.specs.declared.token.Token.{Token}
 use Rattle.text_lex.specs.declared.syntax_refusal.SyntaxRefusal.{SyntaxRefusal}
 use Rattle.text_lex.specs.declared.syntax_refusal.SyntaxRefusal.TheVariants.{Syntax}
-use Rattle.text_lex.specs.Form.{Form, Tree, Listed, Many, AnyOrder, Slots, Slot, NoSlots, After, form_at, is_open, filled, is_complete, slots_tree}
+use Rattle.text_lex.specs.Form.{Form, Tree, Bare, Marks, Listed, Many, AnyOrder, Slots, Slot, NoSlots, After, form_at, is_open, filled, is_complete, slots_tree}
 use Rattle.text_lex.specs.Spelling as S
 use Rattle.text_lex.specs.Spelling.{At, passes, Spells}
 use Rattle.text_lex.specs.Beginning as B
 use Rattle.text_lex.specs.Beginning.{Begins}
 use Rattle.text_lex.specs.Outcome.{closed, Stops, IsFault, IsSpelt, Fails}
 use Rattle.text_lex.proofs.Places.{spells_begins, spells_order, spells_from, begins_from, at_token, at_from}
+use Rattle.text_lex.proofs.Tokens.{no_marks_spelt}
 use Rattle.text_lex.proofs.Sequences.{Apart, not_closed, spelt_order}
 
 -- Reading `left` from j is reading `whole` from i: what was read between is the front of each
@@ -30,7 +33,8 @@ leads_on {tokens} {grammar} {on} {f} {g} {h} {i} {j} {k} one two = record {
   spells = λ m a s. one.spells m a (two.spells m a s);
   only = λ m a s. only m a (one.only m a s);
   begins = λ m b. one.begins m (two.begins m b);
-  furthest = λ m b. furthest m (one.furthest m b) }
+  furthest = λ m b. furthest m (one.furthest m b);
+}
   where
     only : (m : ℕ) (a : Tree) → Spells tokens grammar g j m a ⊎ At tokens m on → Spells tokens grammar h k m a ⊎ At tokens m on
     only m a (inl s) = two.only m a s
@@ -93,7 +97,8 @@ list_leads {tokens} {grammar} {separator} {part} {on} {s} {a} {f} {i} {j} sep on
   spells = λ k b t. S.more one.spelt here t;
   only = only;
   begins = λ k b. B.more one.spelt here b;
-  furthest = furthest }
+  furthest = furthest;
+}
   where
     ends : (k : ℕ) (x : Tree) → ((k ≡ j) × (x ≡ a)) ⊎ At tokens k part → At tokens k on
     ends k x (inl e) = sep.separates k (at_from (sym e.0) here)
@@ -161,7 +166,8 @@ many_leads {tokens} {grammar} {part} {on} {s} {a} {f} {i} {j} comes wide away on
   spells = λ k b t. S.another one.spelt t;
   only = only;
   begins = λ k b. B.another one.spelt b;
-  furthest = furthest }
+  furthest = furthest;
+}
   where
     short : (m k : ℕ) (x b : Tree) → At tokens m part → Spells tokens grammar (Many x f) m k b → At tokens k on
     short m k x b next S.no_more = wide m next
@@ -223,3 +229,59 @@ many_fault {tokens} {grammar} {part} {on} {s} {f} {i} {k} comes wide away one = 
     furthest m B.no_tokens = one.stops.order
     furthest m (B.one b) = one.stops.furthest m b
     furthest m (B.another {a = x} {j = n} t b) = ends n m (After s x) (one.stops.furthest n (spells_begins t)) (one.stops.unspelt n x t) b
+
+empty_row : {tokens : List Token} {grammar : ℕ → Form} {i k : ℕ} {a : Tree} → Spells tokens grammar (Marks []) i k a → k ≡ i
+empty_row S.no_marks = refl
+
+one_mark : {tokens : List Token} {grammar : ℕ → Form} {test : Token → Bool} {i k : ℕ} {a : Tree} → Spells tokens grammar (Marks (test ∷ [])) i k a → At tokens i test × (k ≡ i + 1)
+one_mark (S.marks here t) = (here, empty_row t)
+
+-- The first token of a row was read.
+pub marks_lead : {tokens : List Token} {grammar : ℕ → Form} {test : Token → Bool} {tests : List (Token → Bool)} {i j : ℕ} → IsSpelt tokens grammar closed (Marks (test ∷ [])) i Bare j → Leads tokens grammar closed (Marks (test ∷ tests)) i (Marks tests) j
+marks_lead {tokens} {grammar} {test} {tests} {i} {j} one = record {
+  order = spelt_order one;
+  spells = λ k a t. S.marks read.0 (spells_from read.1 t);
+  only = λ k a t. inl (only k a t);
+  begins = λ k b. B.mark read.0 (begins_from read.1 b);
+  furthest = furthest;
+}
+  where
+    read : At tokens i test × (j ≡ i + 1)
+    read = one_mark one.spelt
+
+    only : (k : ℕ) (a : Tree) → Spells tokens grammar (Marks (test ∷ tests)) i k a → Spells tokens grammar (Marks tests) j k a
+    only k a (S.marks now t) = spells_from (sym read.1) t
+
+    furthest : (k : ℕ) → Begins tokens grammar (Marks (test ∷ tests)) i k → (k ≤ j) ⊎ Begins tokens grammar (Marks tests) j k
+    furthest k B.no_tokens = inl (spelt_order one)
+    furthest k (B.mark now b) = inr (begins_from (sym read.1) b)
+
+pub marks_front_fault : {tokens : List Token} {grammar : ℕ → Form} {test : Token → Bool} {tests : List (Token → Bool)} {i k : ℕ} → IsFault tokens grammar closed (Marks (test ∷ [])) i k → IsFault tokens grammar closed (Marks (test ∷ tests)) i k
+marks_front_fault {tokens} {grammar} {test} {tests} {i} {k} one = record { begun = begun k one.begun; stops = record { order = one.stops.order; unspelt = unspelt; furthest = furthest } }
+  where
+    gone : {A : Type 0} → At tokens i test → A
+    gone here = not_closed (one.stops.unspelt (i + 1) Bare (S.marks here S.no_marks))
+
+    begun : (m : ℕ) → Begins tokens grammar (Marks (test ∷ [])) i m → Begins tokens grammar (Marks (test ∷ tests)) i m
+    begun m B.no_tokens = B.no_tokens
+    begun m (B.mark now b) = gone now
+
+    unspelt : (m : ℕ) (b : Tree) → Spells tokens grammar (Marks (test ∷ tests)) i m b → At tokens m closed
+    unspelt m b (S.marks now t) = gone now
+
+    furthest : (m : ℕ) → Begins tokens grammar (Marks (test ∷ tests)) i m → m ≤ k
+    furthest m B.no_tokens = one.stops.order
+    furthest m (B.mark now b) = gone now
+
+next : {A : Type 0} (test : A → Token → Bool) (words : List A) (n : ℕ) (word : A) → n < length words → drop n words ≡ get_or words n word ∷ drop (n + 1) words
+next test words n word below = drop-cons words n word below ∙ ap (λ m. get_or words n word ∷ drop m words) (sym (add-one n))
+
+-- The next of the words of a list was read, or has its fault.
+pub words_lead : {tokens : List Token} {grammar : ℕ → Form} {whole : Form} {A : Type 0} (test : A → Token → Bool) (words : List A) (n : ℕ) (word : A) {i j k : ℕ} → n < length words → Leads tokens grammar closed whole i (Marks (map test (drop n words))) j → IsSpelt tokens grammar closed (Marks (test (get_or words n word) ∷ [])) j Bare k → Leads tokens grammar closed whole i (Marks (map test (drop (n + 1) words))) k
+words_lead {tokens} {grammar} {whole} {A} test words n word {i} {j} {k} below before one = leads_on (subst (λ (x : List A). Leads tokens grammar closed whole i (Marks (map test x)) j) (next test words n word below) before) (marks_lead one)
+
+pub words_fault : {tokens : List Token} {grammar : ℕ → Form} {whole : Form} {A : Type 0} (test : A → Token → Bool) (words : List A) (n : ℕ) (word : A) {i j k : ℕ} → n < length words → Leads tokens grammar closed whole i (Marks (map test (drop n words))) j → IsFault tokens grammar closed (Marks (test (get_or words n word) ∷ [])) j k → IsFault tokens grammar closed whole i k
+words_fault {tokens} {grammar} {whole} {A} test words n word {i} {j} {k} below before one = fault_led (subst (λ (x : List A). Leads tokens grammar closed whole i (Marks (map test x)) j) (next test words n word below) before) (marks_front_fault one)
+
+pub words_end : {tokens : List Token} {grammar : ℕ → Form} {whole : Form} {A : Type 0} (test : A → Token → Bool) (words : List A) (n : ℕ) {i k : ℕ} → length words ≤ n → Leads tokens grammar closed whole i (Marks (map test (drop n words))) k → IsSpelt tokens grammar closed whole i Bare k
+words_end {tokens} {grammar} {whole} {A} test words n {i} {k} all before = spelt_led (subst (λ (x : List A). Leads tokens grammar closed whole i (Marks (map test x)) k) (drop_of_length-le words all) before) no_marks_spelt

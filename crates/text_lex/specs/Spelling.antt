@@ -14,7 +14,7 @@ pub record At (tokens : List Token) (i : ℕ) (test : Token → Bool) : Type 0 w
 
 pub data Spells (tokens : List Token) (grammar : ℕ → Form) : Form → ℕ → ℕ → Tree → Type 0 where
   no_marks : {i : ℕ} → Spells tokens grammar (Marks []) i i Bare
-  marks : {test : Token → Bool} {tests : List (Token → Bool)} {i k : ℕ} → At tokens i test → Spells tokens grammar (Marks tests) (i + 1) k Bare → Spells tokens grammar (Marks (test ∷ tests)) i k Bare
+  marks : {test : Token → Bool} {tests : List (Token → Bool)} {i k : ℕ} {a : Tree} → At tokens i test → Spells tokens grammar (Marks tests) (i + 1) k a → Spells tokens grammar (Marks (test ∷ tests)) i k a
   keep : {test : Token → Bool} {i k : ℕ} {token : Token} → slice_get tokens i ≡ Some token → test token ≡ true → k ≡ i + 1 → Spells tokens grammar (Keep test) i k (Leaf token)
   both : {f g : Form} {i j k : ℕ} {a b : Tree} → Spells tokens grammar f i j a → Spells tokens grammar g j k b → Spells tokens grammar (Then f g) i k (Pair a b)
   first : {f g : Form} {i k : ℕ} {a : Tree} → Spells tokens grammar f i k a → Spells tokens grammar (Or f g) i k (First a)

@@ -5,6 +5,8 @@
 pub mod bytes;
 pub mod syntax_refusal;
 pub mod token;
+pub mod token_reading;
+pub mod token_tests;
 
 pub use bytes::Bytes;
 pub use syntax_refusal::SyntaxRefusal;
