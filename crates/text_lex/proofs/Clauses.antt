@@ -8,7 +8,7 @@ use Rattle.text_lex.specs.Beginning as B
 use Rattle.text_lex.specs.Beginning.{Begins}
 use Rattle.text_lex.specs.Outcome.{closed, Stops, IsFault, IsSpelt, Fails}
 use Rattle.text_lex.proofs.Places.{spells_begins, spells_order, spells_from, begins_from, at_from}
-use Rattle.text_lex.proofs.Heads.{skips, starts, Heads, stops_here, or_left, or_right}
+use Rattle.text_lex.proofs.Heads.{Firsts, skips, starts, Heads, stops_here, or_left, or_right}
 use Rattle.text_lex.proofs.Sequences.{not_closed, spelt_order, stops_later, stops_wider}
 use Rattle.text_lex.proofs.Turns.{Leads}
 
@@ -154,15 +154,15 @@ others_past {tokens} {grammar} {n} {needed} {f} {came} {s} {i} {k} here later = 
     others (suc m) never e = later.others m (λ same. never (ap suc same)) e
 
 -- whether a clause may begin with a token, or be spelt by no tokens
-abbrev pub opens_any : (ℕ → Token → Bool) → Slots → Token → Bool
+abbrev pub opens_any : Firsts → Slots → Token → Bool
 opens_any named NoSlots t = false
-opens_any named (Slot needed f came s) t = (starts named f t || skips f) || opens_any named s t
+opens_any named (Slot needed f came s) t = (starts named f t || skips named f) || opens_any named s t
 
 -- the same of the clauses but the one at n
-abbrev pub opens_but : (ℕ → Token → Bool) → ℕ → Slots → Token → Bool
+abbrev pub opens_but : Firsts → ℕ → Slots → Token → Bool
 opens_but named n NoSlots t = false
 opens_but named zero (Slot needed f came s) t = opens_any named s t
-opens_but named (suc n) (Slot needed f came s) t = (starts named f t || skips f) || opens_but named n s t
+opens_but named (suc n) (Slot needed f came s) t = (starts named f t || skips named f) || opens_but named n s t
 
 or_false_left : (a b : Bool) → (a || b) ≡ false → a ≡ false
 or_false_left true b e = e
@@ -173,19 +173,19 @@ or_false_right true b e = absurd (cc e)
 or_false_right false b e = e
 
 -- a token that passes p is one with which f can't begin
-pub stops_by : {tokens : List Token} {grammar : ℕ → Form} (named : ℕ → Token → Bool) → Heads grammar named → {p on : Token → Bool} (f : Form) {i k : ℕ} → i ≤ k → At tokens i p → ((t : Token) → p t ≡ true → (starts named f t || skips f) ≡ false) → Stops tokens grammar on f i k
+pub stops_by : {tokens : List Token} {grammar : ℕ → Form} (named : Firsts) → Heads grammar named → {p on : Token → Bool} (f : Form) {i k : ℕ} → i ≤ k → At tokens i p → ((t : Token) → p t ≡ true → (starts named f t || skips named f) ≡ false) → Stops tokens grammar on f i k
 stops_by {tokens} {grammar} named heads {p} {on} f {i} {k} order here never = go (slice_get tokens i) refl here.passed
   where
     go : (x : Option Token) → slice_get tokens i ≡ x → passes p x ≡ true → Stops tokens grammar on f i k
     go None e pass = absurd (cc pass)
-    go (Some t) e pass = stops_here named heads f i k order (or_false_right (starts named f t) (skips f) (never t pass)) (ap (passes (starts named f)) e ∙ or_false_left (starts named f t) (skips f) (never t pass))
+    go (Some t) e pass = stops_here named heads f i k order (or_false_right (starts named f t) (skips named f) (never t pass)) (ap (passes (starts named f)) e ∙ or_false_left (starts named f t) (skips named f) (never t pass))
 
-pub all_stop_by : {tokens : List Token} {grammar : ℕ → Form} (named : ℕ → Token → Bool) → Heads grammar named → {p : Token → Bool} (s : Slots) {i k : ℕ} → i ≤ k → At tokens i p → ((t : Token) → p t ≡ true → opens_any named s t ≡ false) → AllStop tokens grammar s i k
+pub all_stop_by : {tokens : List Token} {grammar : ℕ → Form} (named : Firsts) → Heads grammar named → {p : Token → Bool} (s : Slots) {i k : ℕ} → i ≤ k → At tokens i p → ((t : Token) → p t ≡ true → opens_any named s t ≡ false) → AllStop tokens grammar s i k
 all_stop_by named heads NoSlots order here never = no_slots_stop
-all_stop_by named heads {p} (Slot needed f came s) order here never = slot_stops (λ e. stops_by named heads f order here (λ t pass. or_false_left (starts named f t || skips f) (opens_any named s t) (never t pass))) (all_stop_by named heads s order here (λ t pass. or_false_right (starts named f t || skips f) (opens_any named s t) (never t pass)))
+all_stop_by named heads {p} (Slot needed f came s) order here never = slot_stops (λ e. stops_by named heads f order here (λ t pass. or_false_left (starts named f t || skips named f) (opens_any named s t) (never t pass))) (all_stop_by named heads s order here (λ t pass. or_false_right (starts named f t || skips named f) (opens_any named s t) (never t pass)))
 
 -- a token that passes p is one with which no other clause than the one at n can begin
-pub others_stop_by : {tokens : List Token} {grammar : ℕ → Form} (named : ℕ → Token → Bool) → Heads grammar named → {p : Token → Bool} (n : ℕ) (s : Slots) {i k : ℕ} → i ≤ k → At tokens i p → ((t : Token) → p t ≡ true → opens_but named n s t ≡ false) → OthersStop tokens grammar n s i k
+pub others_stop_by : {tokens : List Token} {grammar : ℕ → Form} (named : Firsts) → Heads grammar named → {p : Token → Bool} (n : ℕ) (s : Slots) {i k : ℕ} → i ≤ k → At tokens i p → ((t : Token) → p t ≡ true → opens_but named n s t ≡ false) → OthersStop tokens grammar n s i k
 others_stop_by named heads n NoSlots order here never = record { others = λ m other e. absurd (cc e) }
 others_stop_by named heads zero (Slot needed f came s) order here never = others_here (all_stop_by named heads s order here never)
-others_stop_by named heads (suc n) (Slot needed f came s) order here never = others_past (λ e. stops_by named heads f order here (λ t pass. or_false_left (starts named f t || skips f) (opens_but named n s t) (never t pass))) (others_stop_by named heads n s order here (λ t pass. or_false_right (starts named f t || skips f) (opens_but named n s t) (never t pass)))
+others_stop_by named heads (suc n) (Slot needed f came s) order here never = others_past (λ e. stops_by named heads f order here (λ t pass. or_false_left (starts named f t || skips named f) (opens_but named n s t) (never t pass))) (others_stop_by named heads n s order here (λ t pass. or_false_right (starts named f t || skips named f) (opens_but named n s t) (never t pass)))

@@ -11,7 +11,7 @@ use Rattle.text_lex.specs.Beginning as B
 use Rattle.text_lex.specs.Beginning.{Begins}
 use Rattle.text_lex.specs.Outcome.{closed, Stops, IsFault, IsSpelt, Fails}
 use Rattle.text_lex.proofs.Places.{spells_begins, spells_order, spells_from, begins_from, at_token, at_from}
-use Rattle.text_lex.proofs.Heads.{skips, starts, Heads, stops_here, at_not, at_wider}
+use Rattle.text_lex.proofs.Heads.{Firsts, skips, starts, Heads, stops_here, at_not, at_wider}
 
 -- no token passes the test of a closed form
 passes_closed : {A : Type 0} (token : Option Token) → passes closed token ≡ true → A
@@ -32,7 +32,7 @@ passes_false : (p q : Token → Bool) (token : Option Token) → ((t : Token) �
 passes_false p q None never e = refl
 passes_false p q (Some t) never e = never t e
 
-pub apart_by : {tokens : List Token} {grammar : ℕ → Form} (named : ℕ → Token → Bool) → Heads grammar named → {on : Token → Bool} (g : Form) → skips g ≡ false → ((t : Token) → on t ≡ true → starts named g t ≡ false) → Apart tokens grammar on g
+pub apart_by : {tokens : List Token} {grammar : ℕ → Form} (named : Firsts) → Heads grammar named → {on : Token → Bool} (g : Form) → skips named g ≡ false → ((t : Token) → on t ≡ true → starts named g t ≡ false) → Apart tokens grammar on g
 apart_by {tokens} named heads {on} g full never = record { apart = λ i here. stops_here named heads g i i (omega arith) full (passes_false on (starts named g) (slice_get tokens i) never here.passed) }
 
 -- the end is not before the start
