@@ -1,13 +1,54 @@
-// A library with one function.
+//! The templates of the members of packages.
 #![tactic(auto)]
 
-ghost use Rattle.std.specs.Prelude.{◌≡◌};
-ghost use Rattle.gdmo_members.specs.Echo.{echo_of};
+use text_lex::Token;
 
-// The `ensures` clause is the contract: what `echo` returns is `echo_of` of its argument, a definition
-// in `specs/Echo.antt`, which a caller's clause can cite too.
-pub fn echo(x: usize) -> usize
-    ensures { result ≡ echo_of x }
-{
-    x
+#[cycle(templates)]
+#[derive(Drop)]
+pub struct AttributeTemplate {
+    pub document: u32,
+    pub label: Token,
+    pub form: AttributeForm,
+    pub rules: Option<Token>,
+    pub parameters: Option<Vec<ParameterRef>>,
+}
+
+#[cycle(templates)]
+#[derive(Drop)]
+pub enum AttributeForm {
+    Syntax(Token),
+    Derived(AttributeRef),
+}
+
+#[cycle(templates)]
+#[derive(Drop)]
+pub enum AttributeRef {
+    Label(Token),
+    Template(Box<AttributeTemplate>),
+}
+
+#[cycle(templates)]
+#[derive(Drop)]
+pub enum ParameterRef {
+    Label(Token),
+    Template(Box<ParameterTemplate>),
+}
+
+#[cycle(templates)]
+#[derive(Drop)]
+pub enum ParameterForm {
+    Syntax(Token),
+    Attribute(AttributeRef),
+}
+
+#[cycle(templates)]
+#[derive(Drop)]
+pub struct ParameterTemplate {
+    pub document: u32,
+    pub label: Token,
+    pub form: ParameterForm,
+}
+
+pub fn label_of(template: &AttributeTemplate) -> u32 {
+    template.document
 }

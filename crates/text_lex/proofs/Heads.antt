@@ -29,16 +29,21 @@ skips named (Many s f) = true
 skips named (AnyOrder s) = true
 skips named (Named n) = named.empty n
 
+-- the test of a first part, or of what stands behind it where the part may be missing
+abbrev pub past : Bool → Bool → Bool → Bool
+past true a b = a || b
+past false a b = a
+
 -- whether a form may begin with a token
 abbrev mutual
   pub starts : Firsts → Form → Token → Bool
   starts named (Marks []) token = false
   starts named (Marks (test ∷ tests)) token = test token
   starts named (Keep test) token = test token
-  starts named (Then f g) token = starts named f token || (skips named f && starts named g token)
+  starts named (Then f g) token = past (skips named f) (starts named f token) (starts named g token)
   starts named (Or f g) token = starts named f token || starts named g token
   starts named (Maybe f) token = starts named f token
-  starts named (Listed separator s f) token = starts named f token || (skips named f && separator token)
+  starts named (Listed separator s f) token = past (skips named f) (starts named f token) (separator token)
   starts named (Many s f) token = starts named f token
   starts named (AnyOrder s) token = opens named s token
   starts named (Named n) token = named.begins n token
@@ -66,6 +71,14 @@ or_left a b e = rw e refl
 pub or_right : (a b : Bool) → b ≡ true → (a || b) ≡ true
 or_right true b e = refl
 or_right false b e = e
+
+past_left : (s a b : Bool) → a ≡ true → past s a b ≡ true
+past_left true a b e = or_left a b e
+past_left false a b e = e
+
+past_right : (s a b : Bool) → s ≡ true → b ≡ true → past s a b ≡ true
+past_right true a b e h = or_right a b h
+past_right false a b e h = absurd (cc e)
 
 pub and_both : (a b : Bool) → a ≡ true → b ≡ true → (a && b) ≡ true
 and_both a b p q = rw (p, q) refl
@@ -96,8 +109,8 @@ SpellsFirst named tokens f i k = ((k ≡ i) × (skips named f ≡ true)) ⊎ ((i
 
 then_first : {tokens : List Token} (named : Firsts) (f g : Form) (i j k : ℕ) → j ≤ k → SpellsFirst named tokens f i j → SpellsFirst named tokens g j k → SpellsFirst named tokens (Then f g) i k
 then_first named f g i j k order (inl p) (inl q) = inl (omega (arith, p.0, q.0), and_both (skips named f) (skips named g) p.1 q.1)
-then_first named f g i j k order (inl p) (inr q) = inr (omega (arith, p.0, q.0), at_wider (starts named (Then f g)) (λ t e. or_right (starts named f t) (skips named f && starts named g t) (and_both (skips named f) (starts named g t) p.1 e)) (at_from p.0 q.1))
-then_first named f g i j k order (inr p) q = inr (omega (arith, p.0, order), at_wider (starts named (Then f g)) (λ t e. or_left (starts named f t) (skips named f && starts named g t) e) p.1)
+then_first named f g i j k order (inl p) (inr q) = inr (omega (arith, p.0, q.0), at_wider (starts named (Then f g)) (λ t e. past_right (skips named f) (starts named f t) (starts named g t) p.1 e) (at_from p.0 q.1))
+then_first named f g i j k order (inr p) q = inr (omega (arith, p.0, order), at_wider (starts named (Then f g)) (λ t e. past_left (skips named f) (starts named f t) (starts named g t) e) p.1)
 
 or_first : {tokens : List Token} (named : Firsts) (f g : Form) (i k : ℕ) → SpellsFirst named tokens f i k → SpellsFirst named tokens (Or f g) i k
 or_first named f g i k (inl p) = inl (p.0, or_left (skips named f) (skips named g) p.1)
@@ -113,11 +126,11 @@ maybe_first named f i k (inr p) = inr (p.0, at_wider (starts named (Maybe f)) (�
 
 last_first : {tokens : List Token} (named : Firsts) (separator : Token → Bool) (s : Tree) (f : Form) (i k : ℕ) → SpellsFirst named tokens f i k → SpellsFirst named tokens (Listed separator s f) i k
 last_first named separator s f i k (inl p) = inl p
-last_first named separator s f i k (inr p) = inr (p.0, at_wider (starts named (Listed separator s f)) (λ t e. or_left (starts named f t) (skips named f && separator t) e) p.1)
+last_first named separator s f i k (inr p) = inr (p.0, at_wider (starts named (Listed separator s f)) (λ t e. past_left (skips named f) (starts named f t) (separator t) e) p.1)
 
 more_first : {tokens : List Token} (named : Firsts) (separator : Token → Bool) (s : Tree) (f : Form) (i j k : ℕ) → j < k → At tokens j separator → SpellsFirst named tokens f i j → SpellsFirst named tokens (Listed separator s f) i k
-more_first named separator s f i j k order here (inl p) = inr (omega (arith, p.0, order), at_wider (starts named (Listed separator s f)) (λ t e. or_right (starts named f t) (skips named f && separator t) (and_both (skips named f) (separator t) p.1 e)) (at_from p.0 here))
-more_first named separator s f i j k order here (inr p) = inr (omega (arith, p.0, order), at_wider (starts named (Listed separator s f)) (λ t e. or_left (starts named f t) (skips named f && separator t) e) p.1)
+more_first named separator s f i j k order here (inl p) = inr (omega (arith, p.0, order), at_wider (starts named (Listed separator s f)) (λ t e. past_right (skips named f) (starts named f t) (separator t) p.1 e) (at_from p.0 here))
+more_first named separator s f i j k order here (inr p) = inr (omega (arith, p.0, order), at_wider (starts named (Listed separator s f)) (λ t e. past_left (skips named f) (starts named f t) (separator t) e) p.1)
 
 another_first : {tokens : List Token} (named : Firsts) (s s' : Tree) (f : Form) (i j k : ℕ) → j ≤ k → SpellsFirst named tokens f i j → SpellsFirst named tokens (Many s' f) j k → SpellsFirst named tokens (Many s f) i k
 another_first named s s' f i j k order (inl p) (inl q) = inl (omega (arith, p.0, q.0), refl)
@@ -165,19 +178,19 @@ rest_begins named f g h i j k one two (inl p) (inr q) = inr (at_wider (starts na
 rest_begins named f g h i j k one two (inr p) q = inr (at_wider (starts named h) one p.1)
 
 separator_begins : {tokens : List Token} (named : Firsts) (separator : Token → Bool) (s : Tree) (f : Form) (i j k : ℕ) → At tokens j separator → SpellsFirst named tokens f i j → BeginsFirst named tokens (Listed separator s f) i k
-separator_begins named separator s f i j k here (inl p) = inr (at_wider (starts named (Listed separator s f)) (λ t e. or_right (starts named f t) (skips named f && separator t) (and_both (skips named f) (separator t) p.1 e)) (at_from p.0 here))
-separator_begins named separator s f i j k here (inr p) = inr (at_wider (starts named (Listed separator s f)) (λ t e. or_left (starts named f t) (skips named f && separator t) e) p.1)
+separator_begins named separator s f i j k here (inl p) = inr (at_wider (starts named (Listed separator s f)) (λ t e. past_right (skips named f) (starts named f t) (separator t) p.1 e) (at_from p.0 here))
+separator_begins named separator s f i j k here (inr p) = inr (at_wider (starts named (Listed separator s f)) (λ t e. past_left (skips named f) (starts named f t) (separator t) e) p.1)
 
 pub begins_first : {tokens : List Token} {grammar : ℕ → Form} (named : Firsts) → Heads grammar named → {f : Form} {i k : ℕ} → Begins tokens grammar f i k → BeginsFirst named tokens f i k
 begins_first named heads B.no_tokens = inl refl
 begins_first named heads (B.token {test} here next) = inr (at_wider (starts named (Keep test)) (λ t e. e) here)
 begins_first named heads (B.mark {test} {tests} here b) = inr (at_wider (starts named (Marks (test ∷ tests))) (λ t e. e) here)
-begins_first named heads (B.front {f} {g} {i} {k} b) = begins_wider named f (Then f g) i k (λ t e. or_left (starts named f t) (skips named f && starts named g t) e) (begins_first named heads b)
-begins_first named heads (B.rest {f} {g} {i} {j} {k} s b) = rest_begins named f g (Then f g) i j k (λ t e. or_left (starts named f t) (skips named f && starts named g t) e) (λ skip t e. or_right (starts named f t) (skips named f && starts named g t) (and_both (skips named f) (starts named g t) skip e)) (spells_first named heads s) (begins_first named heads b)
+begins_first named heads (B.front {f} {g} {i} {k} b) = begins_wider named f (Then f g) i k (λ t e. past_left (skips named f) (starts named f t) (starts named g t) e) (begins_first named heads b)
+begins_first named heads (B.rest {f} {g} {i} {j} {k} s b) = rest_begins named f g (Then f g) i j k (λ t e. past_left (skips named f) (starts named f t) (starts named g t) e) (λ skip t e. past_right (skips named f) (starts named f t) (starts named g t) skip e) (spells_first named heads s) (begins_first named heads b)
 begins_first named heads (B.first {f} {g} {i} {k} b) = begins_wider named f (Or f g) i k (λ t e. or_left (starts named f t) (starts named g t) e) (begins_first named heads b)
 begins_first named heads (B.second {f} {g} {i} {k} b) = begins_wider named g (Or f g) i k (λ t e. or_right (starts named f t) (starts named g t) e) (begins_first named heads b)
 begins_first named heads (B.present {f} {i} {k} b) = begins_wider named f (Maybe f) i k (λ t e. e) (begins_first named heads b)
-begins_first named heads (B.item {separator} {f} {s} {i} {k} b) = begins_wider named f (Listed separator s f) i k (λ t e. or_left (starts named f t) (skips named f && separator t) e) (begins_first named heads b)
+begins_first named heads (B.item {separator} {f} {s} {i} {k} b) = begins_wider named f (Listed separator s f) i k (λ t e. past_left (skips named f) (starts named f t) (separator t) e) (begins_first named heads b)
 begins_first named heads (B.more {separator} {f} {s} {a} {i} {j} {k} sp here b) = separator_begins named separator s f i j k here (spells_first named heads sp)
 begins_first named heads (B.one {f} {s} {i} {k} b) = begins_wider named f (Many s f) i k (λ t e. e) (begins_first named heads b)
 begins_first named heads (B.another {f} {s} {a} {i} {j} {k} sp b) = rest_begins named f (Many (After s a) f) (Many s f) i j k (λ t e. e) (λ skip t e. e) (spells_first named heads sp) (begins_first named heads b)
@@ -212,3 +225,15 @@ advances {tokens} named heads {f} {i} {k} full s = go (spells_first named heads 
     go : SpellsFirst named tokens f i k → i < k
     go (inl p) = absurd (cc (p.1, full))
     go (inr p) = p.0
+
+-- a form stops where the next token fails a test that its first tokens pass
+pub stops_unless : {tokens : List Token} {grammar : ℕ → Form} (named : Firsts) → Heads grammar named → {on : Token → Bool} (p : Token → Bool) (f : Form) (i k : ℕ) → i ≤ k → skips named f ≡ false → ((t : Token) → starts named f t ≡ true → p t ≡ true) → passes p (slice_get tokens i) ≡ false → Stops tokens grammar on f i k
+stops_unless {tokens} {grammar} named heads {on} p f i k order full implies fails = stops_here named heads f i k order full (go (slice_get tokens i) fails)
+  where
+    rule : (a b : Bool) → (a ≡ true → b ≡ true) → b ≡ false → a ≡ false
+    rule true b both e = absurd (let h = both refl in cc (h, e))
+    rule false b both e = refl
+
+    go : (x : Option Token) → passes p x ≡ false → passes (starts named f) x ≡ false
+    go None e = refl
+    go (Some t) e = rule (starts named f t) (p t) (implies t) e

@@ -6,3 +6,4 @@ pub mod Turns
 pub mod Clauses
 pub mod Tokens
 pub mod Exits
+pub mod Known

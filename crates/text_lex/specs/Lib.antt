@@ -4,3 +4,4 @@ pub mod Spelling
 pub mod Beginning
 pub mod Outcome
 pub mod TokenTests
+pub mod Parts

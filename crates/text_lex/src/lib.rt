@@ -3,6 +3,7 @@
 #![tactic(auto)]
 
 pub mod bytes;
+pub mod label_reference;
 pub mod syntax_refusal;
 pub mod token;
 pub mod token_reading;
