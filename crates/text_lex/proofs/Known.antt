@@ -3,13 +3,13 @@ use Rattle.std.proofs.Common.{◌≡◌, ℕ, Bool, true, false, ◌&&◌, List,
 use Rattle.std.proofs.lemmas.Bool.{eqb-true}
 use Rattle.std.specs.Cmp.Lexicographic.{same_text}
 use Rattle.text_lex.specs.declared.token.Token.{Token}
-use Rattle.text_lex.specs.TokenTests.{is_word_of, is_sign_of, is_word, is_string, is_number}
+use Rattle.text_lex.specs.TokenTests.{is_word_of, is_sign_of, is_label, is_name, is_word, is_string, is_number}
 
-first_so : (a b : Bool) → (a && b) ≡ true → a ≡ true
+pub first_so : (a b : Bool) → (a && b) ≡ true → a ≡ true
 first_so true b e = refl
 first_so false b e = e
 
-second_so : (a b : Bool) → (a && b) ≡ true → b ≡ true
+pub second_so : (a b : Bool) → (a && b) ≡ true → b ≡ true
 second_so true b e = e
 second_so false b e = absurd (cc e)
 
@@ -40,3 +40,10 @@ at_number answer test computes t e = of_kind 1 answer test computes t (eqb-true 
 
 pub at_string : (answer : Bool) (test : Token → Bool) → ((at : ℕ) (text : List ℕ) → test (token_of 2 at text) ≡ answer) → (t : Token) → is_string t ≡ true → test t ≡ answer
 at_string answer test computes t e = of_kind 2 answer test computes t (eqb-true t.kind 2 e)
+
+-- a test at any label or name, which are words
+pub at_label : (answer : Bool) (test : Token → Bool) → ((at : ℕ) (text : List ℕ) → test (token_of 0 at text) ≡ answer) → (t : Token) → is_label t ≡ true → test t ≡ answer
+at_label answer test computes t e = of_kind 0 answer test computes t (eqb-true t.kind 0 (first_so (nat_eq t.kind 0) _ e))
+
+pub at_name : (answer : Bool) (test : Token → Bool) → ((at : ℕ) (text : List ℕ) → test (token_of 0 at text) ≡ answer) → (t : Token) → is_name t ≡ true → test t ≡ answer
+at_name answer test computes t e = of_kind 0 answer test computes t (eqb-true t.kind 0 (first_so (nat_eq t.kind 0) _ e))

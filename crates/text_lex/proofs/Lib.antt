@@ -7,3 +7,5 @@ pub mod Clauses
 pub mod Tokens
 pub mod Exits
 pub mod Known
+pub mod Parts
+pub mod References

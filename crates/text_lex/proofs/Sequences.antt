@@ -28,7 +28,7 @@ pub record Apart (tokens : List Token) (grammar : ℕ → Form) (on : Token → 
 pub apart_closed : {tokens : List Token} {grammar : ℕ → Form} {g : Form} → Apart tokens grammar closed g
 apart_closed = record { apart = λ i here. not_closed here }
 
-passes_false : (p q : Token → Bool) (token : Option Token) → ((t : Token) → p t ≡ true → q t ≡ false) → passes p token ≡ true → passes q token ≡ false
+pub passes_false : (p q : Token → Bool) (token : Option Token) → ((t : Token) → p t ≡ true → q t ≡ false) → passes p token ≡ true → passes q token ≡ false
 passes_false p q None never e = refl
 passes_false p q (Some t) never e = never t e
 

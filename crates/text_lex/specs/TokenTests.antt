@@ -43,3 +43,7 @@ reserved_words = codes "DEFINITIONS" ∷ codes "EXPLICIT" ∷ codes "IMPLICIT" �
 -- a name of a module, a type, a value, a component or a number
 abbrev pub is_name : Token → Bool
 is_name token = (token.kind == WORD) && not (is_one_of reserved_words token)
+
+-- what an arc of an object identifier begins with
+abbrev pub is_arc_start : Token → Bool
+is_arc_start token = is_number token || is_name token

@@ -3,15 +3,14 @@
 ghost use Rattle.std.specs.Prelude.{◌≡◌, ℕ};
 ghost use Rattle.text_lex.specs.Form.{Form, Maybe, Pair, Leaf};
 ghost use Rattle.text_lex.specs.Outcome.{Reads, closed};
-ghost use Rattle.text_lex.specs.Parts.{document_name, document_name_tree, label_reference, optional_tree};
+ghost use Rattle.text_lex.specs.Parts.{document_name, document_name_tree, label_reference, label_reference_tree, optional_tree};
 ghost use Rattle.text_lex.specs.TokenTests.{is_string};
-
-use std::alloc::Global;
 
 use super::syntax_refusal::SyntaxRefusal;
 use super::token::Token;
 use super::token_reading::{read_label, read_string, skip_sign};
 use super::token_tests::is_string_at;
+use std::alloc::Global;
 
 /// A label that stands for a template, `["name" :] label`.
 #[derive(Debug, Drop)]
@@ -44,7 +43,7 @@ pub fn read_label_reference(
     tokens: &[Token],
     at: usize,
 ) -> Result<(LabelReference, usize), SyntaxRefusal>
-    ensures { (grammar : ℕ → Form) → Reads tokens.now grammar closed label_reference at (λ x. Pair (optional_tree document_name_tree x.document) (Leaf x.label)) result }
+    ensures { (grammar : ℕ → Form) → Reads tokens.now grammar closed label_reference at label_reference_tree result }
 {
     let (document, next) = read_document_name(alloc, tokens, at)?;
     let (label, next) = read_label(alloc, tokens, next)?;

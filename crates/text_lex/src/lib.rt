@@ -4,6 +4,8 @@
 
 pub mod bytes;
 pub mod label_reference;
+pub mod object_identifier;
+pub mod qualified_name;
 pub mod syntax_refusal;
 pub mod token;
 pub mod token_reading;

@@ -13,20 +13,9 @@ use super::syntax_refusal::SyntaxRefusal;
 use super::token::Token;
 use super::token_tests::{
     is_any_word_at, is_label_at, is_name_at, is_number_at, is_one_of_at, is_sign_at, is_string_at,
-    is_word_at,
+    is_word_at, token_at,
 };
 use std::alloc::{AllocError, Global};
-
-/// The token at a place and the place behind it, where there is one.
-pub fn token_at(tokens: &[Token], at: usize) -> Option<(&Token, usize)>
-    ensures { MatchOption result (slice_get tokens.now at ≡ None) (λ found. (slice_get tokens.now at ≡ Some found.0.now) × (found.1 ≡ at + 1)) }
-{
-    if at < tokens.len() {
-        Some((&tokens[at], at + 1))
-    } else {
-        None
-    }
-}
 
 /// A copy of a token; only memory can fail.
 pub fn copy_token(alloc: Global, token: &Token) -> Result<Token, AllocError>
@@ -160,4 +149,16 @@ pub fn read_string(
     ensures { (grammar : ℕ → Form) → Reads tokens.now grammar closed (Keep is_string) at Leaf result }
 {
     keep_token(alloc, tokens, at, is_string_at(tokens, at))
+}
+
+/// Reads the sign, and keeps it.
+pub fn read_sign(
+    alloc: Global,
+    tokens: &[Token],
+    at: usize,
+    sign: &str,
+) -> Result<(Token, usize), SyntaxRefusal>
+    ensures { (grammar : ℕ → Form) → Reads tokens.now grammar closed (Keep (is_sign_of sign.now)) at Leaf result }
+{
+    keep_token(alloc, tokens, at, is_sign_at(tokens, at, sign))
 }

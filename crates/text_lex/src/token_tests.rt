@@ -1,9 +1,9 @@
 //! Tests of single tokens: words, signs, labels and names (X.722, section 8.2; X.680, section 12).
 
-ghost use Rattle.std.specs.Prelude.{◌≡◌, ℕ, slice_get};
+ghost use Rattle.std.specs.Prelude.{◌≡◌, ◌+◌, ◌&&◌, not, ℕ, Some, None, MatchOption, slice_get};
 ghost use Rattle.std.specs.List.{list_any};
 ghost use Rattle.text_lex.specs.Spelling.{passes};
-ghost use Rattle.text_lex.specs.TokenTests.{is_word_of, is_sign_of, is_one_of, is_label, is_name, is_word, is_number, is_string, is_lower_case, reserved_words};
+ghost use Rattle.text_lex.specs.TokenTests.{is_word_of, is_sign_of, is_one_of, is_label, is_name, is_word, is_number, is_string, is_lower_case, is_arc_start, reserved_words};
 
 use super::token::{NUMBER, SIGN, STRING, Token, WORD};
 
@@ -105,6 +105,17 @@ pub fn is_name(token: &Token) -> bool
     token.kind == WORD && !is_reserved(token)
 }
 
+/// The token at a place and the place behind it, where there is one.
+pub fn token_at(tokens: &[Token], at: usize) -> Option<(&Token, usize)>
+    ensures { MatchOption result (slice_get tokens.now at ≡ None) (λ found. (slice_get tokens.now at ≡ Some found.0.now) × (found.1 ≡ at + 1)) }
+{
+    if at < tokens.len() {
+        Some((&tokens[at], at + 1))
+    } else {
+        None
+    }
+}
+
 /// Whether the token at a place is there and is the word.
 pub fn is_word_at(tokens: &[Token], at: usize, word: &str) -> bool
     ensures { result ≡ passes (is_word_of word.now) (slice_get tokens.now at) }
@@ -181,6 +192,36 @@ pub fn is_string_at(tokens: &[Token], at: usize) -> bool
 {
     match tokens.get(at) {
         Some(token) => token.kind == STRING,
+        None => false,
+    }
+}
+
+/// Whether a label stands at a place and the word behind it: a template of the kind that the word says.
+pub fn is_template_at(tokens: &[Token], at: usize, word: &str) -> bool
+    ensures { result ≡ (passes is_label (slice_get tokens.now at) && passes (is_word_of word.now) (slice_get tokens.now (at + 1))) }
+{
+    match token_at(tokens, at) {
+        Some((token, next)) => is_label(token) && is_word_at(tokens, next, word),
+        None => false,
+    }
+}
+
+/// Whether a name stands at a place and another token than the sign behind it, or none.
+pub fn is_name_without(tokens: &[Token], at: usize, sign: &str) -> bool
+    ensures { result ≡ (passes is_name (slice_get tokens.now at) && not (passes (is_sign_of sign.now) (slice_get tokens.now (at + 1)))) }
+{
+    match token_at(tokens, at) {
+        Some((token, next)) => is_name(token) && !is_sign_at(tokens, next, sign),
+        None => false,
+    }
+}
+
+/// Whether an arc of an object identifier begins at a place.
+pub fn is_arc_at(tokens: &[Token], at: usize) -> bool
+    ensures { result ≡ passes is_arc_start (slice_get tokens.now at) }
+{
+    match tokens.get(at) {
+        Some(token) => token.kind == NUMBER || is_name(token),
         None => false,
     }
 }
