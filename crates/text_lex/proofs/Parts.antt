@@ -9,9 +9,9 @@ use Rattle.text_lex.specs.Beginning as B
 use Rattle.text_lex.specs.Beginning.{Begins}
 use Rattle.text_lex.specs.Outcome.{closed, Stops, IsFault, IsSpelt, Fails}
 use Rattle.text_lex.specs.TokenTests.{is_word_of, is_sign_of, is_label, is_name, is_number, is_string, is_arc_start}
-use Rattle.text_lex.specs.Parts.{list_tree, document_name, label_reference, named_number, arc, first_arc, sign}
+use Rattle.text_lex.specs.Parts.{either, list_tree, document_name, label_reference, named_number, arc, first_arc, sign}
 use Rattle.text_lex.proofs.Places.{spells_begins, spells_order, at_from}
-use Rattle.text_lex.proofs.Heads.{unknown, heads_unknown, stops_unless, starts}
+use Rattle.text_lex.proofs.Heads.{unknown, heads_unknown, stops_unless, starts, at_wider, or_left, or_right}
 use Rattle.text_lex.proofs.Sequences.{Apart, apart_by, apart_closed, not_closed, passes_false, stops_wider, stops_later, spelt_wider, fault_wider, fault_front, fault_rest, spelt_then, spelt_absent, spelt_first, spelt_second, fault_first, fault_second, stops_or, stops_named, spelt_order}
 use Rattle.text_lex.proofs.Tokens.{keep_spelt, keep_fault, marks_fault}
 use Rattle.text_lex.proofs.Turns.{Leads, leads_start, leads_on, many_leads, many_fault, many_ends, list_leads, list_ends, list_fault, Separates}
@@ -120,3 +120,25 @@ arcs_apart {tokens} {grammar} = apart_by unknown heads_unknown (sign (codes "}")
 
     never : (t : Token) → is_arc_start t ≡ true → starts unknown (sign (codes "}")) t ≡ false
     never t e = either t (is_number t) (is_name t) refl refl e
+
+-- what a list needs, where a part is closed, or goes on with tokens that are no separators
+pub separates_closed : {tokens : List Token} {separator : Token → Bool} → Separates tokens separator closed separator
+separates_closed = record { separates = λ k here. here; continues = λ k here. not_closed here; apart = λ k here now. not_closed here }
+
+pub at_both : {tokens : List Token} {k : ℕ} {p q : Token → Bool} → ((t : Token) → p t ≡ true → q t ≡ false) → At tokens k p → At tokens k q → ⊥
+at_both {tokens} {k} {p} {q} never here now = let f = passes_false p q (slice_get tokens k) never here.passed in let g = now.passed in cc
+
+pub separates_by : {tokens : List Token} {separator part : Token → Bool} → ((t : Token) → part t ≡ true → separator t ≡ false) → Separates tokens separator part (either separator part)
+separates_by {tokens} {separator} {part} never = record { separates = λ k here. at_wider (either separator part) (λ t e. or_left (separator t) (part t) e) here; continues = λ k here. at_wider (either separator part) (λ t e. or_right (separator t) (part t) e) here; apart = λ k here now. at_both never here now }
+
+-- what is apart from two kinds of tokens
+pub apart_either : {tokens : List Token} {grammar : ℕ → Form} {p q : Token → Bool} {g : Form} → Apart tokens grammar p g → Apart tokens grammar q g → Apart tokens grammar (either p q) g
+apart_either {tokens} {grammar} {p} {q} {g} one two = record { apart = λ i here. go i (slice_get tokens i) refl here.passed }
+  where
+    found : (i : ℕ) (t : Token) → slice_get tokens i ≡ Some t → (a b : Bool) → p t ≡ a → q t ≡ b → (a || b) ≡ true → Stops tokens grammar closed g i i
+    found i t is true b e f h = one.apart i (record { passed = ap (passes p) is ∙ e })
+    found i t is false b e f h = two.apart i (record { passed = ap (passes q) is ∙ (f ∙ h) })
+
+    go : (i : ℕ) (x : Option Token) → slice_get tokens i ≡ x → passes (either p q) x ≡ true → Stops tokens grammar closed g i i
+    go i None is pass = absurd (cc pass)
+    go i (Some t) is pass = found i t is (p t) (q t) refl refl pass

@@ -1,6 +1,6 @@
 -- Parts that several grammars have: a label with the name of a document before it, `Module.Type`, and an
 -- object identifier (X.722, section 8.2; X.680, sections 14 and 31), with the trees of their values.
-use Rattle.std.specs.Prelude.{ℕ, Bool, List, [], ◌∷◌, Option, None, Some, codes}
+use Rattle.std.specs.Prelude.{ℕ, Bool, List, [], ◌∷◌, Option, None, Some, codes, ◌||◌}
 use Rattle.text_lex.specs.declared.token.Token.{Token}
 use Rattle.text_lex.specs.declared.label_reference.LabelReference.{LabelReference}
 use Rattle.text_lex.specs.declared.qualified_name.QualifiedName.{QualifiedName}
@@ -20,6 +20,10 @@ words (text ∷ texts) = is_word_of text ∷ words texts
 -- one sign
 abbrev pub sign : List ℕ → Form
 sign text = Marks (is_sign_of text ∷ [])
+
+-- the tokens with which a part may go on: those of one test or another
+abbrev pub either : (Token → Bool) → (Token → Bool) → Token → Bool
+either p q token = p token || q token
 
 -- what an optional part says
 abbrev pub optional_tree : {X : Type 0} → (X → Tree) → Option X → Tree

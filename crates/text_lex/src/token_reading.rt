@@ -1,7 +1,7 @@
 //! Readers of single tokens and of keywords in a row (X.722, section 8.2). Each answers the place behind
 //! what it read, or the one place of the fault. A place past the end of the tokens has no token.
 
-ghost use Rattle.std.specs.Prelude.{◌≡◌, ◌+◌, ℕ, Bool, List, [], ◌∷◌, Some, None, slice_get, map, MatchOption, IfOk};
+ghost use Rattle.std.specs.Prelude.{◌≡◌, ◌+◌, ℕ, Bool, List, [], ◌∷◌, true, false, Some, None, slice_get, map, MatchOption, IfOk};
 ghost use Rattle.std.specs.List.{list_any};
 ghost use Rattle.text_lex.specs.declared.token.Token.{Token};
 ghost use Rattle.text_lex.specs.Form.{Form, Marks, Keep, Bare, Leaf};
@@ -12,8 +12,8 @@ ghost use Rattle.text_lex.specs.TokenTests.{is_word_of, is_sign_of, is_label, is
 use super::syntax_refusal::SyntaxRefusal;
 use super::token::Token;
 use super::token_tests::{
-    is_any_word_at, is_label_at, is_name_at, is_number_at, is_one_of_at, is_sign_at, is_string_at,
-    is_word_at, token_at,
+    is_any_word_at, is_label_at, is_name_at, is_number_at, is_one_of_at, is_sign_at, is_sign_of,
+    is_string_at, is_word_at, token_at,
 };
 use std::alloc::{AllocError, Global};
 
@@ -71,6 +71,18 @@ pub fn skip_sign(tokens: &[Token], at: usize, sign: &str) -> Result<usize, Synta
     ensures { (grammar : ℕ → Form) → Skips tokens.now grammar closed (Marks (is_sign_of sign.now ∷ [])) at Bare result }
 {
     skip_token(tokens, at, is_sign_at(tokens, at, sign))
+}
+
+/// The place behind the sign, where it stands at a place.
+pub fn place_behind(tokens: &[Token], at: usize, sign: &str) -> Option<usize>
+    ensures { MatchOption result (passes (is_sign_of sign.now) (slice_get tokens.now at) ≡ false) (λ next. (passes (is_sign_of sign.now) (slice_get tokens.now at) ≡ true) × (next ≡ at + 1)) }
+{
+    if let Some((token, next)) = token_at(tokens, at) {
+        if is_sign_of(token, sign) {
+            return Some(next);
+        }
+    }
+    None
 }
 
 /// Goes past the words, which stand in a row.
