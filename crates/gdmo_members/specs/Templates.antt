@@ -115,12 +115,12 @@ valued texts f = Then (Marks (words texts)) f
 -- the properties of an attribute, in any order
 abbrev pub property_slots : Slots
 property_slots = Slot false (Keep (is_one_of (codes "REPLACE-WITH-DEFAULT" ∷ []))) None
-  (Slot false (valued (codes "DEFAULT" ∷ codes "VALUE" ∷ []) property_value) None
-  (Slot false (valued (codes "INITIAL" ∷ codes "VALUE" ∷ []) property_value) None
-  (Slot false (valued (codes "PERMITTED" ∷ codes "VALUES" ∷ []) qualified_name) None
-  (Slot false (valued (codes "REQUIRED" ∷ codes "VALUES" ∷ []) qualified_name) None
-  (Slot false (Keep (is_one_of (codes "GET" ∷ codes "REPLACE" ∷ codes "GET-REPLACE" ∷ []))) None
-  (Slot false (Keep (is_one_of (codes "ADD" ∷ codes "REMOVE" ∷ codes "ADD-REMOVE" ∷ []))) None NoSlots))))))
+    (Slot false (valued (codes "DEFAULT" ∷ codes "VALUE" ∷ []) property_value) None
+    (Slot false (valued (codes "INITIAL" ∷ codes "VALUE" ∷ []) property_value) None
+    (Slot false (valued (codes "PERMITTED" ∷ codes "VALUES" ∷ []) qualified_name) None
+    (Slot false (valued (codes "REQUIRED" ∷ codes "VALUES" ∷ []) qualified_name) None
+    (Slot false (Keep (is_one_of (codes "GET" ∷ codes "REPLACE" ∷ codes "GET-REPLACE" ∷ []))) None
+    (Slot false (Keep (is_one_of (codes "ADD" ∷ codes "REMOVE" ∷ codes "ADD-REMOVE" ∷ []))) None NoSlots))))))
 
 abbrev pub attribute_use : Form
 attribute_use = Then (reference attributes) (Then (AnyOrder property_slots) (reference_row parameters))
@@ -131,10 +131,10 @@ member_use n others = Then (reference n) (reference_row others)
 
 abbrev pub package_clauses : Slots
 package_clauses = Slot false behaviour_clause None
-  (Slot false (clause (codes "ATTRIBUTES" ∷ []) (Listed comma Empty attribute_use)) None
-  (Slot false (clause (codes "ATTRIBUTE" ∷ codes "GROUPS" ∷ []) (Listed comma Empty (member_use groups attributes))) None
-  (Slot false (clause (codes "ACTIONS" ∷ []) (Listed comma Empty (member_use actions parameters))) None
-  (Slot false (clause (codes "NOTIFICATIONS" ∷ []) (Listed comma Empty (member_use notifications parameters))) None NoSlots))))
+    (Slot false (clause (codes "ATTRIBUTES" ∷ []) (Listed comma Empty attribute_use)) None
+    (Slot false (clause (codes "ATTRIBUTE" ∷ codes "GROUPS" ∷ []) (Listed comma Empty (member_use groups attributes))) None
+    (Slot false (clause (codes "ACTIONS" ∷ []) (Listed comma Empty (member_use actions parameters))) None
+    (Slot false (clause (codes "NOTIFICATIONS" ∷ []) (Listed comma Empty (member_use notifications parameters))) None NoSlots))))
 
 abbrev pub package_form : Form
 package_form = Then (Keep is_label) (Then (Marks (words (codes "PACKAGE" ∷ []))) (Then (AnyOrder package_clauses) ending))
@@ -151,8 +151,8 @@ conditional_package = Then (reference packages) (Then (Marks (words (codes "PRES
 
 abbrev pub class_clauses : Slots
 class_clauses = Slot false (clause (codes "DERIVED" ∷ codes "FROM" ∷ []) (references classes)) None
-  (Slot false (clause (codes "CHARACTERIZED" ∷ codes "BY" ∷ []) (references packages)) None
-  (Slot false (clause (codes "CONDITIONAL" ∷ codes "PACKAGES" ∷ []) (Listed comma Empty conditional_package)) None NoSlots))
+    (Slot false (clause (codes "CHARACTERIZED" ∷ codes "BY" ∷ []) (references packages)) None
+    (Slot false (clause (codes "CONDITIONAL" ∷ codes "PACKAGES" ∷ []) (Listed comma Empty conditional_package)) None NoSlots))
 
 abbrev pub class_form : Form
 class_form = Then (Keep is_label) (Then (Marks (words (codes "MANAGED" ∷ codes "OBJECT" ∷ codes "CLASS" ∷ []))) (Then (AnyOrder class_clauses) registered_ending))
@@ -181,11 +181,11 @@ delete_modifier = Keep (is_one_of (codes "ONLY-IF-NO-CONTAINED-OBJECTS" ∷ code
 
 abbrev pub name_binding_clauses : Slots
 name_binding_clauses = Slot true (clause (codes "SUBORDINATE" ∷ codes "OBJECT" ∷ codes "CLASS" ∷ []) class_with_subclasses) None
-  (Slot true (clause (codes "NAMED" ∷ codes "BY" ∷ codes "SUPERIOR" ∷ codes "OBJECT" ∷ codes "CLASS" ∷ []) class_with_subclasses) None
-  (Slot true (clause (codes "WITH" ∷ codes "ATTRIBUTE" ∷ []) (reference attributes)) None
-  (Slot false behaviour_clause None
-  (Slot false (clause (codes "CREATE" ∷ []) (Then (Maybe create_modifiers) (reference_row parameters))) None
-  (Slot false (clause (codes "DELETE" ∷ []) (Then (Maybe delete_modifier) (reference_row parameters))) None NoSlots)))))
+    (Slot true (clause (codes "NAMED" ∷ codes "BY" ∷ codes "SUPERIOR" ∷ codes "OBJECT" ∷ codes "CLASS" ∷ []) class_with_subclasses) None
+    (Slot true (clause (codes "WITH" ∷ codes "ATTRIBUTE" ∷ []) (reference attributes)) None
+    (Slot false behaviour_clause None
+    (Slot false (clause (codes "CREATE" ∷ []) (Then (Maybe create_modifiers) (reference_row parameters))) None
+    (Slot false (clause (codes "DELETE" ∷ []) (Then (Maybe delete_modifier) (reference_row parameters))) None NoSlots)))))
 
 abbrev pub name_binding_form : Form
 name_binding_form = Then (Keep is_label) (Then (Marks (words (codes "NAME" ∷ codes "BINDING" ∷ []))) (Then (AnyOrder name_binding_clauses) registered_ending))
