@@ -1,24 +1,24 @@
 -- Laws on clauses in any order.
-use Rattle.std.proofs.Common.{◌≡◌, ◌≢◌, ℕ, zero, suc, ◌+◌, ◌≤◌, ◌<◌, Bool, true, false, not, ◌&&◌, ◌||◌, List, [], ◌∷◌, Option, None, Some, is_none, is_some, ◌⊎◌, inl, inr, refl, sym, ◌∙◌, ap, subst, arith, slice_get}
+use Rattle.std.specs.Result.{IsErrAnd}
+use Rattle.std.proofs.Common.{◌≡◌, ◌≢◌, ℕ, zero, suc, ◌+◌, ◌≤◌, ◌<◌, Bool, true, false, not, ◌&&◌, ◌||◌, List, [], ◌∷◌, Option, None, Some, is_none, is_some, option_map, Result, Ok, Err, ◌⊎◌, inl, inr, refl, sym, ◌∙◌, ap, subst, arith, slice_get}
 use Rattle.text_lex.specs.declared.token.Token.{Token}
 use Rattle.text_lex.specs.Form.{Form, Tree, AnyOrder, Slots, Slot, NoSlots, form_at, is_open, filled, is_complete, slots_tree}
 use Rattle.text_lex.specs.Spelling as S
 use Rattle.text_lex.specs.Spelling.{At, passes, Spells}
 use Rattle.text_lex.specs.Beginning as B
 use Rattle.text_lex.specs.Beginning.{Begins}
+pub use Rattle.text_lex.specs.Turns.{AllStop, IsTaken, IsOver, TakesClause}
+use Rattle.text_lex.specs.declared.syntax_refusal.SyntaxRefusal.{SyntaxRefusal}
 use Rattle.text_lex.specs.Outcome.{closed, Stops, IsFault, IsSpelt, Fails}
 use Rattle.text_lex.proofs.Places.{spells_begins, spells_order, spells_from, begins_from, at_from}
-use Rattle.text_lex.proofs.Heads.{Firsts, skips, starts, Heads, stops_here, or_left, or_right}
-use Rattle.text_lex.proofs.Sequences.{not_closed, spelt_order, stops_later, stops_wider}
+use Rattle.text_lex.proofs.Heads.{Firsts, skips, starts, Heads, stops_here, or_left, or_right, at_wider, advances}
+use Rattle.text_lex.proofs.Sequences.{not_closed, spelt_order, stops_later, stops_wider, fails_by}
+use Rattle.text_lex.proofs.Parts.{at_within}
 use Rattle.text_lex.proofs.Turns.{Leads}
 
 -- each clause that may still come, but the one at n, stops at k
 pub record OthersStop (tokens : List Token) (grammar : ℕ → Form) (n : ℕ) (s : Slots) (i k : ℕ) : Type 0 where
   pub others : (m : ℕ) → m ≢ n → is_open m s ≡ true → Stops tokens grammar closed (form_at m s) i k
-
--- each clause that may still come stops at k
-pub record AllStop (tokens : List Token) (grammar : ℕ → Form) (s : Slots) (i k : ℕ) : Type 0 where
-  pub each : (m : ℕ) → is_open m s ≡ true → Stops tokens grammar closed (form_at m s) i k
 
 pub same_place : (m n : ℕ) → (m ≡ n) ⊎ (m ≢ n)
 same_place zero zero = inl refl
@@ -189,3 +189,36 @@ pub others_stop_by : {tokens : List Token} {grammar : ℕ → Form} (named : Fir
 others_stop_by named heads n NoSlots order here never = record { others = λ m other e. absurd (cc e) }
 others_stop_by named heads zero (Slot needed f came s) order here never = others_here (all_stop_by named heads s order here never)
 others_stop_by named heads (suc n) (Slot needed f came s) order here never = others_past (λ e. stops_by named heads f order here (λ t pass. or_false_left (starts named f t || skips named f) (opens_but named n s t) (never t pass))) (others_stop_by named heads n s order here (λ t pass. or_false_right (starts named f t || skips named f) (opens_but named n s t) (never t pass)))
+
+-- The clause at n comes, which p tells from the others, and was read.
+pub clause_taken : {tokens : List Token} {grammar : ℕ → Form} (named : Firsts) → Heads grammar named → (on : Token → Bool) {p : Token → Bool} (n : ℕ) (s : Slots) {i j : ℕ} {a : Tree} → skips named (form_at n s) ≡ false → ((t : Token) → p t ≡ true → on t ≡ true) → ((t : Token) → p t ≡ true → opens_but named n s t ≡ false) → is_open n s ≡ true → passes p (slice_get tokens i) ≡ true → IsSpelt tokens grammar closed (form_at n s) i a j → IsTaken tokens grammar on s (filled n a s) i j
+clause_taken {tokens} named heads on {p} n s {i} {j} full wide away still comes one = record {
+  leads = clause_leads n s still (at_wider on wide (record { passed = comes })) one (others_stop_by named heads n s (spelt_order one) (record { passed = comes }) away);
+  forward = advances named heads full one.spelt;
+  within = at_within tokens i p comes;
+}
+
+pub fails_clause : {tokens : List Token} {grammar : ℕ → Form} (named : Firsts) → Heads grammar named → (on : Token → Bool) {p : Token → Bool} (n : ℕ) (s : Slots) {i : ℕ} {e : SyntaxRefusal} → ((t : Token) → p t ≡ true → on t ≡ true) → ((t : Token) → p t ≡ true → opens_but named n s t ≡ false) → is_open n s ≡ true → passes p (slice_get tokens i) ≡ true → Fails tokens grammar closed (form_at n s) i e → Fails tokens grammar on (AnyOrder s) i e
+fails_clause named heads on n s wide away still comes r = fails_by (λ k one. clause_fault n s still (at_wider on wide (record { passed = comes })) one (others_stop_by named heads n s one.stops.order (record { passed = comes }) away)) r
+
+-- what the answers of `is_none` say of a clause that may come
+pub came_not : {X : Type 0} (view : X → Tree) (o : Option X) (b comes : Bool) → is_some o ≡ not b → (b && comes) ≡ true → is_none (option_map view o) ≡ true
+came_not view None true comes e h = refl
+came_not view None false comes e h = refl
+came_not view (Some x) true comes e h = absurd (cc e)
+came_not view (Some x) false comes e h = absurd (cc h)
+
+pub comes_here : (b comes : Bool) → (b && comes) ≡ true → comes ≡ true
+comes_here true comes h = h
+comes_here false comes h = absurd (cc h)
+
+pub comes_not : {X : Type 0} (view : X → Tree) (o : Option X) (b comes : Bool) → is_some o ≡ not b → (b && comes) ≡ false → is_none (option_map view o) ≡ true → comes ≡ false
+comes_not view None true comes e h open_now = h
+comes_not view None false comes e h open_now = absurd (cc e)
+comes_not view (Some x) b comes e h open_now = absurd (cc open_now)
+
+-- what the answer of a reader of one clause says at the exit of a `?`
+pub exit_clause : {tokens : List Token} {grammar : ℕ → Form} {on : Token → Bool} {before : Slots} {i : ℕ} {e : SyntaxRefusal} (after : Slots) (r : Result (Option ℕ) SyntaxRefusal) → IsErrAnd r (λ d. d ≡ e) → Fails tokens grammar on (AnyOrder before) i e → TakesClause tokens grammar on before after i r
+exit_clause after (Ok None) is fails = absurd is
+exit_clause after (Ok (Some k)) is fails = absurd is
+exit_clause {tokens} {grammar} {on} {before} {i} {e} after (Err d) is fails = subst (λ (x : SyntaxRefusal). Fails tokens grammar on (AnyOrder before) i x) (sym is) fails

@@ -1,9 +1,9 @@
 -- What is known of a test where it is known which token stands there: the test computes.
-use Rattle.std.proofs.Common.{◌≡◌, ℕ, Bool, true, false, ◌&&◌, List, nat_eq, codes, refl, sym, ap, subst}
+use Rattle.std.proofs.Common.{◌≡◌, ℕ, Bool, true, false, ◌&&◌, ◌||◌, List, [], ◌∷◌, nat_eq, codes, refl, sym, ap, subst}
 use Rattle.std.proofs.lemmas.Bool.{eqb-true}
 use Rattle.std.specs.Cmp.Lexicographic.{same_text}
 use Rattle.text_lex.specs.declared.token.Token.{Token}
-use Rattle.text_lex.specs.TokenTests.{is_word_of, is_sign_of, is_label, is_name, is_word, is_string, is_number}
+use Rattle.text_lex.specs.TokenTests.{is_word_of, is_one_of, is_sign_of, is_label, is_name, is_word, is_string, is_number}
 
 pub first_so : (a b : Bool) → (a && b) ≡ true → a ≡ true
 first_so true b e = refl
@@ -47,3 +47,16 @@ at_label answer test computes t e = of_kind 0 answer test computes t (eqb-true t
 
 pub at_name : (answer : Bool) (test : Token → Bool) → ((at : ℕ) (text : List ℕ) → test (token_of 0 at text) ≡ answer) → (t : Token) → is_name t ≡ true → test t ≡ answer
 at_name answer test computes t e = of_kind 0 answer test computes t (eqb-true t.kind 0 (first_so (nat_eq t.kind 0) _ e))
+
+-- a test at each of these words
+abbrev pub EachComputes : (Token → Bool) → Bool → List (List ℕ) → Type 0
+EachComputes test answer [] = Unit {0}
+EachComputes test answer (text ∷ texts) = ((at : ℕ) → test (token_of 0 at text) ≡ answer) × EachComputes test answer texts
+
+pub at_one_of : (texts : List (List ℕ)) (answer : Bool) (test : Token → Bool) → EachComputes test answer texts → (t : Token) → is_one_of texts t ≡ true → test t ≡ answer
+at_one_of [] answer test each t e = absurd (cc e)
+at_one_of (text ∷ texts) answer test each t e = go (at_one_of texts answer test each.1 t) (is_word_of text t) refl e
+  where
+    go : (is_one_of texts t ≡ true → test t ≡ answer) → (b : Bool) → is_word_of text t ≡ b → (b || is_one_of texts t) ≡ true → test t ≡ answer
+    go others true is h = at_word text answer test each.0 t is
+    go others false is h = others h

@@ -10,19 +10,11 @@ use Rattle.text_lex.specs.Spelling as S
 use Rattle.text_lex.specs.Spelling.{At, passes, Spells}
 use Rattle.text_lex.specs.Beginning as B
 use Rattle.text_lex.specs.Beginning.{Begins}
+pub use Rattle.text_lex.specs.Turns.{Leads}
 use Rattle.text_lex.specs.Outcome.{closed, Stops, IsFault, IsSpelt, Fails}
 use Rattle.text_lex.proofs.Places.{spells_begins, spells_order, spells_from, begins_from, at_token, at_from}
 use Rattle.text_lex.proofs.Tokens.{no_marks_spelt}
 use Rattle.text_lex.proofs.Sequences.{Apart, not_closed, spelt_order}
-
--- Reading `left` from j is reading `whole` from i: what was read between is the front of each
--- spelling, but of those behind which a token of `on` stands.
-pub record Leads (tokens : List Token) (grammar : ℕ → Form) (on : Token → Bool) (whole : Form) (i : ℕ) (left : Form) (j : ℕ) : Type 0 where
-  pub order : i ≤ j
-  pub spells : (k : ℕ) (a : Tree) → Spells tokens grammar left j k a → Spells tokens grammar whole i k a
-  pub only : (k : ℕ) (a : Tree) → Spells tokens grammar whole i k a → Spells tokens grammar left j k a ⊎ At tokens k on
-  pub begins : (k : ℕ) → Begins tokens grammar left j k → Begins tokens grammar whole i k
-  pub furthest : (k : ℕ) → Begins tokens grammar whole i k → (k ≤ j) ⊎ Begins tokens grammar left j k
 
 pub leads_start : {tokens : List Token} {grammar : ℕ → Form} {on : Token → Bool} {f : Form} {i : ℕ} → Leads tokens grammar on f i f i
 leads_start = record { order = omega arith; spells = λ k a s. s; only = λ k a s. inl s; begins = λ k b. b; furthest = λ k b. inr b }

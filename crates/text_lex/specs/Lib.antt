@@ -5,3 +5,4 @@ pub mod Beginning
 pub mod Outcome
 pub mod TokenTests
 pub mod Parts
+pub mod Turns

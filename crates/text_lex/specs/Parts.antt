@@ -1,6 +1,6 @@
 -- Parts that several grammars have: a label with the name of a document before it, `Module.Type`, and an
 -- object identifier (X.722, section 8.2; X.680, sections 14 and 31), with the trees of their values.
-use Rattle.std.specs.Prelude.{ℕ, Bool, List, [], ◌∷◌, Option, None, Some, codes, ◌||◌}
+use Rattle.std.specs.Prelude.{ℕ, Bool, List, [], ◌∷◌, Option, None, Some, option_map, codes, ◌||◌}
 use Rattle.text_lex.specs.declared.token.Token.{Token}
 use Rattle.text_lex.specs.declared.label_reference.LabelReference.{LabelReference}
 use Rattle.text_lex.specs.declared.qualified_name.QualifiedName.{QualifiedName}
@@ -9,7 +9,7 @@ use Rattle.text_lex.specs.declared.object_identifier.Arc.TheVariants.{Number, Na
 use Rattle.text_lex.specs.declared.object_identifier.FirstArc.{FirstArc}
 use Rattle.text_lex.specs.declared.object_identifier.FirstArc.TheVariants.{OfArc, Name}
 use Rattle.text_lex.specs.declared.object_identifier.ObjectIdentifier.{ObjectIdentifier}
-use Rattle.text_lex.specs.Form.{Form, Tree, Marks, Keep, Then, Or, Maybe, Many, Bare, Leaf, Pair, First, Second, Absent, Present, Empty, After}
+use Rattle.text_lex.specs.Form.{Form, Tree, Marks, Keep, Then, Or, Maybe, Many, Bare, Leaf, Pair, First, Second, Absent, Present, Empty, After, option_tree}
 use Rattle.text_lex.specs.TokenTests.{is_word_of, is_sign_of, is_label, is_name, is_word, is_number, is_string}
 
 -- keywords in a row
@@ -27,8 +27,7 @@ either p q token = p token || q token
 
 -- what an optional part says
 abbrev pub optional_tree : {X : Type 0} → (X → Tree) → Option X → Tree
-optional_tree view None = Absent
-optional_tree view (Some x) = Present (view x)
+optional_tree view x = option_tree (option_map view x)
 
 -- what a list says, behind what came before it
 abbrev pub list_tree : {X : Type 0} → (X → Tree) → Tree → List X → Tree
