@@ -6,10 +6,10 @@ use Rattle.text_lex.specs.Parts.{either}
 use Rattle.text_lex.specs.TokenTests.{is_word_of, is_sign_of}
 use Rattle.text_lex.proofs.Heads.{starts, skips}
 use Rattle.text_lex.proofs.Sequences.{Apart, apart_by}
-use Rattle.text_lex.proofs.Known.{at_word, at_sign, token_of}
+use Rattle.text_lex.proofs.Known.{at_word, at_sign, at_any_word, token_of}
 use Rattle.text_lex.proofs.Parts.{apart_either, separates_by}
 use Rattle.text_lex.proofs.Turns.{Separates}
-use Rattle.gdmo_members.specs.Clauses.{semicolon, comma}
+use Rattle.gdmo_members.specs.Clauses.{semicolon, comma, is_context_start}
 use Rattle.gdmo_members.specs.Templates.{templates}
 use Rattle.gdmo_members.proofs.FirstTokens.{labels, labels_lead}
 
@@ -27,3 +27,7 @@ semicolon_apart text = apart_either (sign_apart (codes ",") semicolon refl (λ a
 -- a comma separates references
 pub comma_separates : {tokens : List Token} (text : List ℕ) → Separates tokens comma (is_word_of text) (either comma (is_word_of text))
 comma_separates text = separates_by (at_word text false comma (λ at. refl))
+
+-- a semicolon ends a context
+pub context_apart : {tokens : List Token} → Apart tokens templates is_context_start semicolon
+context_apart = apart_either (sign_apart (codes ".") semicolon refl (λ at. refl)) (apart_by labels labels_lead semicolon refl (at_any_word false (starts labels semicolon) (λ at text. refl)))

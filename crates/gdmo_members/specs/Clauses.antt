@@ -1,5 +1,5 @@
 -- Clauses: parts that several templates have (X.722, section 8.2; docs/PROFILE.md, section 2).
-use Rattle.std.specs.Prelude.{ℕ, Bool, true, false, List, [], ◌∷◌, None, codes}
+use Rattle.std.specs.Prelude.{ℕ, Bool, true, false, List, [], ◌∷◌, None, ◌||◌, codes}
 use Rattle.text_lex.specs.declared.token.Token.{Token}
 use Rattle.text_lex.specs.Form.{Form, Marks, Keep, Then, Or, Maybe, Listed, Many, AnyOrder, Named, Slots, Slot, NoSlots, Empty}
 use Rattle.text_lex.specs.TokenTests.{is_word_of, is_sign_of, is_one_of, is_label, is_word, is_string, is_name}
@@ -89,3 +89,7 @@ context = Then (Keep is_word) (Many Empty context_word)
 -- a matching rule
 abbrev pub matching_rule : Form
 matching_rule = Keep (is_one_of (codes "EQUALITY" ∷ codes "ORDERING" ∷ codes "SUBSTRINGS" ∷ codes "SET-COMPARISON" ∷ codes "SET-INTERSECTION" ∷ []))
+
+-- what a further word of a context begins with
+abbrev pub is_context_start : Token → Bool
+is_context_start token = is_sign_of (codes ".") token || is_word token

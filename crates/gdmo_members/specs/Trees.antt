@@ -9,6 +9,8 @@ use Rattle.text_lex.specs.Parts.{optional_tree, list_tree, label_reference_tree,
 use Rattle.gdmo_members.specs.declared.behaviour.BehaviourTemplate.{BehaviourTemplate}
 use Rattle.gdmo_members.specs.declared.behaviour.BehaviourReference.{BehaviourReference}
 use Rattle.gdmo_members.specs.declared.behaviour.BehaviourReference.TheVariants.{Label, Template}
+use Rattle.gdmo_members.specs.declared.context.ContextWord.{ContextWord}
+use Rattle.gdmo_members.specs.declared.context.Context.{Context}
 
 -- a clause: its keywords, its part and its semicolon
 abbrev pub clause_tree : {X : Type 0} → (X → Tree) → X → Tree
@@ -36,3 +38,9 @@ ending_tree x = Pair (optional_tree registration_tree x) Bare
 
 abbrev pub registered_ending_tree : ObjectIdentifier → Tree
 registered_ending_tree x = Pair (registration_tree x) Bare
+
+abbrev pub context_word_tree : ContextWord → Tree
+context_word_tree x = Pair (optional_tree Leaf x.point) (Leaf x.word)
+
+abbrev pub context_tree : Context → Tree
+context_tree x = Pair (Leaf x.first) (list_tree context_word_tree Empty x.others.items)

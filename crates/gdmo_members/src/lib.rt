@@ -3,6 +3,9 @@
 #![tactic(auto)]
 
 pub mod behaviour;
+pub mod context;
+pub mod matching_rules;
 pub mod registration;
+pub mod type_clause;
 
 pub use behaviour::{BehaviourReference, BehaviourTemplate};
