@@ -2,10 +2,14 @@
 //! behaviours (X.722, sections 8.5 and 8.7 to 8.11).
 #![tactic(auto)]
 
+pub mod attribute;
 pub mod behaviour;
 pub mod context;
 pub mod matching_rules;
+pub mod parameter;
 pub mod registration;
 pub mod type_clause;
 
+pub use attribute::{AttributeReference, AttributeSyntax, AttributeTemplate};
 pub use behaviour::{BehaviourReference, BehaviourTemplate};
+pub use parameter::{ParameterReference, ParameterSyntax, ParameterTemplate};

@@ -2,19 +2,20 @@
 use Rattle.std.specs.Result.{IsErrAnd}
 use Rattle.std.proofs.Common.{◌≡◌, ◌≢◌, ℕ, zero, suc, ◌+◌, ◌≤◌, ◌<◌, Bool, true, false, not, ◌&&◌, ◌||◌, List, [], ◌∷◌, Option, None, Some, is_none, is_some, option_map, Result, Ok, Err, ◌⊎◌, inl, inr, refl, sym, ◌∙◌, ap, subst, arith, slice_get}
 use Rattle.text_lex.specs.declared.token.Token.{Token}
-use Rattle.text_lex.specs.Form.{Form, Tree, AnyOrder, Slots, Slot, NoSlots, form_at, is_open, filled, is_complete, slots_tree}
+use Rattle.text_lex.specs.Form.{Form, Tree, AnyOrder, Slots, Slot, NoSlots, form_at, is_open, filled, is_complete, slots_tree, option_tree, Present}
 use Rattle.text_lex.specs.Spelling as S
 use Rattle.text_lex.specs.Spelling.{At, passes, Spells}
 use Rattle.text_lex.specs.Beginning as B
 use Rattle.text_lex.specs.Beginning.{Begins}
 pub use Rattle.text_lex.specs.Turns.{AllStop, IsTaken, IsOver, TakesClause}
 use Rattle.text_lex.specs.declared.syntax_refusal.SyntaxRefusal.{SyntaxRefusal}
+use Rattle.text_lex.specs.declared.syntax_refusal.SyntaxRefusal.TheVariants.{Syntax}
 use Rattle.text_lex.specs.Outcome.{closed, Stops, IsFault, IsSpelt, Fails}
 use Rattle.text_lex.proofs.Places.{spells_begins, spells_order, spells_from, begins_from, at_from}
 use Rattle.text_lex.proofs.Heads.{Firsts, skips, starts, Heads, stops_here, or_left, or_right, at_wider, advances}
-use Rattle.text_lex.proofs.Sequences.{not_closed, spelt_order, stops_later, stops_wider, fails_by}
-use Rattle.text_lex.proofs.Parts.{at_within}
-use Rattle.text_lex.proofs.Turns.{Leads}
+use Rattle.text_lex.proofs.Sequences.{not_closed, spelt_order, stops_later, stops_wider, fails_by, fails_at}
+use Rattle.text_lex.proofs.Parts.{at_within, spelt_as}
+use Rattle.text_lex.proofs.Turns.{Leads, spelt_led, fault_led}
 
 -- each clause that may still come, but the one at n, stops at k
 pub record OthersStop (tokens : List Token) (grammar : ℕ → Form) (n : ℕ) (s : Slots) (i k : ℕ) : Type 0 where
@@ -222,3 +223,30 @@ pub exit_clause : {tokens : List Token} {grammar : ℕ → Form} {on : Token →
 exit_clause after (Ok None) is fails = absurd is
 exit_clause after (Ok (Some k)) is fails = absurd is
 exit_clause {tokens} {grammar} {on} {before} {i} {e} after (Err d) is fails = subst (λ (x : SyntaxRefusal). Fails tokens grammar on (AnyOrder before) i x) (sym is) fails
+
+-- what the reader of one clause answered where it found none
+pub over : {tokens : List Token} {grammar : ℕ → Form} (on : Token → Bool) (before after : Slots) (i : ℕ) (o : Option ℕ) → o ≡ None → TakesClause tokens grammar on before after i (Ok o) → IsOver tokens grammar before after i
+over on before after i None e taken = taken
+over on before after i (Some k) e taken = absurd (cc e)
+
+-- All clauses were read, or a needed one is missing.
+pub clauses_done : {tokens : List Token} {grammar : ℕ → Form} {on : Token → Bool} {whole : Form} (before after : Slots) {i k : ℕ} {a : Tree} → Leads tokens grammar on whole i (AnyOrder before) k → IsOver tokens grammar before after k → is_complete after ≡ true → a ≡ slots_tree after → IsSpelt tokens grammar on whole i a k
+clauses_done before after led none complete tree = spelt_as (tree ∙ ap slots_tree none.same) (spelt_led led (clauses_end before (sym (ap is_complete none.same) ∙ complete) none.none))
+
+pub clauses_missing : {tokens : List Token} {grammar : ℕ → Form} {on : Token → Bool} {whole : Form} (before after : Slots) {i k : ℕ} → Leads tokens grammar on whole i (AnyOrder before) k → IsOver tokens grammar before after k → is_complete after ≡ false → Fails tokens grammar on whole i (Syntax k)
+clauses_missing before after led none missing = fails_at (fault_led led (clauses_short before (sym (ap is_complete none.same) ∙ missing) none.none))
+
+pub fails_led : {tokens : List Token} {grammar : ℕ → Form} {on : Token → Bool} {whole left : Form} {i j : ℕ} {e : SyntaxRefusal} → Leads tokens grammar on whole i left j → Fails tokens grammar on left j e → Fails tokens grammar on whole i e
+fails_led led r = fails_by (λ k one. fault_led led one) r
+
+-- a needed clause that came, or didn't
+pub needed_some : {X : Type 0} (view : X → Tree) (o : Option X) (x : X) (others : Bool) → o ≡ Some x → others ≡ true → (is_some (option_map view o) && others) ≡ true
+needed_some view None x others e h = absurd (cc e)
+needed_some view (Some y) x others e h = h
+
+pub needed_none : {X : Type 0} (view : X → Tree) (o : Option X) (others : Bool) → o ≡ None → (is_some (option_map view o) && others) ≡ false
+needed_none view None others e = refl
+needed_none view (Some y) others e = absurd (cc e)
+
+pub came_tree : {X : Type 0} (view : X → Tree) (o : Option X) (x : X) → o ≡ Some x → Present (view x) ≡ option_tree (option_map view o)
+came_tree view o x e = sym (ap (λ y. option_tree (option_map view y)) e)

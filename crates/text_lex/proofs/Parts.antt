@@ -11,7 +11,7 @@ use Rattle.text_lex.specs.Outcome.{closed, Stops, IsFault, IsSpelt, Fails}
 use Rattle.text_lex.specs.TokenTests.{is_word_of, is_sign_of, is_label, is_name, is_number, is_string, is_arc_start}
 use Rattle.text_lex.specs.Parts.{either, list_tree, document_name, label_reference, named_number, arc, first_arc, sign}
 use Rattle.text_lex.proofs.Places.{spells_begins, spells_order, at_from}
-use Rattle.text_lex.proofs.Heads.{unknown, heads_unknown, stops_unless, starts, at_wider, or_left, or_right}
+use Rattle.text_lex.proofs.Heads.{unknown, heads_unknown, stops_unless, starts, skips, Firsts, Heads, spells_first, at_wider, or_left, or_right}
 use Rattle.text_lex.proofs.Sequences.{Apart, apart_by, apart_closed, not_closed, passes_false, stops_wider, stops_later, spelt_wider, fault_wider, fault_front, fault_rest, spelt_then, spelt_absent, spelt_first, spelt_second, fault_first, fault_second, stops_or, stops_named, spelt_order}
 use Rattle.text_lex.proofs.Tokens.{keep_spelt, keep_fault, marks_fault}
 use Rattle.text_lex.proofs.Turns.{Leads, leads_start, leads_on, many_leads, many_fault, many_ends, list_leads, list_ends, list_fault, Separates}
@@ -142,3 +142,21 @@ apart_either {tokens} {grammar} {p} {q} {g} one two = record { apart = λ i here
     go : (i : ℕ) (x : Option Token) → slice_get tokens i ≡ x → passes (either p q) x ≡ true → Stops tokens grammar closed g i i
     go i None is pass = absurd (cc pass)
     go i (Some t) is pass = found i t is (p t) (q t) refl refl pass
+
+-- a form that is spelt by no fewer than one token has its first token there
+pub spelt_within : {tokens : List Token} {grammar : ℕ → Form} (named : Firsts) → Heads grammar named → {on : Token → Bool} {f : Form} {i k : ℕ} {a : Tree} → skips named f ≡ false → IsSpelt tokens grammar on f i a k → i < length tokens
+spelt_within {tokens} named heads {on} {f} {i} {k} full one = go (spells_first named heads one.spelt)
+  where
+    go : ((k ≡ i) × (skips named f ≡ true)) ⊎ ((i < k) × At tokens i (starts named f)) → i < length tokens
+    go (inl p) = absurd (let q = p.1 in cc (q, full))
+    go (inr p) = at_within tokens i (starts named f) p.1.passed
+
+-- what is read with an equal tree
+pub spelt_as : {tokens : List Token} {grammar : ℕ → Form} {on : Token → Bool} {f : Form} {i k : ℕ} {a b : Tree} → a ≡ b → IsSpelt tokens grammar on f i b k → IsSpelt tokens grammar on f i a k
+spelt_as {tokens} {grammar} {on} {f} {i} {k} {a} {b} e r = subst (λ (x : Tree). IsSpelt tokens grammar on f i x k) (sym e) r
+
+-- one of two is one of a list of two
+pub one_of_two : (a b : Bool) → (a || b) ≡ true → (a || (b || false)) ≡ true
+one_of_two true b e = refl
+one_of_two false true e = refl
+one_of_two false false e = e
