@@ -1,15 +1,16 @@
 -- Which tokens the ends of clauses and templates are apart from.
-use Rattle.std.proofs.Common.{◌≡◌, ℕ, Bool, true, false, List, refl, codes}
+use Rattle.std.proofs.Common.{◌≡◌, ℕ, Bool, true, false, List, [], ◌∷◌, refl, codes}
 use Rattle.text_lex.specs.declared.token.Token.{Token}
 use Rattle.text_lex.specs.Form.{Form}
 use Rattle.text_lex.specs.Parts.{either}
 use Rattle.text_lex.specs.TokenTests.{is_word_of, is_sign_of}
 use Rattle.text_lex.proofs.Heads.{starts, skips}
 use Rattle.text_lex.proofs.Sequences.{Apart, apart_by}
-use Rattle.text_lex.proofs.Known.{at_word, at_sign, at_any_word, token_of}
+use Rattle.text_lex.proofs.Known.{at_word, at_sign, at_any_word, at_one_of, token_of}
 use Rattle.text_lex.proofs.Parts.{apart_either, separates_by}
 use Rattle.text_lex.proofs.Turns.{Separates}
-use Rattle.gdmo_members.specs.Clauses.{semicolon, comma, is_context_start}
+use Rattle.gdmo_members.specs.Clauses.{semicolon, comma, ending, is_context_start}
+use Rattle.gdmo_members.specs.MemberTrees.{is_attribute_clause, is_parameter_clause}
 use Rattle.gdmo_members.specs.Templates.{templates}
 use Rattle.gdmo_members.proofs.FirstTokens.{labels, labels_lead}
 
@@ -31,3 +32,10 @@ comma_separates text = separates_by (at_word text false comma (λ at. refl))
 -- a semicolon ends a context
 pub context_apart : {tokens : List Token} → Apart tokens templates is_context_start semicolon
 context_apart = apart_either (sign_apart (codes ".") semicolon refl (λ at. refl)) (apart_by labels labels_lead semicolon refl (at_any_word false (starts labels semicolon) (λ at text. refl)))
+
+-- the end of a template is apart from its clauses
+pub attribute_apart : {tokens : List Token} → Apart tokens templates is_attribute_clause ending
+attribute_apart = apart_by labels labels_lead ending refl (at_one_of (codes "WITH" ∷ codes "DERIVED" ∷ codes "MATCHES" ∷ codes "BEHAVIOUR" ∷ codes "PARAMETERS" ∷ []) false (starts labels ending) ((λ at. refl), ((λ at. refl), ((λ at. refl), ((λ at. refl), ((λ at. refl), tt))))))
+
+pub parameter_apart : {tokens : List Token} → Apart tokens templates is_parameter_clause ending
+parameter_apart = apart_by labels labels_lead ending refl (at_one_of (codes "CONTEXT" ∷ codes "WITH" ∷ codes "ATTRIBUTE" ∷ codes "BEHAVIOUR" ∷ []) false (starts labels ending) ((λ at. refl), ((λ at. refl), ((λ at. refl), ((λ at. refl), tt)))))

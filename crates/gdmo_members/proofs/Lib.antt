@@ -1,3 +1,4 @@
 -- The lemmas of this crate.
 pub mod FirstTokens
 pub mod Apart
+pub mod Members

@@ -184,17 +184,20 @@ fn read_parameter_clauses(
         syntax,
         behaviour,
     } = draft;
-    match (context, syntax) {
-        (Some(context), Some(syntax)) => Ok((
-            ParameterClauses {
-                context,
-                syntax,
-                behaviour,
-            },
-            next,
-        )),
-        _ => Err(SyntaxRefusal::Syntax { token: next as u64 }),
-    }
+    let Some(context) = context else {
+        return Err(SyntaxRefusal::Syntax { token: next as u64 });
+    };
+    let Some(syntax) = syntax else {
+        return Err(SyntaxRefusal::Syntax { token: next as u64 });
+    };
+    Ok((
+        ParameterClauses {
+            context,
+            syntax,
+            behaviour,
+        },
+        next,
+    ))
 }
 
 /// Reads the next clause of a parameter template, where one comes that didn't come before.
