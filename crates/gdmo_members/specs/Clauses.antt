@@ -43,9 +43,12 @@ comma = is_sign_of (codes ",")
 abbrev pub clause : List (List ℕ) → Form → Form
 clause texts f = Then (Marks (words texts)) (Then f semicolon)
 
--- keywords that are a clause of their own
+-- a keyword that is kept, and a semicolon; and the same behind other keywords
+abbrev pub word_clause : List ℕ → Form
+word_clause text = Then (Keep (is_one_of (text ∷ []))) semicolon
+
 abbrev pub flag : List (List ℕ) → List ℕ → Form
-flag texts text = Then (Marks (words texts)) (Then (Keep (is_one_of (text ∷ []))) semicolon)
+flag texts text = Then (Marks (words texts)) (word_clause text)
 
 -- `ref`: a label, or in its place a template in line
 abbrev pub reference : ℕ → Form

@@ -5,7 +5,7 @@ use Rattle.text_lex.specs.declared.token.Token.{Token}
 use Rattle.text_lex.specs.Form.{Form, Marks, Keep, Then, Or, Maybe, Listed, Many, AnyOrder, Named, Slots, Slot, NoSlots, Empty}
 use Rattle.text_lex.specs.TokenTests.{is_sign_of, is_one_of, is_label, is_string, is_name}
 use Rattle.text_lex.specs.Parts.{words, qualified_name}
-use Rattle.gdmo_members.specs.Clauses.{behaviours, attributes, parameters, groups, actions, notifications, packages, classes, name_bindings, semicolon, comma, clause, flag, reference, references, reference_row, behaviour_clause, parameters_clause, ending, registered_ending, context, matching_rule}
+use Rattle.gdmo_members.specs.Clauses.{behaviours, attributes, parameters, groups, actions, notifications, packages, classes, name_bindings, semicolon, comma, clause, flag, word_clause, reference, references, reference_row, behaviour_clause, parameters_clause, ending, registered_ending, context, matching_rule}
 
 -- Behaviour (X.722, section 8.9):
 --   <behaviour-definition-label> BEHAVIOUR DEFINED AS delimited-string ;
@@ -54,7 +54,7 @@ parameter_form = Then (Keep is_label) (Then (Marks (words (codes "PARAMETER" ∷
 --     [DESCRIPTION delimited-string ;]
 --   REGISTERED AS object-identifier ;
 abbrev pub group_clauses : Slots
-group_clauses = Slot false (clause (codes "GROUP" ∷ codes "ELEMENTS" ∷ []) (references attributes)) None (Slot false (flag [] (codes "FIXED")) None (Slot false (clause (codes "DESCRIPTION" ∷ []) (Keep is_string)) None NoSlots))
+group_clauses = Slot false (clause (codes "GROUP" ∷ codes "ELEMENTS" ∷ []) (references attributes)) None (Slot false (word_clause (codes "FIXED")) None (Slot false (clause (codes "DESCRIPTION" ∷ []) (Keep is_string)) None NoSlots))
 
 abbrev pub group_form : Form
 group_form = Then (Keep is_label) (Then (Marks (words (codes "ATTRIBUTE" ∷ codes "GROUP" ∷ []))) (Then (AnyOrder group_clauses) registered_ending))
@@ -90,8 +90,11 @@ field = Then (Keep is_name) (reference attributes)
 abbrev pub fields : Form
 fields = Then (Marks (words (codes "AND" ∷ codes "ATTRIBUTE" ∷ codes "IDS" ∷ []))) (Listed comma Empty field)
 
+abbrev pub information_clause : Form
+information_clause = clause (codes "WITH" ∷ codes "INFORMATION" ∷ codes "SYNTAX" ∷ []) (Then qualified_name (Maybe fields))
+
 abbrev pub notification_clauses : Slots
-notification_clauses = Slot false behaviour_clause None (Slot false parameters_clause None (Slot false (clause (codes "WITH" ∷ codes "INFORMATION" ∷ codes "SYNTAX" ∷ []) (Then qualified_name (Maybe fields))) None (Slot false reply_clause None NoSlots)))
+notification_clauses = Slot false behaviour_clause None (Slot false parameters_clause None (Slot false information_clause None (Slot false reply_clause None NoSlots)))
 
 abbrev pub notification_form : Form
 notification_form = Then (Keep is_label) (Then (Marks (words (codes "NOTIFICATION" ∷ []))) (Then (AnyOrder notification_clauses) registered_ending))

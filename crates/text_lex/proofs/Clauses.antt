@@ -2,7 +2,7 @@
 use Rattle.std.specs.Result.{IsErrAnd}
 use Rattle.std.proofs.Common.{◌≡◌, ◌≢◌, ℕ, zero, suc, ◌+◌, ◌≤◌, ◌<◌, Bool, true, false, not, ◌&&◌, ◌||◌, List, [], ◌∷◌, Option, None, Some, is_none, is_some, option_map, Result, Ok, Err, ◌⊎◌, inl, inr, refl, sym, ◌∙◌, ap, subst, arith, slice_get}
 use Rattle.text_lex.specs.declared.token.Token.{Token}
-use Rattle.text_lex.specs.Form.{Form, Tree, AnyOrder, Slots, Slot, NoSlots, form_at, is_open, filled, is_complete, slots_tree, option_tree, Present}
+use Rattle.text_lex.specs.Form.{Form, Tree, Marks, Then, AnyOrder, Slots, Slot, NoSlots, form_at, is_open, filled, is_complete, slots_tree, option_tree, Present}
 use Rattle.text_lex.specs.Spelling as S
 use Rattle.text_lex.specs.Spelling.{At, passes, Spells}
 use Rattle.text_lex.specs.Beginning as B
@@ -13,7 +13,8 @@ use Rattle.text_lex.specs.declared.syntax_refusal.SyntaxRefusal.TheVariants.{Syn
 use Rattle.text_lex.specs.Outcome.{closed, Stops, IsFault, IsSpelt, Fails}
 use Rattle.text_lex.proofs.Places.{spells_begins, spells_order, spells_from, begins_from, at_from}
 use Rattle.text_lex.proofs.Heads.{Firsts, skips, starts, Heads, stops_here, or_left, or_right, at_wider, advances}
-use Rattle.text_lex.proofs.Sequences.{not_closed, spelt_order, stops_later, stops_wider, fails_by, fails_at}
+use Rattle.text_lex.proofs.Sequences.{not_closed, apart_closed, fault_front, spelt_order, stops_later, stops_wider, fails_by, fails_at}
+use Rattle.text_lex.proofs.Tokens.{marks_fault, marks_rest_fault}
 use Rattle.text_lex.proofs.Parts.{at_within, spelt_as}
 use Rattle.text_lex.proofs.Turns.{Leads, spelt_led, fault_led}
 
@@ -250,3 +251,56 @@ needed_none view (Some y) others e = absurd (cc e)
 
 pub came_tree : {X : Type 0} (view : X → Tree) (o : Option X) (x : X) → o ≡ Some x → Present (view x) ≡ option_tree (option_map view o)
 came_tree view o x e = sym (ap (λ y. option_tree (option_map view y)) e)
+
+-- A clause whose second word isn't there stops at it.
+pub second_word_stops : {tokens : List Token} {grammar : ℕ → Form} {p q : Token → Bool} {tests : List (Token → Bool)} {g : Form} {i k : ℕ} → passes p (slice_get tokens i) ≡ true → passes q (slice_get tokens (i + 1)) ≡ false → i + 1 ≤ k → Stops tokens grammar closed (Then (Marks (p ∷ q ∷ tests)) g) i k
+second_word_stops here fails order = stops_later order (fault_front apart_closed (marks_rest_fault (record { passed = here }) (marks_fault fails))).stops
+
+-- A clause whose first word is there goes past it.
+pub first_word_begins : {tokens : List Token} {grammar : ℕ → Form} {p : Token → Bool} {tests : List (Token → Bool)} {g : Form} {i : ℕ} → passes p (slice_get tokens i) ≡ true → Begins tokens grammar (Then (Marks (p ∷ tests)) g) i (i + 1)
+first_word_begins here = B.front (B.mark (record { passed = here }) B.no_tokens)
+
+-- The clause at n comes, and what is known of the others is shown apart.
+pub clause_taken_with : {tokens : List Token} {grammar : ℕ → Form} (named : Firsts) → Heads grammar named → (on : Token → Bool) {p : Token → Bool} (n : ℕ) (s : Slots) {i j : ℕ} {a : Tree} → skips named (form_at n s) ≡ false → ((t : Token) → p t ≡ true → on t ≡ true) → is_open n s ≡ true → passes p (slice_get tokens i) ≡ true → ((k : ℕ) → ((m : ℕ) → Begins tokens grammar (form_at n s) i m → m ≤ k) → OthersStop tokens grammar n s i k) → IsSpelt tokens grammar closed (form_at n s) i a j → IsTaken tokens grammar on s (filled n a s) i j
+clause_taken_with {tokens} named heads on {p} n s {i} {j} full wide still comes away one = record {
+  leads = clause_leads n s still (at_wider on wide (record { passed = comes })) one (away j one.furthest);
+  forward = advances named heads full one.spelt;
+  within = at_within tokens i p comes;
+}
+
+pub fails_clause_with : {tokens : List Token} {grammar : ℕ → Form} (on : Token → Bool) {p : Token → Bool} (n : ℕ) (s : Slots) {i : ℕ} {e : SyntaxRefusal} → ((t : Token) → p t ≡ true → on t ≡ true) → is_open n s ≡ true → passes p (slice_get tokens i) ≡ true → ((k : ℕ) → ((m : ℕ) → Begins tokens grammar (form_at n s) i m → m ≤ k) → OthersStop tokens grammar n s i k) → Fails tokens grammar closed (form_at n s) i e → Fails tokens grammar on (AnyOrder s) i e
+fails_clause_with on n s wide still comes away r = fails_by (λ k one. clause_fault n s still (at_wider on wide (record { passed = comes })) one (away k one.stops.furthest)) r
+
+-- what three tests in a row say
+pub both_first : (a b : Bool) → (a && not b) ≡ true → a ≡ true
+both_first true b e = refl
+both_first false b e = absurd (cc e)
+
+pub both_second : (a b : Bool) → (a && not b) ≡ true → b ≡ false
+both_second true true e = absurd (cc e)
+both_second true false e = refl
+both_second false b e = absurd (cc e)
+
+-- where the information clause doesn't come, though its first word is there and it may come: the reply
+-- clause comes
+pub both_not : (a b : Bool) → (a && not b) ≡ false → a ≡ true → b ≡ true
+both_not true true e h = refl
+both_not true false e h = absurd (cc e)
+both_not false b e h = absurd (cc h)
+
+-- a clause that may come, and doesn't
+pub pair_not : {X : Type 0} (view : X → Tree) (o : Option X) (b p q : Bool) → is_some o ≡ not b → (b && (p && q)) ≡ false → is_none (option_map view o) ≡ true → p ≡ true → q ≡ false
+pair_not view None true true q e h open_now f = h
+pair_not view None true false q e h open_now f = absurd (cc f)
+pair_not view None false p q e h open_now f = absurd (cc e)
+pair_not view (Some x) b p q e h open_now f = absurd (cc open_now)
+
+pub pair_comes : (b p q : Bool) → (b && (p && q)) ≡ true → q ≡ true
+pair_comes true true q e = e
+pair_comes true false q e = absurd (cc e)
+pair_comes false p q e = absurd (cc e)
+
+pub open_and : {X : Type 0} (view : X → Tree) (o : Option X) (b : Bool) → is_some o ≡ not b → is_none (option_map view o) ≡ true → b ≡ true
+open_and view None true e open_now = refl
+open_and view None false e open_now = absurd (cc e)
+open_and view (Some x) b e open_now = absurd (cc open_now)

@@ -225,3 +225,13 @@ pub fn is_arc_at(tokens: &[Token], at: usize) -> bool
         None => false,
     }
 }
+
+/// Whether two words stand in a row at a place.
+pub fn is_pair_at(tokens: &[Token], at: usize, first: &str, second: &str) -> bool
+    ensures { result ≡ (passes (is_word_of first.now) (slice_get tokens.now at) && passes (is_word_of second.now) (slice_get tokens.now (at + 1))) }
+{
+    match token_at(tokens, at) {
+        Some((token, next)) => is_word_of(token, first) && is_word_at(tokens, next, second),
+        None => false,
+    }
+}
