@@ -2,3 +2,4 @@
 pub mod FirstTokens
 pub mod Apart
 pub mod Members
+pub mod WithClauses

@@ -12,17 +12,16 @@ ghost use Rattle.gdmo_members.specs.Trees.{clause_tree, vector_tree};
 ghost use Rattle.gdmo_members.specs.MemberTrees.{attribute_reference_tree, parameter_reference_tree};
 ghost use Rattle.gdmo_members.specs.FurtherTrees.{action_tree, action_slots, action_clauses_tree, is_action_clause};
 
+use super::behaviour::{BehaviourReference, read_behaviour_clause};
+use super::parameter::{ParameterReference, read_parameters_clause};
+use super::registration::read_registered_ending;
+use super::type_clause::read_type_clause;
 use std::alloc::Global;
 use text_lex::object_identifier::ObjectIdentifier;
 use text_lex::qualified_name::QualifiedName;
 use text_lex::token_reading::{read_label, read_one_of, skip_sign, skip_words};
 use text_lex::token_tests::{is_pair_at, is_word_at};
 use text_lex::{SyntaxRefusal, Token};
-
-use super::behaviour::{BehaviourReference, read_behaviour_clause};
-use super::parameter::{ParameterReference, read_parameters_clause};
-use super::registration::read_registered_ending;
-use super::type_clause::read_type_clause;
 
 /// An action template.
 #[derive(Drop)]
@@ -56,7 +55,11 @@ struct ActionClauses {
 }
 
 /// Reads an action template.
-pub fn read_action(alloc: Global, tokens: &[Token], at: usize) -> Result<(ActionTemplate, usize), SyntaxRefusal>
+pub fn read_action(
+    alloc: Global,
+    tokens: &[Token],
+    at: usize,
+) -> Result<(ActionTemplate, usize), SyntaxRefusal>
     ensures { Reads tokens.now templates closed (Named actions) at action_tree result }
 {
     let (label, next) = read_label(alloc, tokens, at)?;
@@ -79,7 +82,11 @@ pub fn read_action(alloc: Global, tokens: &[Token], at: usize) -> Result<(Action
 }
 
 /// Reads the clauses of an action template, in any order.
-fn read_action_clauses(alloc: Global, tokens: &[Token], at: usize) -> Result<(ActionClauses, usize), SyntaxRefusal>
+fn read_action_clauses(
+    alloc: Global,
+    tokens: &[Token],
+    at: usize,
+) -> Result<(ActionClauses, usize), SyntaxRefusal>
     ensures { Reads tokens.now templates is_action_clause (AnyOrder action_clauses) at action_clauses_tree result }
 {
     let mut clauses = ActionClauses {
@@ -97,7 +104,12 @@ fn read_action_clauses(alloc: Global, tokens: &[Token], at: usize) -> Result<(Ac
 }
 
 /// Reads the next clause of an action template, where one comes that didn't come before.
-fn read_action_clause(alloc: Global, tokens: &[Token], at: usize, clauses: &mut ActionClauses) -> Result<Option<usize>, SyntaxRefusal>
+fn read_action_clause(
+    alloc: Global,
+    tokens: &[Token],
+    at: usize,
+    clauses: &mut ActionClauses,
+) -> Result<Option<usize>, SyntaxRefusal>
     ensures { TakesClause tokens.now templates is_action_clause (action_slots clauses.old) (action_slots clauses.new) at result }
 {
     let has_behaviour = clauses.behaviour.is_none() & is_word_at(tokens, at, "BEHAVIOUR");
@@ -122,7 +134,12 @@ fn read_action_clause(alloc: Global, tokens: &[Token], at: usize, clauses: &mut 
     let is_reply = clauses.reply.is_none() & is_pair_at(tokens, at, "WITH", "REPLY");
     let has_information = clauses.information.is_none() & is_with & !is_reply;
     if has_information {
-        let (information, next) = read_type_clause(alloc, tokens, at, &["WITH", "INFORMATION", "SYNTAX"])?;
+        let (information, next) = read_type_clause(
+            alloc,
+            tokens,
+            at,
+            &["WITH", "INFORMATION", "SYNTAX"],
+        )?;
         clauses.information = Some(information);
         return Ok(Some(next));
     }
@@ -136,7 +153,11 @@ fn read_action_clause(alloc: Global, tokens: &[Token], at: usize, clauses: &mut 
 }
 
 /// Reads the clause `MODE CONFIRMED;`.
-fn read_mode_clause(alloc: Global, tokens: &[Token], at: usize) -> Result<(Token, usize), SyntaxRefusal>
+fn read_mode_clause(
+    alloc: Global,
+    tokens: &[Token],
+    at: usize,
+) -> Result<(Token, usize), SyntaxRefusal>
     ensures { Reads tokens.now templates closed (flag (codes "MODE" ∷ []) (codes "CONFIRMED")) at (clause_tree Leaf) result }
 {
     let next = skip_words(tokens, at, &["MODE"])?;

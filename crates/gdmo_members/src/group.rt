@@ -12,14 +12,15 @@ ghost use Rattle.gdmo_members.specs.Trees.{clause_tree, vector_tree};
 ghost use Rattle.gdmo_members.specs.MemberTrees.{attribute_reference_tree, parameter_reference_tree};
 ghost use Rattle.gdmo_members.specs.FurtherTrees.{group_tree, group_slots, group_clauses_tree, is_group_clause, word_clause_tree};
 
-use std::alloc::Global;
-use text_lex::object_identifier::ObjectIdentifier;
-use text_lex::token_reading::{place_behind, read_label, read_one_of, read_string, skip_sign, skip_words};
-use text_lex::token_tests::is_word_at;
-use text_lex::{SyntaxRefusal, Token};
-
 use super::attribute::{AttributeReference, read_attribute_reference};
 use super::registration::read_registered_ending;
+use std::alloc::Global;
+use text_lex::object_identifier::ObjectIdentifier;
+use text_lex::token_reading::{
+    place_behind, read_label, read_one_of, read_string, skip_sign, skip_words,
+};
+use text_lex::token_tests::is_word_at;
+use text_lex::{SyntaxRefusal, Token};
 
 /// An attribute group template.
 #[derive(Drop)]
@@ -47,7 +48,11 @@ struct GroupClauses {
 }
 
 /// Reads a group template.
-pub fn read_group(alloc: Global, tokens: &[Token], at: usize) -> Result<(GroupTemplate, usize), SyntaxRefusal>
+pub fn read_group(
+    alloc: Global,
+    tokens: &[Token],
+    at: usize,
+) -> Result<(GroupTemplate, usize), SyntaxRefusal>
     ensures { Reads tokens.now templates closed (Named groups) at group_tree result }
 {
     let (label, next) = read_label(alloc, tokens, at)?;
@@ -68,7 +73,11 @@ pub fn read_group(alloc: Global, tokens: &[Token], at: usize) -> Result<(GroupTe
 }
 
 /// Reads the clauses of a group template, in any order.
-fn read_group_clauses(alloc: Global, tokens: &[Token], at: usize) -> Result<(GroupClauses, usize), SyntaxRefusal>
+fn read_group_clauses(
+    alloc: Global,
+    tokens: &[Token],
+    at: usize,
+) -> Result<(GroupClauses, usize), SyntaxRefusal>
     ensures { Reads tokens.now templates is_group_clause (AnyOrder group_clauses) at group_clauses_tree result }
 {
     let mut clauses = GroupClauses {
@@ -84,7 +93,12 @@ fn read_group_clauses(alloc: Global, tokens: &[Token], at: usize) -> Result<(Gro
 }
 
 /// Reads the next clause of a group template, where one comes that didn't come before.
-fn read_group_clause(alloc: Global, tokens: &[Token], at: usize, clauses: &mut GroupClauses) -> Result<Option<usize>, SyntaxRefusal>
+fn read_group_clause(
+    alloc: Global,
+    tokens: &[Token],
+    at: usize,
+    clauses: &mut GroupClauses,
+) -> Result<Option<usize>, SyntaxRefusal>
     ensures { TakesClause tokens.now templates is_group_clause (group_slots clauses.old) (group_slots clauses.new) at result }
 {
     let has_elements = clauses.elements.is_none() & is_word_at(tokens, at, "GROUP");
@@ -109,7 +123,11 @@ fn read_group_clause(alloc: Global, tokens: &[Token], at: usize, clauses: &mut G
 }
 
 /// Reads references to attributes with commas between them.
-fn read_attribute_list(alloc: Global, tokens: &[Token], at: usize) -> Result<(Vec<AttributeReference>, usize), SyntaxRefusal>
+fn read_attribute_list(
+    alloc: Global,
+    tokens: &[Token],
+    at: usize,
+) -> Result<(Vec<AttributeReference>, usize), SyntaxRefusal>
     ensures { Reads tokens.now templates (either comma (is_word_of (codes "ATTRIBUTE"))) (references attributes) at (vector_tree attribute_reference_tree) result }
 {
     let mut list = Vec::new(alloc);
@@ -125,7 +143,11 @@ fn read_attribute_list(alloc: Global, tokens: &[Token], at: usize) -> Result<(Ve
 }
 
 /// Reads the clause `GROUP ELEMENTS ref, ..;`.
-fn read_elements_clause(alloc: Global, tokens: &[Token], at: usize) -> Result<(Vec<AttributeReference>, usize), SyntaxRefusal>
+fn read_elements_clause(
+    alloc: Global,
+    tokens: &[Token],
+    at: usize,
+) -> Result<(Vec<AttributeReference>, usize), SyntaxRefusal>
     ensures { Reads tokens.now templates closed (clause (codes "GROUP" ∷ codes "ELEMENTS" ∷ []) (references attributes)) at (clause_tree (vector_tree attribute_reference_tree)) result }
 {
     let next = skip_words(tokens, at, &["GROUP", "ELEMENTS"])?;
@@ -135,7 +157,11 @@ fn read_elements_clause(alloc: Global, tokens: &[Token], at: usize) -> Result<(V
 }
 
 /// Reads the clause `FIXED;`.
-fn read_fixed_clause(alloc: Global, tokens: &[Token], at: usize) -> Result<(Token, usize), SyntaxRefusal>
+fn read_fixed_clause(
+    alloc: Global,
+    tokens: &[Token],
+    at: usize,
+) -> Result<(Token, usize), SyntaxRefusal>
     ensures { Reads tokens.now templates closed (word_clause (codes "FIXED")) at word_clause_tree result }
 {
     let (word, next) = read_one_of(alloc, tokens, at, &["FIXED"])?;
@@ -144,7 +170,11 @@ fn read_fixed_clause(alloc: Global, tokens: &[Token], at: usize) -> Result<(Toke
 }
 
 /// Reads the clause `DESCRIPTION string;`.
-fn read_description_clause(alloc: Global, tokens: &[Token], at: usize) -> Result<(Token, usize), SyntaxRefusal>
+fn read_description_clause(
+    alloc: Global,
+    tokens: &[Token],
+    at: usize,
+) -> Result<(Token, usize), SyntaxRefusal>
     ensures { Reads tokens.now templates closed (clause (codes "DESCRIPTION" ∷ []) (Keep is_string)) at (clause_tree Leaf) result }
 {
     let next = skip_words(tokens, at, &["DESCRIPTION"])?;

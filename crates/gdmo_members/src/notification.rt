@@ -12,18 +12,17 @@ ghost use Rattle.gdmo_members.specs.Trees.{clause_tree, vector_tree};
 ghost use Rattle.gdmo_members.specs.MemberTrees.{attribute_reference_tree, parameter_reference_tree};
 ghost use Rattle.gdmo_members.specs.FurtherTrees.{notification_tree, notification_slots, notification_clauses_tree, is_notification_clause, field_tree, fields_tree, information_tree, is_field_end};
 
+use super::attribute::{AttributeReference, read_attribute_reference};
+use super::behaviour::{BehaviourReference, read_behaviour_clause};
+use super::parameter::{ParameterReference, read_parameters_clause};
+use super::registration::read_registered_ending;
+use super::type_clause::read_type_clause;
 use std::alloc::Global;
 use text_lex::object_identifier::ObjectIdentifier;
 use text_lex::qualified_name::{QualifiedName, read_qualified_name};
 use text_lex::token_reading::{place_behind, read_label, read_name, skip_sign, skip_words};
 use text_lex::token_tests::{is_pair_at, is_word_at};
 use text_lex::{SyntaxRefusal, Token};
-
-use super::attribute::{AttributeReference, read_attribute_reference};
-use super::behaviour::{BehaviourReference, read_behaviour_clause};
-use super::parameter::{ParameterReference, read_parameters_clause};
-use super::registration::read_registered_ending;
-use super::type_clause::read_type_clause;
 
 /// A component of a notification's information that is an attribute.
 #[derive(Drop)]
@@ -72,7 +71,11 @@ struct NotificationClauses {
 }
 
 /// Reads a notification template.
-pub fn read_notification(alloc: Global, tokens: &[Token], at: usize) -> Result<(NotificationTemplate, usize), SyntaxRefusal>
+pub fn read_notification(
+    alloc: Global,
+    tokens: &[Token],
+    at: usize,
+) -> Result<(NotificationTemplate, usize), SyntaxRefusal>
     ensures { Reads tokens.now templates closed (Named notifications) at notification_tree result }
 {
     let (label, next) = read_label(alloc, tokens, at)?;
@@ -94,7 +97,11 @@ pub fn read_notification(alloc: Global, tokens: &[Token], at: usize) -> Result<(
 }
 
 /// Reads the clauses of a notification template, in any order.
-fn read_notification_clauses(alloc: Global, tokens: &[Token], at: usize) -> Result<(NotificationClauses, usize), SyntaxRefusal>
+fn read_notification_clauses(
+    alloc: Global,
+    tokens: &[Token],
+    at: usize,
+) -> Result<(NotificationClauses, usize), SyntaxRefusal>
     ensures { Reads tokens.now templates is_notification_clause (AnyOrder notification_clauses) at notification_clauses_tree result }
 {
     let mut clauses = NotificationClauses {
@@ -111,7 +118,12 @@ fn read_notification_clauses(alloc: Global, tokens: &[Token], at: usize) -> Resu
 }
 
 /// Reads the next clause of a notification template, where one comes that didn't come before.
-fn read_notification_clause(alloc: Global, tokens: &[Token], at: usize, clauses: &mut NotificationClauses) -> Result<Option<usize>, SyntaxRefusal>
+fn read_notification_clause(
+    alloc: Global,
+    tokens: &[Token],
+    at: usize,
+    clauses: &mut NotificationClauses,
+) -> Result<Option<usize>, SyntaxRefusal>
     ensures { TakesClause tokens.now templates is_notification_clause (notification_slots clauses.old) (notification_slots clauses.new) at result }
 {
     let has_behaviour = clauses.behaviour.is_none() & is_word_at(tokens, at, "BEHAVIOUR");
@@ -153,7 +165,11 @@ fn read_field(alloc: Global, tokens: &[Token], at: usize) -> Result<(Field, usiz
 }
 
 /// Reads components with commas between them.
-fn read_field_list(alloc: Global, tokens: &[Token], at: usize) -> Result<(Vec<Field>, usize), SyntaxRefusal>
+fn read_field_list(
+    alloc: Global,
+    tokens: &[Token],
+    at: usize,
+) -> Result<(Vec<Field>, usize), SyntaxRefusal>
     ensures { Reads tokens.now templates (either comma (is_word_of (codes "ATTRIBUTE"))) (Listed comma Empty field) at (vector_tree field_tree) result }
 {
     let mut list = Vec::new(alloc);
@@ -169,7 +185,11 @@ fn read_field_list(alloc: Global, tokens: &[Token], at: usize) -> Result<(Vec<Fi
 }
 
 /// Reads `AND ATTRIBUTE IDS field ref, ..` where it comes.
-fn read_fields(alloc: Global, tokens: &[Token], at: usize) -> Result<(Option<Vec<Field>>, usize), SyntaxRefusal>
+fn read_fields(
+    alloc: Global,
+    tokens: &[Token],
+    at: usize,
+) -> Result<(Option<Vec<Field>>, usize), SyntaxRefusal>
     ensures { Reads tokens.now templates is_field_end (Maybe fields) at (optional_tree fields_tree) result }
 {
     if !is_word_at(tokens, at, "AND") {
@@ -181,7 +201,11 @@ fn read_fields(alloc: Global, tokens: &[Token], at: usize) -> Result<(Option<Vec
 }
 
 /// Reads the clause `WITH INFORMATION SYNTAX Module.Type [AND ATTRIBUTE IDS field ref, ..];`.
-fn read_information_clause(alloc: Global, tokens: &[Token], at: usize) -> Result<(Information, usize), SyntaxRefusal>
+fn read_information_clause(
+    alloc: Global,
+    tokens: &[Token],
+    at: usize,
+) -> Result<(Information, usize), SyntaxRefusal>
     ensures { Reads tokens.now templates closed information_clause at (clause_tree information_tree) result }
 {
     let next = skip_words(tokens, at, &["WITH", "INFORMATION", "SYNTAX"])?;
@@ -191,7 +215,11 @@ fn read_information_clause(alloc: Global, tokens: &[Token], at: usize) -> Result
 }
 
 /// Reads the type of a notification's information and the attributes that its components are.
-fn read_information(alloc: Global, tokens: &[Token], at: usize) -> Result<(Information, usize), SyntaxRefusal>
+fn read_information(
+    alloc: Global,
+    tokens: &[Token],
+    at: usize,
+) -> Result<(Information, usize), SyntaxRefusal>
     ensures { Reads tokens.now templates is_field_end (Then qualified_name (Maybe fields)) at information_tree result }
 {
     let (syntax, next) = read_qualified_name(alloc, tokens, at)?;

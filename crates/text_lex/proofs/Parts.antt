@@ -160,3 +160,7 @@ pub one_of_two : (a b : Bool) → (a || b) ≡ true → (a || (b || false)) ≡ 
 one_of_two true b e = refl
 one_of_two false true e = refl
 one_of_two false false e = e
+
+pub one_word : (a : Bool) → (a || false) ≡ true → a ≡ true
+one_word true e = refl
+one_word false e = e

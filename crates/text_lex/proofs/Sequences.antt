@@ -247,3 +247,14 @@ fails_named n r = fails_by (λ k. fault_named n) r
 
 pub fails_present : {tokens : List Token} {grammar : ℕ → Form} {on : Token → Bool} {f : Form} {i : ℕ} {e : SyntaxRefusal} → At tokens i on → Fails tokens grammar on f i e → Fails tokens grammar on (Maybe f) i e
 fails_present comes r = fails_by (λ k. fault_present comes) r
+
+-- what is read of a form, as of one that goes on with more tokens
+pub spelt_on : {tokens : List Token} {grammar : ℕ → Form} {on on' : Token → Bool} {f : Form} {i k : ℕ} {a : Tree} → ((m : ℕ) → At tokens m on → At tokens m on') → IsSpelt tokens grammar on f i a k → IsSpelt tokens grammar on' f i a k
+spelt_on {tokens} {grammar} {on} {on'} {f} {i} {k} {a} wide r = record { spelt = r.spelt; only = λ j b s. go j b (r.only j b s); furthest = r.furthest }
+  where
+    go : (j : ℕ) (b : Tree) → ((j ≡ k) × (b ≡ a)) ⊎ At tokens j on → ((j ≡ k) × (b ≡ a)) ⊎ At tokens j on'
+    go j b (inl e) = inl e
+    go j b (inr here) = inr (wide j here)
+
+pub fails_on : {tokens : List Token} {grammar : ℕ → Form} {on on' : Token → Bool} {f : Form} {i : ℕ} {e : SyntaxRefusal} → ((m : ℕ) → At tokens m on → At tokens m on') → Fails tokens grammar on f i e → Fails tokens grammar on' f i e
+fails_on wide r = fails_by (λ k one. record { begun = one.begun; stops = record { order = one.stops.order; unspelt = λ j a s. wide j (one.stops.unspelt j a s); furthest = one.stops.furthest } }) r
