@@ -3,3 +3,4 @@ pub mod FirstTokens
 pub mod Apart
 pub mod Members
 pub mod WithClauses
+pub mod Alternatives

@@ -235,3 +235,13 @@ pub fn is_pair_at(tokens: &[Token], at: usize, first: &str, second: &str) -> boo
         None => false,
     }
 }
+
+/// Whether a label stands at a place and two words in a row behind it.
+pub fn is_pair_template_at(tokens: &[Token], at: usize, first: &str, second: &str) -> bool
+    ensures { result ≡ (passes is_label (slice_get tokens.now at) && (passes (is_word_of first.now) (slice_get tokens.now (at + 1)) && passes (is_word_of second.now) (slice_get tokens.now (at + 1 + 1)))) }
+{
+    match token_at(tokens, at) {
+        Some((token, next)) => is_label(token) && is_pair_at(tokens, next, first, second),
+        None => false,
+    }
+}
