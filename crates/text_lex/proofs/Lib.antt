@@ -9,3 +9,11 @@ pub mod Exits
 pub mod Known
 pub mod Parts
 pub mod References
+pub mod Announced
+pub mod Digits
+pub mod Ends
+pub mod Once
+pub mod Pieces
+pub mod Reading
+pub mod Slices
+pub mod StandardFacts

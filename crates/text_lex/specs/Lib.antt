@@ -6,3 +6,10 @@ pub mod Outcome
 pub mod TokenTests
 pub mod Parts
 pub mod Turns
+pub mod Octets
+pub mod Comments
+pub mod Lexemes
+pub mod Pieces
+pub mod Lexed
+pub mod Slices
+pub mod Laws

@@ -4,6 +4,12 @@
 
 pub mod bytes;
 pub mod label_reference;
+pub mod lex_refusal;
+pub mod lexing;
+mod lexing_ends;
+pub mod lexing_laws;
+mod lexing_octets;
+mod lexing_pieces;
 pub mod object_identifier;
 pub mod qualified_name;
 pub mod syntax_refusal;
@@ -12,5 +18,10 @@ pub mod token_reading;
 pub mod token_tests;
 
 pub use bytes::Bytes;
+pub use lex_refusal::{LexKind, LexRefusal};
+pub use lexing::lex;
 pub use syntax_refusal::SyntaxRefusal;
 pub use token::Token;
+
+#[cfg(test)]
+mod tests;

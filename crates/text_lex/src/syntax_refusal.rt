@@ -9,8 +9,8 @@ use thiserror::Error;
 /// Why tokens were not read.
 #[derive(PartialEq, Eq, Debug, Drop, Error)]
 pub enum SyntaxRefusal {
-    /// The form doesn't go on with the token of this number, counted from 0; the number of tokens, where
-    /// they end too early.
+    /// The form doesn't go on with the token of this number, counted from 0; the number of tokens,
+    /// where they end too early.
     #[error("syntax error at token {token}")]
     Syntax {
         /// The token's number.

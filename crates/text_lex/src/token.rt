@@ -5,8 +5,8 @@ use super::bytes::Bytes;
 /// A word, a number, a string or a sign of a document.
 #[derive(PartialEq, Eq, Debug, Drop)]
 pub struct Token {
-    /// Which kind it is: one of [`WORD`], [`NUMBER`], [`STRING`], [`HEX_STRING`], [`BIT_STRING`] and
-    /// [`SIGN`].
+    /// Which kind it is: one of [`WORD`], [`NUMBER`], [`STRING`], [`HEX_STRING`], [`BIT_STRING`]
+    /// and [`SIGN`].
     pub kind: u8,
     /// The place of its first octet in the document, counted from 0.
     pub at: u64,
