@@ -3,14 +3,19 @@
 #![tactic(auto)]
 
 pub mod bytes;
+pub mod label_reference;
 pub mod lex_refusal;
 pub mod lexing;
 mod lexing_ends;
 pub mod lexing_laws;
 mod lexing_octets;
 mod lexing_pieces;
+pub mod object_identifier;
+pub mod qualified_name;
 pub mod syntax_refusal;
 pub mod token;
+pub mod token_reading;
+pub mod token_tests;
 
 pub use bytes::Bytes;
 pub use lex_refusal::{LexKind, LexRefusal};

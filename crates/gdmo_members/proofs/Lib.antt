@@ -1,0 +1,6 @@
+-- The lemmas of this crate.
+pub mod FirstTokens
+pub mod Apart
+pub mod Members
+pub mod WithClauses
+pub mod Alternatives

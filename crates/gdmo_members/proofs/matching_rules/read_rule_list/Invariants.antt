@@ -1,0 +1,15 @@
+use Rattle.std.proofs.Common.{◌-◌, length, codes}
+use Rattle.text_lex.specs.Form.{Listed, Empty, Leaf}
+use Rattle.text_lex.specs.Parts.{either, list_tree}
+use Rattle.text_lex.specs.TokenTests.{is_word_of}
+use Rattle.text_lex.proofs.Turns.{Leads}
+use Rattle.gdmo_members.specs.Clauses.{behaviours, attributes, parameters, comma, reference, matching_rule}
+use Rattle.gdmo_members.specs.Templates.{templates}
+use Rattle.gdmo_members.proofs.matching_rules.read_rule_list.Given as goal
+
+-- the parts from the next one on are left to be read
+abbrev pub invariant-turns : goal.invariant-turns
+invariant-turns l = Leads l.tokens templates comma (Listed comma Empty matching_rule) l.at (Listed comma (list_tree Leaf Empty l.list.items) matching_rule) l.next
+
+abbrev pub decreases-turns : goal.decreases-turns
+decreases-turns l = length l.tokens - l.next

@@ -1,0 +1,17 @@
+-- The identifier, where it stands, and the semicolon.
+use Rattle.std.proofs.Common.{refl, codes, ◌-◌}
+use Rattle.text_lex.proofs.Sequences.{spelt_then, fails_front, fails_rest}
+use Rattle.text_lex.proofs.Exits.{exit_reads}
+use Rattle.gdmo_members.proofs.Apart.{word_apart}
+use Rattle.gdmo_members.specs.Clauses.{semicolon}
+use Rattle.gdmo_members.specs.Templates.{templates}
+use Rattle.gdmo_members.proofs.registration.read_ending.Goals as goal
+
+pub returns-in_err-identifier : goal.returns-in_err-identifier
+returns-in_err-identifier c = exit_reads _ c.from_residual.result c.from_residual.ensures.1 (fails_front (word_apart (codes "REGISTERED") semicolon refl (λ at. refl)) c.in_err-identifier.ensures)
+
+pub returns-in_err-next : goal.returns-in_err-next
+returns-in_err-next c = exit_reads _ c.from_residual-in_err-next.result c.from_residual-in_err-next.ensures.1 (fails_rest c.in_ok-identifier.ensures (word_apart (codes "REGISTERED") semicolon refl (λ at. refl)) (c.in_err-next.ensures templates))
+
+pub returns : goal.returns
+returns c = (spelt_then c.in_ok-identifier.ensures (word_apart (codes "REGISTERED") semicolon refl (λ at. refl)) (c.in_ok-next.ensures templates))

@@ -1,0 +1,224 @@
+//! The attribute template (X.722, section 8.7) and references to it. It may have parameter templates in
+//! line, and they attribute templates.
+
+ghost use Rattle.std.specs.Prelude.{◌≡◌, ℕ, codes};
+ghost use Rattle.text_lex.specs.Form.{Form, AnyOrder, Named};
+ghost use Rattle.text_lex.specs.Outcome.{Reads, closed};
+ghost use Rattle.text_lex.specs.Turns.{TakesClause};
+ghost use Rattle.text_lex.specs.TokenTests.{is_word_of};
+ghost use Rattle.gdmo_members.specs.Clauses.{attributes, reference};
+ghost use Rattle.gdmo_members.specs.Templates.{templates, attribute_syntax, attribute_clauses};
+ghost use Rattle.gdmo_members.specs.MemberTrees.{attribute_tree, attribute_reference_tree, attribute_syntax_tree, attribute_slots, attribute_clauses_tree, is_attribute_clause};
+
+use super::behaviour::{BehaviourReference, read_behaviour_clause};
+use super::matching_rules::read_rules_clause;
+use super::parameter::{ParameterReference, read_parameters_clause};
+use super::registration::read_ending;
+use super::type_clause::read_type_clause;
+use std::alloc::Global;
+use text_lex::label_reference::{LabelReference, read_label_reference};
+use text_lex::object_identifier::ObjectIdentifier;
+use text_lex::qualified_name::QualifiedName;
+use text_lex::token_reading::{read_label, skip_sign, skip_words};
+use text_lex::token_tests::{is_one_of_at, is_template_at, is_word_at};
+use text_lex::{SyntaxRefusal, Token};
+
+/// An attribute template.
+#[cycle(templates)]
+#[derive(Drop)]
+pub struct AttributeTemplate {
+    /// The number of its document, which the reader leaves 0.
+    pub document: u32,
+    /// The attribute's label.
+    pub label: Token,
+    /// What says which values the attribute has.
+    pub syntax: AttributeSyntax,
+    /// The rules by which its values are matched, `MATCHES FOR rule, ..;`.
+    pub rules: Option<Vec<Token>>,
+    /// Its behaviours, `BEHAVIOUR ref, ..;`.
+    pub behaviour: Option<Vec<BehaviourReference>>,
+    /// Its parameters, `PARAMETERS ref, ..;`.
+    pub parameters: Option<Vec<ParameterReference>>,
+    /// The identifier under which it is registered.
+    pub registration: Option<ObjectIdentifier>,
+}
+
+/// What says which values an attribute has.
+#[cycle(templates)]
+#[derive(Drop)]
+pub enum AttributeSyntax {
+    /// `WITH ATTRIBUTE SYNTAX Module.Type;`
+    TypeReference(QualifiedName),
+    /// `DERIVED FROM ref;`
+    Derived(AttributeReference),
+}
+
+/// What names an attribute.
+#[cycle(templates)]
+#[derive(Drop)]
+pub enum AttributeReference {
+    /// Its label.
+    Label(LabelReference),
+    /// The template itself, in line.
+    Template(Box<AttributeTemplate>),
+}
+
+/// The clauses of an attribute template that came so far.
+#[derive(Drop)]
+struct AttributeDraft {
+    syntax: Option<AttributeSyntax>,
+    rules: Option<Vec<Token>>,
+    behaviour: Option<Vec<BehaviourReference>>,
+    parameters: Option<Vec<ParameterReference>>,
+}
+
+/// The clauses of an attribute template.
+#[derive(Drop)]
+struct AttributeClauses {
+    syntax: AttributeSyntax,
+    rules: Option<Vec<Token>>,
+    behaviour: Option<Vec<BehaviourReference>>,
+    parameters: Option<Vec<ParameterReference>>,
+}
+
+/// Reads an attribute template.
+#[cycle(templates)]
+pub fn read_attribute(
+    alloc: Global,
+    tokens: &[Token],
+    at: usize,
+) -> Result<(AttributeTemplate, usize), SyntaxRefusal>
+    ensures { Reads tokens.now templates closed (Named attributes) at attribute_tree result }
+{
+    let (label, next) = read_label(alloc, tokens, at)?;
+    let next = skip_words(tokens, next, &["ATTRIBUTE"])?;
+    let (clauses, next) = read_attribute_clauses(alloc, tokens, next)?;
+    let (registration, next) = read_ending(alloc, tokens, next)?;
+    Ok((
+        AttributeTemplate {
+            document: 0,
+            label,
+            syntax: clauses.syntax,
+            rules: clauses.rules,
+            behaviour: clauses.behaviour,
+            parameters: clauses.parameters,
+            registration,
+        },
+        next,
+    ))
+}
+
+/// Reads what names an attribute: a label, or a template in line where the word ATTRIBUTE is behind it.
+#[cycle(templates)]
+pub fn read_attribute_reference(
+    alloc: Global,
+    tokens: &[Token],
+    at: usize,
+) -> Result<(AttributeReference, usize), SyntaxRefusal>
+    ensures { Reads tokens.now templates (is_word_of (codes "ATTRIBUTE")) (reference attributes) at attribute_reference_tree result }
+{
+    if is_template_at(tokens, at, "ATTRIBUTE") {
+        let (template, next) = read_attribute(alloc, tokens, at)?;
+        return Ok((
+            AttributeReference::Template(Box::new(alloc, template)?),
+            next,
+        ));
+    }
+    let (label, next) = read_label_reference(alloc, tokens, at)?;
+    Ok((AttributeReference::Label(label), next))
+}
+
+/// Reads the clauses of an attribute template, in any order.
+#[cycle(templates)]
+fn read_attribute_clauses(
+    alloc: Global,
+    tokens: &[Token],
+    at: usize,
+) -> Result<(AttributeClauses, usize), SyntaxRefusal>
+    ensures { Reads tokens.now templates is_attribute_clause (AnyOrder attribute_clauses) at attribute_clauses_tree result }
+{
+    let mut draft = AttributeDraft {
+        syntax: None,
+        rules: None,
+        behaviour: None,
+        parameters: None,
+    };
+    let mut next = at;
+    'turns: while let Some(behind) = read_attribute_clause(alloc, tokens, next, &mut draft)? {
+        next = behind;
+    }
+    let AttributeDraft {
+        syntax,
+        rules,
+        behaviour,
+        parameters,
+    } = draft;
+    match syntax {
+        Some(syntax) => Ok((
+            AttributeClauses {
+                syntax,
+                rules,
+                behaviour,
+                parameters,
+            },
+            next,
+        )),
+        None => Err(SyntaxRefusal::Syntax { token: next as u64 }),
+    }
+}
+
+/// Reads the next clause of an attribute template, where one comes that didn't come before.
+#[cycle(templates)]
+fn read_attribute_clause(
+    alloc: Global,
+    tokens: &[Token],
+    at: usize,
+    draft: &mut AttributeDraft,
+) -> Result<Option<usize>, SyntaxRefusal>
+    ensures { TakesClause tokens.now templates is_attribute_clause (attribute_slots draft.old) (attribute_slots draft.new) at result }
+{
+    let has_syntax = draft.syntax.is_none() & is_one_of_at(tokens, at, &["WITH", "DERIVED"]);
+    if has_syntax {
+        let (syntax, next) = read_attribute_syntax(alloc, tokens, at)?;
+        draft.syntax = Some(syntax);
+        return Ok(Some(next));
+    }
+    let has_rules = draft.rules.is_none() & is_word_at(tokens, at, "MATCHES");
+    if has_rules {
+        let (rules, next) = read_rules_clause(alloc, tokens, at)?;
+        draft.rules = Some(rules);
+        return Ok(Some(next));
+    }
+    let has_behaviour = draft.behaviour.is_none() & is_word_at(tokens, at, "BEHAVIOUR");
+    if has_behaviour {
+        let (behaviour, next) = read_behaviour_clause(alloc, tokens, at)?;
+        draft.behaviour = Some(behaviour);
+        return Ok(Some(next));
+    }
+    let has_parameters = draft.parameters.is_none() & is_word_at(tokens, at, "PARAMETERS");
+    if has_parameters {
+        let (parameters, next) = read_parameters_clause(alloc, tokens, at)?;
+        draft.parameters = Some(parameters);
+        return Ok(Some(next));
+    }
+    Ok(None)
+}
+
+/// Reads `WITH ATTRIBUTE SYNTAX Module.Type;` or `DERIVED FROM ref;`.
+#[cycle(templates)]
+fn read_attribute_syntax(
+    alloc: Global,
+    tokens: &[Token],
+    at: usize,
+) -> Result<(AttributeSyntax, usize), SyntaxRefusal>
+    ensures { Reads tokens.now templates closed attribute_syntax at attribute_syntax_tree result }
+{
+    if is_word_at(tokens, at, "WITH") {
+        let (name, next) = read_type_clause(alloc, tokens, at, &["WITH", "ATTRIBUTE", "SYNTAX"])?;
+        return Ok((AttributeSyntax::TypeReference(name), next));
+    }
+    let next = skip_words(tokens, at, &["DERIVED", "FROM"])?;
+    let (base, next) = read_attribute_reference(alloc, tokens, next)?;
+    let next = skip_sign(tokens, next, ";")?;
+    Ok((AttributeSyntax::Derived(base), next))
+}

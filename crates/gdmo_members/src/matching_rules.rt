@@ -1,0 +1,57 @@
+//! The clause that says by which rules an attribute's values are matched (X.722, section 8.7).
+
+ghost use Rattle.std.specs.Prelude.{◌≡◌, ℕ, codes};
+ghost use Rattle.text_lex.specs.Form.{Form, Listed, Empty, Leaf};
+ghost use Rattle.text_lex.specs.Outcome.{Reads, closed};
+ghost use Rattle.gdmo_members.specs.Clauses.{comma, matching_rule};
+ghost use Rattle.gdmo_members.specs.Templates.{templates, rules_clause};
+ghost use Rattle.gdmo_members.specs.Trees.{clause_tree, vector_tree};
+
+use std::alloc::Global;
+use text_lex::token_reading::{place_behind, read_one_of, skip_sign, skip_words};
+use text_lex::{SyntaxRefusal, Token};
+
+/// Reads matching rules with commas between them.
+fn read_rule_list(
+    alloc: Global,
+    tokens: &[Token],
+    at: usize,
+) -> Result<(Vec<Token>, usize), SyntaxRefusal>
+    ensures { Reads tokens.now templates comma (Listed comma Empty matching_rule) at (vector_tree Leaf) result }
+{
+    let mut list = Vec::new(alloc);
+    let mut next = at;
+    'turns: loop {
+        let (rule, behind) = read_one_of(
+            alloc,
+            tokens,
+            next,
+            &[
+                "EQUALITY",
+                "ORDERING",
+                "SUBSTRINGS",
+                "SET-COMPARISON",
+                "SET-INTERSECTION",
+            ],
+        )?;
+        list.push(rule)?;
+        let Some(place) = place_behind(tokens, behind, ",") else {
+            return Ok((list, behind));
+        };
+        next = place;
+    }
+}
+
+/// Reads the clause `MATCHES FOR rule, ..;`.
+pub fn read_rules_clause(
+    alloc: Global,
+    tokens: &[Token],
+    at: usize,
+) -> Result<(Vec<Token>, usize), SyntaxRefusal>
+    ensures { Reads tokens.now templates closed rules_clause at (clause_tree (vector_tree Leaf)) result }
+{
+    let next = skip_words(tokens, at, &["MATCHES", "FOR"])?;
+    let (list, next) = read_rule_list(alloc, tokens, next)?;
+    let next = skip_sign(tokens, next, ";")?;
+    Ok((list, next))
+}
