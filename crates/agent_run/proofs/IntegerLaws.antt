@@ -256,11 +256,11 @@ value_read xs first r h l e f g =
     let sign_first : octet_turned (nat_le 128 first) (get_or xs 0 0) < 128 = sign_turned first (get_or xs 0 0) head (h 0 0 some) in
     let back = contents_of_value xs h l e in
     let below_zero : 128 ≤ first → signed_number xs ≡ negsuc r = λ b.
-        let t = le-leb 128 first b in
-        integer_of_negative xs some (omega arith) ∙ ap negsuc (ap (λ n. number (map (octet_turned n) xs)) (sym t) ∙ sym g) in
+    let t = le-leb 128 first b in
+    integer_of_negative xs some (omega arith) ∙ ap negsuc (ap (λ n. number (map (octet_turned n) xs)) (sym t) ∙ sym g) in
     let not_below : first < 128 → signed_number xs ≡ pos r = λ b.
-        let t = lt-leb 128 first b in
-        integer_of_positive xs some (omega arith) ∙ ap pos (ap number (sym (turned_not xs)) ∙ (ap (λ n. number (map (octet_turned n) xs)) (sym t) ∙ sym g)) in
+    let t = lt-leb 128 first b in
+    integer_of_positive xs some (omega arith) ∙ ap pos (ap number (sym (turned_not xs)) ∙ (ap (λ n. number (map (octet_turned n) xs)) (sym t) ∙ sym g)) in
     record {
       small = rw g (number_below_sign (nat_le 128 first) xs h l sign_first some);
       negative = λ b. sym back ∙ ap integer_contents (below_zero b);

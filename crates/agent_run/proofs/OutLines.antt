@@ -13,7 +13,7 @@ nothing_behind [] = refl
 nothing_behind (x ∷ xs) = ap (λ rest. x ∷ rest) (nothing_behind xs)
 
 pub out_lines-push : (number : ℕ) (front : List Association) (a : Association) →
-  out_lines number (front ++ a ∷ []) ≡ out_lines number front ++ text (number + length front) a
+    out_lines number (front ++ a ∷ []) ≡ out_lines number front ++ text (number + length front) a
 out_lines-push number [] a =
     let here : number ≡ number + 0 = omega arith in
     nothing_behind (text number a) ∙ ap (λ n. text n a) here
@@ -24,7 +24,7 @@ out_lines-push number (x ∷ front) a =
     ∙ ap (λ n. (text number x ++ out_lines (number + 1) front) ++ text n a) there)
 
 pub out_lines-more : (number : ℕ) (all : List Association) (i : ℕ) (a : Association) → i < length all → a ≡ get_or all i a →
-  out_lines number (take (i + 1) all) ≡ out_lines number (take i all) ++ text (number + i) a
+    out_lines number (take (i + 1) all) ≡ out_lines number (take i all) ++ text (number + i) a
 out_lines-more number all i a within same =
     let counted : length (take i all) ≡ i = omega (arith, length-take i all) in
     ap (out_lines number) (take_more all i a within)

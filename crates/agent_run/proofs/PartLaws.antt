@@ -29,7 +29,7 @@ not_alone tree [] some = absurd (omega arith)
 not_alone tree (octet ∷ rest) some = refl
 
 pub leftover : (bytes : List ℕ) (tree : TreeValue) (size : ℕ) → tree_at most_depth bytes ≡ Some (tree, drop size bytes) → size ≤ length bytes → (size ≡ length bytes → ⊥) →
-  None ≡ tree_in bytes
+    None ≡ tree_in bytes
 leftover bytes tree size read within short =
     let some : 0 < length (drop size bytes) = omega (arith, length-drop size bytes, short) in
     not_alone tree (drop size bytes) some ∙ sym (ap (option_and_then alone) read)

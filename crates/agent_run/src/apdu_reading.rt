@@ -62,21 +62,33 @@ fn contents_of(tree: &Tree, tag: Tag) -> Option<&[u8]>
 fn alone(trees: &[Tree]) -> Option<&Tree>
     ensures { option_copied result ≡ one (listed trees.now) }
 {
-    if trees.len() == 1 { Some(&trees[0]) } else { None }
+    if trees.len() == 1 {
+        Some(&trees[0])
+    } else {
+        None
+    }
 }
 
 /// The values of a list of two.
 fn pair(trees: &[Tree]) -> Option<(&Tree, &Tree)>
     ensures { option_map (λ parts. (parts.0.now, parts.1.now)) result ≡ two (listed trees.now) }
 {
-    if trees.len() == 2 { Some((&trees[0], &trees[1])) } else { None }
+    if trees.len() == 2 {
+        Some((&trees[0], &trees[1]))
+    } else {
+        None
+    }
 }
 
 /// The values of a list of three.
 fn triple(trees: &[Tree]) -> Option<(&Tree, &Tree, &Tree)>
     ensures { option_map (λ parts. (parts.0.now, parts.1.now, parts.2.now)) result ≡ three (listed trees.now) }
 {
-    if trees.len() == 3 { Some((&trees[0], &trees[1], &trees[2])) } else { None }
+    if trees.len() == 3 {
+        Some((&trees[0], &trees[1], &trees[2]))
+    } else {
+        None
+    }
 }
 
 /// The one value inside a constructed value of this tag.

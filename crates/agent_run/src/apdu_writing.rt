@@ -54,7 +54,11 @@ fn framed(alloc: Global, tag: Tag, contents: &[u8]) -> Result<Vec<u8>, AllocErro
 }
 
 /// The frame that answers the BIND of an association with this number.
-pub(crate) fn bind_answer_frame(alloc: Global, code: u8, association: u64) -> Result<Vec<u8>, AllocError>
+pub(crate) fn bind_answer_frame(
+    alloc: Global,
+    code: u8,
+    association: u64,
+) -> Result<Vec<u8>, AllocError>
     requires { association < 2 ^ 63 }
     ensures { IfOk result (λ octets. octets.items ≡ frame (bind_answer code association)) }
 {
@@ -67,7 +71,12 @@ pub(crate) fn bind_answer_frame(alloc: Global, code: u8, association: u64) -> Re
 }
 
 /// The frame of a Result: the invoke id, the operation and the result's octets.
-fn result_frame(alloc: Global, invoke: i64, operation: i64, value: &[u8]) -> Result<Vec<u8>, AllocError>
+fn result_frame(
+    alloc: Global,
+    invoke: i64,
+    operation: i64,
+    value: &[u8],
+) -> Result<Vec<u8>, AllocError>
     ensures { IfOk result (λ octets. octets.items ≡ frame (result_apdu invoke operation value.now)) }
 {
     let mut inside = Vec::new(alloc);
@@ -90,7 +99,12 @@ fn sent_parameter(error: &CmisError) -> &[u8]
 }
 
 /// What stands in an Error: the invoke id, the error's number and the parameter that is sent.
-fn error_contents(alloc: Global, invoke: i64, code: i64, parameter: &[u8]) -> Result<Vec<u8>, AllocError>
+fn error_contents(
+    alloc: Global,
+    invoke: i64,
+    code: i64,
+    parameter: &[u8],
+) -> Result<Vec<u8>, AllocError>
     ensures { IfOk result (λ octets. octets.items ≡ integer invoke ++ (integer code ++ parameter.now)) }
 {
     let mut contents = Vec::new(alloc);
@@ -101,7 +115,12 @@ fn error_contents(alloc: Global, invoke: i64, code: i64, parameter: &[u8]) -> Re
 }
 
 /// The frame of an Error with this number and parameter.
-fn coded_error_frame(alloc: Global, invoke: i64, code: i64, parameter: &[u8]) -> Result<Vec<u8>, AllocError>
+fn coded_error_frame(
+    alloc: Global,
+    invoke: i64,
+    code: i64,
+    parameter: &[u8],
+) -> Result<Vec<u8>, AllocError>
     ensures { IfOk result (λ octets. octets.items ≡ frame (error_apdu invoke code parameter.now)) }
 {
     let contents = error_contents(alloc, invoke, code, parameter)?;
@@ -116,7 +135,12 @@ fn error_frame(alloc: Global, invoke: i64, error: &CmisError) -> Result<Vec<u8>,
 }
 
 /// The frame of a reply to an invoke of an operation.
-pub(crate) fn reply_frame(alloc: Global, invoke: i64, operation: i64, reply: &Reply) -> Result<Vec<u8>, AllocError>
+pub(crate) fn reply_frame(
+    alloc: Global,
+    invoke: i64,
+    operation: i64,
+    reply: &Reply,
+) -> Result<Vec<u8>, AllocError>
     ensures { IfOk result (λ octets. octets.items ≡ reply_frame invoke operation reply.now) }
 {
     match reply {
@@ -137,7 +161,12 @@ pub(crate) fn write_bind(alloc: Global, title: &Oid) -> Result<Vec<u8>, AllocErr
 }
 
 /// The written invoke of m-Get for an object of this class with this name.
-pub(crate) fn write_get(alloc: Global, invoke: i64, class: &Oid, name: &[Rdn]) -> Result<Vec<u8>, AllocError>
+pub(crate) fn write_get(
+    alloc: Global,
+    invoke: i64,
+    class: &Oid,
+    name: &[Rdn],
+) -> Result<Vec<u8>, AllocError>
     ensures { IfOk result (λ octets. octets.items ≡ get_apdu invoke class.now name.now) }
 {
     let mut argument = Vec::new(alloc);

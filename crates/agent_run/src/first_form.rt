@@ -2,7 +2,9 @@
 //! X.722, sections 8.3 and 8.9; X.680.
 
 use crate::not_read::NotRead;
-use crate::token_steps::{comes, pass, pass_all, read_label, read_number, read_registration, read_word};
+use crate::token_steps::{
+    comes, pass, pass_all, read_label, read_number, read_registration, read_word,
+};
 use std::alloc::Global;
 use term_model::{AttrRec, Rules};
 use term_values::{Bytes, Oid, Syntax, SyntaxForm};
@@ -67,7 +69,11 @@ fn read_module(tokens: &[Token]) -> Result<(ModuleWords<'_>, usize), NotRead> {
 fn read_rules(tokens: &[Token], at: usize) -> Result<(Rules, usize), NotRead> {
     let matches = comes(tokens, at, b"MATCHES");
     let behind = if matches {
-        pass_all(tokens, at, &[b"MATCHES", b"FOR", b"EQUALITY", b",", b"ORDERING", b";"])?
+        pass_all(
+            tokens,
+            at,
+            &[b"MATCHES", b"FOR", b"EQUALITY", b",", b"ORDERING", b";"],
+        )?
     } else {
         at
     };
@@ -82,9 +88,27 @@ fn read_rules(tokens: &[Token], at: usize) -> Result<(Rules, usize), NotRead> {
 }
 
 /// `label ATTRIBUTE WITH ATTRIBUTE SYNTAX M.T; [MATCHES FOR EQUALITY, ORDERING;] REGISTERED AS {n n ..};`
-fn read_attribute(alloc: Global, tokens: &[Token], at: usize, words: &ModuleWords<'_>) -> Result<(AttrRec, usize), NotRead> {
+fn read_attribute(
+    alloc: Global,
+    tokens: &[Token],
+    at: usize,
+    words: &ModuleWords<'_>,
+) -> Result<(AttrRec, usize), NotRead> {
     let (label, at) = read_label(alloc, tokens, at)?;
-    let at = pass_all(tokens, at, &[b"ATTRIBUTE", b"WITH", b"ATTRIBUTE", b"SYNTAX", words.module, b".", words.type_name, b";"])?;
+    let at = pass_all(
+        tokens,
+        at,
+        &[
+            b"ATTRIBUTE",
+            b"WITH",
+            b"ATTRIBUTE",
+            b"SYNTAX",
+            words.module,
+            b".",
+            words.type_name,
+            b";",
+        ],
+    )?;
     let (rules, at) = read_rules(tokens, at)?;
     let (id, at) = read_registration(alloc, tokens, at)?;
     let at = pass(tokens, at, b";")?;
@@ -100,7 +124,12 @@ fn read_attribute(alloc: Global, tokens: &[Token], at: usize, words: &ModuleWord
 }
 
 /// One attribute or more.
-fn read_attributes(alloc: Global, tokens: &[Token], at: usize, words: &ModuleWords<'_>) -> Result<(Vec<AttrRec>, usize), NotRead> {
+fn read_attributes(
+    alloc: Global,
+    tokens: &[Token],
+    at: usize,
+    words: &ModuleWords<'_>,
+) -> Result<(Vec<AttrRec>, usize), NotRead> {
     let mut records = Vec::new(alloc);
     let mut at = at;
     for _ in 0..tokens.len() {
@@ -119,14 +148,30 @@ fn read_use(alloc: Global, tokens: &[Token], at: usize) -> Result<(AttributeUse,
     let (label, at) = read_label(alloc, tokens, at)?;
     let (word, behind) = read_word(tokens, at)?;
     match word {
-        b"GET" => Ok((AttributeUse { label, replace: false }, behind)),
-        b"GET-REPLACE" => Ok((AttributeUse { label, replace: true }, behind)),
+        b"GET" => Ok((
+            AttributeUse {
+                label,
+                replace: false,
+            },
+            behind,
+        )),
+        b"GET-REPLACE" => Ok((
+            AttributeUse {
+                label,
+                replace: true,
+            },
+            behind,
+        )),
         _ => Err(NotRead::Outside),
     }
 }
 
 /// One use or more, with commas.
-fn read_uses(alloc: Global, tokens: &[Token], at: usize) -> Result<(Vec<AttributeUse>, usize), NotRead> {
+fn read_uses(
+    alloc: Global,
+    tokens: &[Token],
+    at: usize,
+) -> Result<(Vec<AttributeUse>, usize), NotRead> {
     let mut uses = Vec::new(alloc);
     let mut at = at;
     for _ in 0..tokens.len() {
@@ -143,7 +188,11 @@ fn read_uses(alloc: Global, tokens: &[Token], at: usize) -> Result<(Vec<Attribut
 /// `label MANAGED OBJECT CLASS CHARACTERIZED BY label PACKAGE ATTRIBUTES .. ;;; REGISTERED AS {n n ..};`
 fn read_class(alloc: Global, tokens: &[Token], at: usize) -> Result<(ClassPart, usize), NotRead> {
     let (label, at) = read_label(alloc, tokens, at)?;
-    let at = pass_all(tokens, at, &[b"MANAGED", b"OBJECT", b"CLASS", b"CHARACTERIZED", b"BY"])?;
+    let at = pass_all(
+        tokens,
+        at,
+        &[b"MANAGED", b"OBJECT", b"CLASS", b"CHARACTERIZED", b"BY"],
+    )?;
     let (package, at) = read_label(alloc, tokens, at)?;
     let at = pass_all(tokens, at, &[b"PACKAGE", b"ATTRIBUTES"])?;
     let (uses, at) = read_uses(alloc, tokens, at)?;
@@ -169,7 +218,11 @@ fn read_given(alloc: Global, tokens: &[Token], at: usize) -> Result<(GivenValue,
 }
 
 /// One given value or more, with commas.
-fn read_givens(alloc: Global, tokens: &[Token], at: usize) -> Result<(Vec<GivenValue>, usize), NotRead> {
+fn read_givens(
+    alloc: Global,
+    tokens: &[Token],
+    at: usize,
+) -> Result<(Vec<GivenValue>, usize), NotRead> {
     let mut givens = Vec::new(alloc);
     let mut at = at;
     for _ in 0..tokens.len() {
@@ -184,7 +237,11 @@ fn read_givens(alloc: Global, tokens: &[Token], at: usize) -> Result<(Vec<GivenV
 }
 
 /// `INSTANCES ROOT label AT {label = n} WITH label = n, ..; END`
-fn read_instances(alloc: Global, tokens: &[Token], at: usize) -> Result<(RootPart, usize), NotRead> {
+fn read_instances(
+    alloc: Global,
+    tokens: &[Token],
+    at: usize,
+) -> Result<(RootPart, usize), NotRead> {
     let at = pass_all(tokens, at, &[b"INSTANCES", b"ROOT"])?;
     let (class, at) = read_label(alloc, tokens, at)?;
     let at = pass_all(tokens, at, &[b"AT", b"{"])?;

@@ -6,8 +6,10 @@ use crate::object_reading::{attribute_set, write_typed};
 use crate::value_writing::write_value;
 use std::alloc::Global;
 use std::collections::{BTreeMap, BTreeSet};
-use term_model::{AttrRec, AttrRecs, Attribute, Attrs, ClassRec, ClassRecs, InstRec, InstRecs};
-use term_model::{Name, Properties, Property, Rdn, Set};
+use term_model::{
+    AttrRec, AttrRecs, Attribute, Attrs, ClassRec, ClassRecs, InstRec, InstRecs, Name, Properties,
+    Property, Rdn, Set,
+};
 use term_values::{Bytes, Oid, Tag, Value};
 
 /// The most octets of an object, as the encoding of its attributes as SET OF Attribute.
@@ -17,7 +19,11 @@ const MOST_OBJECT: usize = 16384;
 type Labels = BTreeMap<Bytes, usize>;
 
 /// The place of each attribute by its label. `Outside`: two labels are one.
-fn attribute_labels(alloc: Global, attributes: &[AttrRec], class: &ClassPart) -> Result<Labels, NotRead> {
+fn attribute_labels(
+    alloc: Global,
+    attributes: &[AttrRec],
+    class: &ClassPart,
+) -> Result<Labels, NotRead> {
     let mut labels: Labels = BTreeMap::new(alloc);
     for (place, record) in attributes.iter().enumerate() {
         if labels.insert(record.label.copy(alloc)?, place)?.is_some() {
@@ -25,11 +31,19 @@ fn attribute_labels(alloc: Global, attributes: &[AttrRec], class: &ClassPart) ->
         }
     }
     let taken = labels.contains_key(&class.label) || labels.contains_key(&class.package);
-    if taken || class.label == class.package { Err(NotRead::Outside) } else { Ok(labels) }
+    if taken || class.label == class.package {
+        Err(NotRead::Outside)
+    } else {
+        Ok(labels)
+    }
 }
 
 /// `Outside`: two identifiers are one.
-fn check_identifiers(alloc: Global, attributes: &[AttrRec], class: &ClassPart) -> Result<(), NotRead> {
+fn check_identifiers(
+    alloc: Global,
+    attributes: &[AttrRec],
+    class: &ClassPart,
+) -> Result<(), NotRead> {
     let mut seen: BTreeSet<Oid> = BTreeSet::new(alloc);
     seen.insert(class.id.copy(alloc)?)?;
     for record in attributes {
@@ -41,13 +55,22 @@ fn check_identifiers(alloc: Global, attributes: &[AttrRec], class: &ClassPart) -
 }
 
 /// The attribute with this label.
-fn labelled<'a>(attributes: &'a [AttrRec], labels: &Labels, label: &Bytes) -> Result<&'a AttrRec, NotRead> {
+fn labelled<'a>(
+    attributes: &'a [AttrRec],
+    labels: &Labels,
+    label: &Bytes,
+) -> Result<&'a AttrRec, NotRead> {
     let place = labels.get(label).ok_or(NotRead::Outside)?;
     attributes.get(*place).ok_or(NotRead::Outside)
 }
 
 /// The properties of the class, in the order of its uses, each attribute once.
-fn properties(alloc: Global, attributes: &[AttrRec], labels: &Labels, uses: &[AttributeUse]) -> Result<Properties, NotRead> {
+fn properties(
+    alloc: Global,
+    attributes: &[AttrRec],
+    labels: &Labels,
+    uses: &[AttributeUse],
+) -> Result<Properties, NotRead> {
     let mut items = Vec::new(alloc);
     let mut seen: BTreeSet<Oid> = BTreeSet::new(alloc);
     for one in uses {
@@ -80,13 +103,22 @@ fn add_value(
 }
 
 /// The values of the root by rising identifier: exactly one for each attribute of the class.
-fn root_values(alloc: Global, attributes: &[AttrRec], labels: &Labels, root: &RootPart, properties: &Properties) -> Result<Attrs, NotRead> {
+fn root_values(
+    alloc: Global,
+    attributes: &[AttrRec],
+    labels: &Labels,
+    root: &RootPart,
+    properties: &Properties,
+) -> Result<Attrs, NotRead> {
     let mut values: BTreeMap<Oid, i64> = BTreeMap::new(alloc);
     add_value(alloc, attributes, labels, &root.named_by, &mut values)?;
     for given in &root.others {
         add_value(alloc, attributes, labels, given, &mut values)?;
     }
-    let listed = properties.items.iter().all(|property| values.contains_key(&property.attribute));
+    let listed = properties
+        .items
+        .iter()
+        .all(|property| values.contains_key(&property.attribute));
     if !listed || values.len() != properties.items.len() {
         return Err(NotRead::Outside);
     }
@@ -105,11 +137,20 @@ fn check_size(alloc: Global, attrs: &Attrs) -> Result<(), NotRead> {
     let contents = attribute_set(alloc, attrs)?;
     let mut whole = Vec::new(alloc);
     write_value(true, Tag::SET, &contents, &mut whole)?;
-    if whole.len() > MOST_OBJECT { Err(NotRead::Outside) } else { Ok(()) }
+    if whole.len() > MOST_OBJECT {
+        Err(NotRead::Outside)
+    } else {
+        Ok(())
+    }
 }
 
 /// The system's name: the root's naming attribute and its value.
-fn system_name(alloc: Global, attributes: &[AttrRec], labels: &Labels, given: &GivenValue) -> Result<Name, NotRead> {
+fn system_name(
+    alloc: Global,
+    attributes: &[AttrRec],
+    labels: &Labels,
+    given: &GivenValue,
+) -> Result<Name, NotRead> {
     let record = labelled(attributes, labels, &given.label)?;
     let mut value = Vec::new(alloc);
     write_typed(alloc, &Value::integer(given.number), &mut value)?;

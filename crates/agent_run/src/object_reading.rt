@@ -30,7 +30,11 @@ const ATTRIBUTE_LIST: Tag = Tag {
 const EPOCH_TEXT: &[u8] = b"19700101000000Z";
 
 /// Appends the written encoding of a value.
-pub(crate) fn write_typed(alloc: Global, value: &Value, into: &mut Vec<u8>) -> Result<(), AllocError>
+pub(crate) fn write_typed(
+    alloc: Global,
+    value: &Value,
+    into: &mut Vec<u8>,
+) -> Result<(), AllocError>
     ensures { OnOk result (into.new.items ≡ into.old.items ++ der value.now) }
 {
     match value.form {
@@ -65,7 +69,8 @@ fn lets_read(properties: &[Property], attribute: &Oid) -> bool
 fn is_readable(schema: &Set, class: &Oid, attribute: &Oid) -> bool
     ensures { result ≡ is_readable schema.now class.now attribute.now }
 {
-    schema.classes.items.iter().any(|record| record.id == *class && lets_read(&record.properties.items, attribute))
+    schema.classes.items.iter().any(|record| record.id == *class
+        && lets_read(&record.properties.items, attribute))
 }
 
 /// Appends encodings as the contents of a SET OF, in rising order: X.690, section 11.6.
@@ -112,7 +117,12 @@ fn write_rdn(alloc: Global, rdn: &Rdn, into: &mut Vec<u8>) -> Result<(), AllocEr
     ensures { OnOk result (into.new.items ≡ into.old.items ++ rdn_octets rdn.now) }
 {
     let mut assertion = Vec::new(alloc);
-    write_oid(alloc, Tag::OBJECT_IDENTIFIER, &rdn.attribute, &mut assertion)?;
+    write_oid(
+        alloc,
+        Tag::OBJECT_IDENTIFIER,
+        &rdn.attribute,
+        &mut assertion,
+    )?;
     assertion.extend_from_slice(rdn.value.as_slice())?;
     let mut inside = Vec::new(alloc);
     write_value(true, Tag::SEQUENCE, &assertion, &mut inside)?;
@@ -120,7 +130,11 @@ fn write_rdn(alloc: Global, rdn: &Rdn, into: &mut Vec<u8>) -> Result<(), AllocEr
 }
 
 /// Appends an ObjectInstance in localDistinguishedName.
-pub(crate) fn write_instance(alloc: Global, name: &[Rdn], into: &mut Vec<u8>) -> Result<(), AllocError>
+pub(crate) fn write_instance(
+    alloc: Global,
+    name: &[Rdn],
+    into: &mut Vec<u8>,
+) -> Result<(), AllocError>
     ensures { OnOk result (into.new.items ≡ into.old.items ++ instance_octets name.now) }
 {
     let mut rdns = Vec::new(alloc);
@@ -138,7 +152,12 @@ fn write_epoch(into: &mut Vec<u8>) -> Result<(), AllocError>
 }
 
 /// Appends the attributes that a Get without a list gives.
-fn write_attributes(alloc: Global, schema: &Set, object: &Object, into: &mut Vec<u8>) -> Result<(), AllocError>
+fn write_attributes(
+    alloc: Global,
+    schema: &Set,
+    object: &Object,
+    into: &mut Vec<u8>,
+) -> Result<(), AllocError>
     ensures { OnOk result (into.new.items ≡ into.old.items ++ attributes_octets (readable schema.now object.now)) }
 {
     let attributes = readable_set(alloc, schema, object)?;
@@ -146,7 +165,12 @@ fn write_attributes(alloc: Global, schema: &Set, object: &Object, into: &mut Vec
 }
 
 /// What stands in the GetResult of an object, granted at the moment 0.
-fn result_contents(alloc: Global, schema: &Set, name: &[Rdn], object: &Object) -> Result<Vec<u8>, AllocError>
+fn result_contents(
+    alloc: Global,
+    schema: &Set,
+    name: &[Rdn],
+    object: &Object,
+) -> Result<Vec<u8>, AllocError>
     ensures { IfOk result (λ octets. octets.items
         ≡ class_octets object.now.class ++ (instance_octets name.now ++ (time_octets 0 ++ attributes_octets (readable schema.now object.now)))) }
 {
@@ -159,7 +183,12 @@ fn result_contents(alloc: Global, schema: &Set, name: &[Rdn], object: &Object) -
 }
 
 /// The GetResult of an object, granted at the moment 0.
-pub(crate) fn get_one(alloc: Global, schema: &Set, name: &[Rdn], object: &Object) -> Result<Bytes, AllocError>
+pub(crate) fn get_one(
+    alloc: Global,
+    schema: &Set,
+    name: &[Rdn],
+    object: &Object,
+) -> Result<Bytes, AllocError>
     ensures { IfOk result (λ octets. octets ≡ get_one schema.now name.now object.now 0) }
 {
     let contents = result_contents(alloc, schema, name, object)?;

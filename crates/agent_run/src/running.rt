@@ -29,7 +29,12 @@ const MOST_SCRIPT: u64 = 16_777_216;
 const MEMORY_LINE: &[u8] = b"memory\n";
 
 /// The bytes of a file.
-fn read_file<'a, F: Files>(alloc: Global, files: &mut F, name: &'a str, limit: u64) -> Result<Vec<u8>, Refusal<'a>>
+fn read_file<'a, F: Files>(
+    alloc: Global,
+    files: &mut F,
+    name: &'a str,
+    limit: u64,
+) -> Result<Vec<u8>, Refusal<'a>>
     ensures cause { IfErr result (HasCause (F.faults files.old) (F.faults files.new)) }
     ensures counted { F.faults files.old ≤ F.faults files.new }
 {
@@ -69,7 +74,10 @@ fn read_document<'a>(alloc: Global, document: &[u8]) -> Result<Set, Refusal<'a>>
 {
     let tokens = match lex(alloc, document) {
         Ok(tokens) => tokens,
-        Err(LexRefusal::Fault { at, kind }) => return Err(Refusal::BadDocument(line_of(document, at as usize), kind)),
+        Err(LexRefusal::Fault { at, kind }) => return Err(Refusal::BadDocument(
+            line_of(document, at as usize),
+            kind,
+        )),
         Err(LexRefusal::Memory) => return Err(Refusal::OutOfMemory),
     };
     match read_records(alloc, &tokens) {
@@ -115,7 +123,11 @@ fn run<'a>(alloc: Global, script: &[u8], document: &[u8]) -> Result<Vec<u8>, Ref
 }
 
 /// What a command prints where it is done.
-fn prepare<'a, F: Files>(alloc: Global, words: &'a [String], files: &mut F) -> Result<Vec<u8>, Refusal<'a>>
+fn prepare<'a, F: Files>(
+    alloc: Global,
+    words: &'a [String],
+    files: &mut F,
+) -> Result<Vec<u8>, Refusal<'a>>
     ensures text { IfOk result (λ text. IsRun text.items) }
     ensures cause { IfErr result (HasCause (F.faults files.old) (F.faults files.new)) }
 {
@@ -157,7 +169,12 @@ fn refuse<O: Sink>(alloc: Global, refusal: &Refusal<'_>, out: &mut O) -> u8
 /// The words are `run SCRIPT DOC`: the files are read in this order, the script is played on the document's objects, and the
 /// journal, a line of two dashes, a line `out A HEX` for each association and a line `objects N` are written to `out`. With
 /// another status than 0 and 6 one line is written that says why.
-pub fn agent<R: AllocGlobal, F: Files, O: Sink>(rt: &R, words: &[String], files: &mut F, out: &mut O) -> u8
+pub fn agent<R: AllocGlobal, F: Files, O: Sink>(
+    rt: &R,
+    words: &[String],
+    files: &mut F,
+    out: &mut O,
+) -> u8
     // What was written is what a script comes to on a schema: its journal, and what the agent placed.
     ensures printed { result ≡ DONE → Prints (O.contents out.old) (O.contents out.new) }
 

@@ -64,7 +64,11 @@ fn read_open(alloc: Global, line: &[u8]) -> Result<Bytes, NotRead>
         None => Err(NotRead::Outside),
         Some(title) => {
             let written = write_bind(alloc, &title)?;
-            if written.as_slice() == bind.as_slice() { Ok(bind) } else { Err(NotRead::Outside) }
+            if written.as_slice() == bind.as_slice() {
+                Ok(bind)
+            } else {
+                Err(NotRead::Outside)
+            }
         }
     }
 }
@@ -77,7 +81,11 @@ fn read_send(alloc: Global, line: &[u8], class: &Oid) -> Result<Bytes, NotRead> 
     let IdRef::Global(id) = &head.class;
     let Named::Object(name) = &head.base.named;
     let written = write_get(alloc, i64::from(asked.id), id, &name.parts)?;
-    if *id == *class && written.as_slice() == apdu.as_slice() { Ok(apdu) } else { Err(NotRead::Outside) }
+    if *id == *class && written.as_slice() == apdu.as_slice() {
+        Ok(apdu)
+    } else {
+        Err(NotRead::Outside)
+    }
 }
 
 /// The script that the bytes spell in the first form, for a document whose class has this identifier. `Outside`: they are
@@ -102,5 +110,9 @@ pub(crate) fn read_script(alloc: Global, text: &[u8], class: &Oid) -> Result<Scr
             sends.push(read_send(alloc, line, class)?)?;
         }
     }
-    if ended { Ok(Script { bind, sends }) } else { Err(NotRead::Outside) }
+    if ended {
+        Ok(Script { bind, sends })
+    } else {
+        Err(NotRead::Outside)
+    }
 }

@@ -66,11 +66,14 @@ fn changed(rt: &HostRuntime, text: &str, old: &str, new: &str) -> Result<String,
 }
 
 #[test]
-fn a_get_answers_the_attributes_of_the_root_or_that_there_is_no_such_object(rt: HostRuntime) -> Result<(), Fail> {
+fn a_get_answers_the_attributes_of_the_root_or_that_there_is_no_such_object(
+    rt: HostRuntime,
+) -> Result<(), Fail> {
     let (status, written) = run(&rt, GET_ROOT, ELEMENT)?;
     assert_eq!(rt; status, DONE);
     assert_eq!(rt; written.as_slice(), ROOT_RUN.as_bytes());
-    let absent = "open 3006060488370B01\nsend 1 A11D0201010201033015800488370301A40D310B3009060488370701020105\n";
+    let absent =
+        "open 3006060488370B01\nsend 1 A11D0201010201033015800488370301A40D310B3009060488370701020105\n";
     let (status, written) = run(&rt, absent, ELEMENT)?;
     assert_eq!(rt; status, DONE);
     let text = "opened 1 3006060488370B01
@@ -156,13 +159,19 @@ fn a_document_one_token_away_from_the_form_is_not_built(rt: HostRuntime) -> Resu
         let document = changed(&rt, ELEMENT, old, new)?;
         let (status, written) = run(&rt, GET_ROOT, document.as_str())?;
         assert_eq!(rt; status, NOT_BUILT, "{new}");
-        assert_eq!(rt; written.as_slice(), b"not built document\n".as_slice(), "{new}");
+        assert_eq!(rt;
+            written.as_slice(),
+            b"not built document\n".as_slice(),
+            "{new}"
+        );
     }
     Ok(())
 }
 
 #[test]
-fn a_document_in_the_form_is_read_whatever_stands_between_its_tokens(rt: HostRuntime) -> Result<(), Fail> {
+fn a_document_in_the_form_is_read_whatever_stands_between_its_tokens(
+    rt: HostRuntime,
+) -> Result<(), Fail> {
     let changes = [
         (" MATCHES FOR EQUALITY, ORDERING; REGISTERED", "REGISTERED"),
         ("Net DEFINITIONS", "-- a comment\nNet\tDEFINITIONS"),
@@ -203,47 +212,153 @@ fn a_script_one_byte_or_field_away_from_the_form_is_not_built(rt: HostRuntime) -
         ("A400\n", "A400\n\n"),
         ("A400\n", "A400\nend 1\n"),
         ("A400\n", "A40\n"),
-        ("send 1 A1100201010201033008800488370301A400", "send 1 A1100201010201043008800488370301A400"),
-        ("send 1 A1100201010201033008800488370301A400", "send 1 A111020101020200033008800488370301A400"),
-        ("send 1 A1100201010201033008800488370301A400", "send 1 A11802010102090303030303030303033008800488370301A400"),
-        ("send 1 A1100201010201033008800488370301A400", "send 1 A111020200010201033008800488370301A400"),
-        ("send 1 A1100201010201033008800488370301A400", "send 1 A114020500800000000201033008800488370301A400"),
-        ("send 1 A1100201010201033008800488370301A400", "send 1 A10F02000201033008800488370301A400"),
-        ("send 1 A1100201010201033008800488370301A400", "send 1 A1130201018001050201033008800488370301A400"),
-        ("send 1 A1100201010201033008800488370301A400", "send 1 A2100201010201033008800488370301A400"),
-        ("send 1 A1100201010201033008800488370301A400", "send 1 61100201010201033008800488370301A400"),
-        ("send 1 A1100201010201033008800488370301A400", "send 1 A1100201010201033108800488370301A400"),
-        ("send 1 A1100201010201033008800488370301A400", "send 1 A106020101020103"),
-        ("send 1 A1100201010201033008800488370301A400", "send 1 A10D0201010201033005810101A400"),
-        ("send 1 A1100201010201033008800488370301A400", "send 1 A1100201010201033008800488370302A400"),
-        ("send 1 A1100201010201033008800488370301A400", "send 1 A111020101020103300980058837800301A400"),
-        ("send 1 A1100201010201033008800488370301A400", "send 1 A1100201010201033008800488370381A400"),
-        ("send 1 A1100201010201033008800488370301A400", "send 1 A10A0201010201033002A400"),
-        ("send 1 A1100201010201033008800488370301A400", "send 1 A1100201010201033008800488370301A200"),
-        ("send 1 A1100201010201033008800488370301A400", "send 1 A11002010102010330088004883703018300"),
-        ("send 1 A1100201010201033008800488370301A400", "send 1 A11002010102010330088004883703018400"),
-        ("send 1 A1100201010201033008800488370301A400", "send 1 A10E0201010201033006800488370301"),
-        ("send 1 A1100201010201033008800488370301A400", "send 1 A1110201010201033009800488370301A48100"),
-        ("send 1 A1100201010201033008800488370301A400", "send 1 A111020101020103308108800488370301A400"),
-        ("send 1 A1100201010201033008800488370301A400", "send 1 A181100201010201033008800488370301A400"),
-        ("send 1 A1100201010201033008800488370301A400", "send 1 A18200100201010201033008800488370301A400"),
-        ("send 1 A1100201010201033008800488370301A400", "send 1 A114020101020103300C800488370301A400A5020500"),
-        ("send 1 A1100201010201033008800488370301A400", "send 1 A113020101020103300B800488370301A400860100"),
-        ("send 1 A1100201010201033008800488370301A400", "send 1 A112020101020103300A800488370301A400AC00"),
-        ("send 1 A1100201010201033008800488370301A400", "send 1 A1280201010201033020800488370301A418311630090604883707010201053009060488370702020105"),
-        ("send 1 A1100201010201033008800488370301A400", "send 1 A112020101020103300A800488370301A4023100"),
-        ("send 1 A1100201010201033008800488370301A400", "send 1 A11A0201010201033012800488370301A40A31083006060488370701"),
-        ("send 1 A1100201010201033008800488370301A400", "send 1 A11E0201010201033016800488370301A40E310C300A06048837070102810105"),
-        ("send 1 A1100201010201033008800488370301A400", "send 1 A11D0201010201033015800488370301A40D300B3009060488370701020105"),
-        ("send 1 A1100201010201033008800488370301A400", "send 1 A1100201010201033008800488370301A40000"),
-        ("send 1 A1100201010201033008800488370301A400", "send 1 A1100201010201033008800488370301A4"),
+        (
+            "send 1 A1100201010201033008800488370301A400",
+            "send 1 A1100201010201043008800488370301A400",
+        ),
+        (
+            "send 1 A1100201010201033008800488370301A400",
+            "send 1 A111020101020200033008800488370301A400",
+        ),
+        (
+            "send 1 A1100201010201033008800488370301A400",
+            "send 1 A11802010102090303030303030303033008800488370301A400",
+        ),
+        (
+            "send 1 A1100201010201033008800488370301A400",
+            "send 1 A111020200010201033008800488370301A400",
+        ),
+        (
+            "send 1 A1100201010201033008800488370301A400",
+            "send 1 A114020500800000000201033008800488370301A400",
+        ),
+        (
+            "send 1 A1100201010201033008800488370301A400",
+            "send 1 A10F02000201033008800488370301A400",
+        ),
+        (
+            "send 1 A1100201010201033008800488370301A400",
+            "send 1 A1130201018001050201033008800488370301A400",
+        ),
+        (
+            "send 1 A1100201010201033008800488370301A400",
+            "send 1 A2100201010201033008800488370301A400",
+        ),
+        (
+            "send 1 A1100201010201033008800488370301A400",
+            "send 1 61100201010201033008800488370301A400",
+        ),
+        (
+            "send 1 A1100201010201033008800488370301A400",
+            "send 1 A1100201010201033108800488370301A400",
+        ),
+        (
+            "send 1 A1100201010201033008800488370301A400",
+            "send 1 A106020101020103",
+        ),
+        (
+            "send 1 A1100201010201033008800488370301A400",
+            "send 1 A10D0201010201033005810101A400",
+        ),
+        (
+            "send 1 A1100201010201033008800488370301A400",
+            "send 1 A1100201010201033008800488370302A400",
+        ),
+        (
+            "send 1 A1100201010201033008800488370301A400",
+            "send 1 A111020101020103300980058837800301A400",
+        ),
+        (
+            "send 1 A1100201010201033008800488370301A400",
+            "send 1 A1100201010201033008800488370381A400",
+        ),
+        (
+            "send 1 A1100201010201033008800488370301A400",
+            "send 1 A10A0201010201033002A400",
+        ),
+        (
+            "send 1 A1100201010201033008800488370301A400",
+            "send 1 A1100201010201033008800488370301A200",
+        ),
+        (
+            "send 1 A1100201010201033008800488370301A400",
+            "send 1 A11002010102010330088004883703018300",
+        ),
+        (
+            "send 1 A1100201010201033008800488370301A400",
+            "send 1 A11002010102010330088004883703018400",
+        ),
+        (
+            "send 1 A1100201010201033008800488370301A400",
+            "send 1 A10E0201010201033006800488370301",
+        ),
+        (
+            "send 1 A1100201010201033008800488370301A400",
+            "send 1 A1110201010201033009800488370301A48100",
+        ),
+        (
+            "send 1 A1100201010201033008800488370301A400",
+            "send 1 A111020101020103308108800488370301A400",
+        ),
+        (
+            "send 1 A1100201010201033008800488370301A400",
+            "send 1 A181100201010201033008800488370301A400",
+        ),
+        (
+            "send 1 A1100201010201033008800488370301A400",
+            "send 1 A18200100201010201033008800488370301A400",
+        ),
+        (
+            "send 1 A1100201010201033008800488370301A400",
+            "send 1 A114020101020103300C800488370301A400A5020500",
+        ),
+        (
+            "send 1 A1100201010201033008800488370301A400",
+            "send 1 A113020101020103300B800488370301A400860100",
+        ),
+        (
+            "send 1 A1100201010201033008800488370301A400",
+            "send 1 A112020101020103300A800488370301A400AC00",
+        ),
+        (
+            "send 1 A1100201010201033008800488370301A400",
+            "send 1 A1280201010201033020800488370301A418311630090604883707010201053009060488370702020105",
+        ),
+        (
+            "send 1 A1100201010201033008800488370301A400",
+            "send 1 A112020101020103300A800488370301A4023100",
+        ),
+        (
+            "send 1 A1100201010201033008800488370301A400",
+            "send 1 A11A0201010201033012800488370301A40A31083006060488370701",
+        ),
+        (
+            "send 1 A1100201010201033008800488370301A400",
+            "send 1 A11E0201010201033016800488370301A40E310C300A06048837070102810105",
+        ),
+        (
+            "send 1 A1100201010201033008800488370301A400",
+            "send 1 A11D0201010201033015800488370301A40D300B3009060488370701020105",
+        ),
+        (
+            "send 1 A1100201010201033008800488370301A400",
+            "send 1 A1100201010201033008800488370301A40000",
+        ),
+        (
+            "send 1 A1100201010201033008800488370301A400",
+            "send 1 A1100201010201033008800488370301A4",
+        ),
         ("send 1 A1100201010201033008800488370301A400", "send 1 0500"),
     ];
     for (old, new) in changes {
         let script = changed(&rt, GET_ROOT, old, new)?;
         let (status, written) = run(&rt, script.as_str(), ELEMENT)?;
         assert_eq!(rt; status, NOT_BUILT, "{new}");
-        assert_eq!(rt; written.as_slice(), b"not built script\n".as_slice(), "{new}");
+        assert_eq!(rt;
+            written.as_slice(),
+            b"not built script\n".as_slice(),
+            "{new}"
+        );
     }
     Ok(())
 }
@@ -271,7 +386,11 @@ fn words_and_files_that_serve_for_nothing_end_with_their_line(rt: HostRuntime) -
         ("", NOT_BUILT, "not built command\n"),
         ("run", NOT_BUILT, "not built command\n"),
         ("run script", NOT_BUILT, "not built command\n"),
-        ("run script document document", NOT_BUILT, "not built command\n"),
+        (
+            "run script document document",
+            NOT_BUILT,
+            "not built command\n",
+        ),
         ("run -script document", NOT_BUILT, "not built command\n"),
         ("run script -", NOT_BUILT, "not built command\n"),
         ("check document", NOT_BUILT, "not built command\n"),
@@ -279,10 +398,26 @@ fn words_and_files_that_serve_for_nothing_end_with_their_line(rt: HostRuntime) -
         ("run nowhere document", FILE_FAULT, "file nowhere\n"),
         ("run script nowhere", FILE_FAULT, "file nowhere\n"),
         ("run document script", NOT_BUILT, "not built document\n"),
-        ("run script open", BAD_DOCUMENT, "bad document 1 2 OpenString\n"),
-        ("run script byte", BAD_DOCUMENT, "bad document 1 1 BadByte\n"),
-        ("run script number", BAD_DOCUMENT, "bad document 1 3 BadNumber\n"),
-        ("run script bits", BAD_DOCUMENT, "bad document 1 1 BadBits\n"),
+        (
+            "run script open",
+            BAD_DOCUMENT,
+            "bad document 1 2 OpenString\n",
+        ),
+        (
+            "run script byte",
+            BAD_DOCUMENT,
+            "bad document 1 1 BadByte\n",
+        ),
+        (
+            "run script number",
+            BAD_DOCUMENT,
+            "bad document 1 3 BadNumber\n",
+        ),
+        (
+            "run script bits",
+            BAD_DOCUMENT,
+            "bad document 1 1 BadBits\n",
+        ),
     ];
     for (line, wanted, text) in cases {
         let mut files = MemFiles::new(alloc, Vec::new(alloc));
@@ -305,7 +440,13 @@ fn words_and_files_that_serve_for_nothing_end_with_their_line(rt: HostRuntime) -
 fn a_file_past_its_limit_ends_the_run_with_its_name(rt: HostRuntime) -> Result<(), Fail> {
     let alloc = rt.alloc();
     let cases = [
-        ("script", 16_777_217usize, "document", 1, "too large script\n"),
+        (
+            "script",
+            16_777_217usize,
+            "document",
+            1,
+            "too large script\n",
+        ),
         ("script", 1, "document", 4_194_305, "too large document\n"),
     ];
     for (script, script_len, document, document_len, text) in cases {
@@ -314,14 +455,20 @@ fn a_file_past_its_limit_ends_the_run_with_its_name(rt: HostRuntime) -> Result<(
         files.add(alloc, document, &vec![in alloc; b' '; document_len]?)?;
         let mut out = MemSink::new(alloc, ROOM, Vec::new(alloc))?;
         let words = words_of(&rt, "run script document")?;
-        assert_eq!(rt; agent(&rt, &words, &mut files, &mut out), FILE_TOO_LARGE, "{text}");
+        assert_eq!(rt;
+            agent(&rt, &words, &mut files, &mut out),
+            FILE_TOO_LARGE,
+            "{text}"
+        );
         assert_eq!(rt; out.written(), text.as_bytes());
     }
     Ok(())
 }
 
 #[test]
-fn a_call_of_the_outside_that_fails_ends_the_run_with_its_status(rt: HostRuntime) -> Result<(), Fail> {
+fn a_call_of_the_outside_that_fails_ends_the_run_with_its_status(
+    rt: HostRuntime,
+) -> Result<(), Fail> {
     let alloc = rt.alloc();
     let reads = [(0u64, "file script\n"), (1, "file document\n")];
     for (failing, text) in reads {
@@ -330,7 +477,11 @@ fn a_call_of_the_outside_that_fails_ends_the_run_with_its_status(rt: HostRuntime
         files.add(alloc, "document", ELEMENT.as_bytes())?;
         let mut out = MemSink::new(alloc, ROOM, Vec::new(alloc))?;
         let words = words_of(&rt, "run script document")?;
-        assert_eq!(rt; agent(&rt, &words, &mut files, &mut out), FILE_FAULT, "{failing}");
+        assert_eq!(rt;
+            agent(&rt, &words, &mut files, &mut out),
+            FILE_FAULT,
+            "{failing}"
+        );
         assert_eq!(rt; out.written(), text.as_bytes(), "{failing}");
     }
     for failing in [0u64, 1, 2, 3] {
@@ -339,9 +490,17 @@ fn a_call_of_the_outside_that_fails_ends_the_run_with_its_status(rt: HostRuntime
         files.add(alloc, "document", ELEMENT.as_bytes())?;
         let mut out = MemSink::new(alloc, ROOM, vec![in alloc; failing]?)?.in_turns(100);
         let words = words_of(&rt, "run script document")?;
-        assert_eq!(rt; agent(&rt, &words, &mut files, &mut out), WRITE_FAULT, "{failing}");
+        assert_eq!(rt;
+            agent(&rt, &words, &mut files, &mut out),
+            WRITE_FAULT,
+            "{failing}"
+        );
         let written = (failing * 100) as usize;
-        assert_eq!(rt; out.written(), &ROOT_RUN.as_bytes()[..written.min(ROOT_RUN.len())], "{failing}");
+        assert_eq!(rt;
+            out.written(),
+            &ROOT_RUN.as_bytes()[..written.min(ROOT_RUN.len())],
+            "{failing}"
+        );
     }
     Ok(())
 }

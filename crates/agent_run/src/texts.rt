@@ -28,7 +28,13 @@ fn write_hex(alloc: Global, octets: &[u8], into: &mut Vec<u8>) -> Result<(), All
     into.extend_from_slice(text.as_bytes())
 }
 
-fn write_number_and_hex(alloc: Global, word: &[u8], number: u64, octets: &[u8], into: &mut Vec<u8>) -> Result<(), AllocError>
+fn write_number_and_hex(
+    alloc: Global,
+    word: &[u8],
+    number: u64,
+    octets: &[u8],
+    into: &mut Vec<u8>,
+) -> Result<(), AllocError>
     ensures { OnOk result (into.new.items ≡ into.old.items ++ two_words word.now number (encode_upper octets.now)) }
 {
     into.extend_from_slice(word)?;
@@ -39,7 +45,12 @@ fn write_number_and_hex(alloc: Global, word: &[u8], number: u64, octets: &[u8], 
     Ok(())
 }
 
-fn write_two_numbers(word: &[u8], number: u64, second: u64, into: &mut Vec<u8>) -> Result<(), AllocError>
+fn write_two_numbers(
+    word: &[u8],
+    number: u64,
+    second: u64,
+    into: &mut Vec<u8>,
+) -> Result<(), AllocError>
     ensures { OnOk result (into.new.items ≡ into.old.items ++ two_words word.now number (decimal second)) }
 {
     into.extend_from_slice(word)?;
@@ -87,12 +98,28 @@ fn write_closed(number: u64, cause: &Why, into: &mut Vec<u8>) -> Result<(), Allo
 }
 
 /// Appends the line of an entry.
-pub(crate) fn write_entry(alloc: Global, entry: &Entry, into: &mut Vec<u8>) -> Result<(), AllocError>
+pub(crate) fn write_entry(
+    alloc: Global,
+    entry: &Entry,
+    into: &mut Vec<u8>,
+) -> Result<(), AllocError>
     ensures { OnOk result (into.new.items ≡ into.old.items ++ line entry.now) }
 {
     match entry {
-        Entry::Opened(number, bind) => write_number_and_hex(alloc, b"opened ", *number, bind.as_slice(), into),
-        Entry::Arrived(number, apdu) => write_number_and_hex(alloc, b"arrived ", *number, apdu.as_slice(), into),
+        Entry::Opened(number, bind) => write_number_and_hex(
+            alloc,
+            b"opened ",
+            *number,
+            bind.as_slice(),
+            into,
+        ),
+        Entry::Arrived(number, apdu) => write_number_and_hex(
+            alloc,
+            b"arrived ",
+            *number,
+            apdu.as_slice(),
+            into,
+        ),
         Entry::Granted(number, moment) => write_two_numbers(b"granted ", *number, *moment, into),
         Entry::Committed(number) => write_number(b"committed ", *number, into),
         Entry::Taken(number, count) => write_two_numbers(b"taken ", *number, *count, into),
@@ -102,7 +129,11 @@ pub(crate) fn write_entry(alloc: Global, entry: &Entry, into: &mut Vec<u8>) -> R
 }
 
 /// Appends a line for each entry.
-pub(crate) fn write_journal(alloc: Global, journal: &Entries, into: &mut Vec<u8>) -> Result<(), AllocError>
+pub(crate) fn write_journal(
+    alloc: Global,
+    journal: &Entries,
+    into: &mut Vec<u8>,
+) -> Result<(), AllocError>
     ensures { OnOk result (into.new.items ≡ into.old.items ++ journal_text journal.now) }
 {
     for entry in &journal.items {
@@ -111,7 +142,12 @@ pub(crate) fn write_journal(alloc: Global, journal: &Entries, into: &mut Vec<u8>
     Ok(())
 }
 
-fn write_out_line(alloc: Global, number: u64, association: &Association, into: &mut Vec<u8>) -> Result<(), AllocError>
+fn write_out_line(
+    alloc: Global,
+    number: u64,
+    association: &Association,
+    into: &mut Vec<u8>,
+) -> Result<(), AllocError>
     ensures { OnOk result (into.new.items ≡ into.old.items ++ two_words (codes "out ") number (placed_text association.now.placed)) }
 {
     let placed = association.placed.as_slice();
@@ -128,7 +164,11 @@ fn write_out_line(alloc: Global, number: u64, association: &Association, into: &
 }
 
 /// Appends a line for each association, and one for the number of objects.
-pub(crate) fn write_outs(alloc: Global, agent: &AgentState, into: &mut Vec<u8>) -> Result<(), AllocError>
+pub(crate) fn write_outs(
+    alloc: Global,
+    agent: &AgentState,
+    into: &mut Vec<u8>,
+) -> Result<(), AllocError>
     ensures { OnOk result (into.new.items ≡ into.old.items ++ outs agent.now) }
 {
     for (place, association) in agent.associations.items.iter().enumerate() {
@@ -138,7 +178,11 @@ pub(crate) fn write_outs(alloc: Global, agent: &AgentState, into: &mut Vec<u8>) 
 }
 
 /// What `run` prints of a journal and the agent after it.
-pub(crate) fn run_text(alloc: Global, journal: &Entries, agent: &AgentState) -> Result<Vec<u8>, AllocError>
+pub(crate) fn run_text(
+    alloc: Global,
+    journal: &Entries,
+    agent: &AgentState,
+) -> Result<Vec<u8>, AllocError>
     ensures { IfOk result (λ text. text.items ≡ journal_text journal.now ++ ((45 ∷ 45 ∷ line_feed) ++ outs agent.now)) }
 {
     let mut text = Vec::new(alloc);

@@ -21,7 +21,11 @@ pub(crate) fn comes(tokens: &[Token], at: usize, text: &[u8]) -> bool {
 
 /// Passes a token of this text.
 pub(crate) fn pass(tokens: &[Token], at: usize, text: &[u8]) -> Result<usize, NotRead> {
-    if comes(tokens, at, text) { Ok(at.saturating_add(1)) } else { Err(NotRead::Outside) }
+    if comes(tokens, at, text) {
+        Ok(at.saturating_add(1))
+    } else {
+        Err(NotRead::Outside)
+    }
 }
 
 /// Passes tokens of these texts.
@@ -44,7 +48,11 @@ pub(crate) fn read_word(tokens: &[Token], at: usize) -> Result<(&[u8], usize), N
 }
 
 /// A word that is no keyword: it has a lower-case letter.
-pub(crate) fn read_label(alloc: Global, tokens: &[Token], at: usize) -> Result<(Bytes, usize), NotRead> {
+pub(crate) fn read_label(
+    alloc: Global,
+    tokens: &[Token],
+    at: usize,
+) -> Result<(Bytes, usize), NotRead> {
     let (word, behind) = read_word(tokens, at)?;
     if word.iter().any(|octet| octet.is_ascii_lowercase()) {
         Ok((Bytes::from_slice(alloc, word)?, behind))
@@ -76,7 +84,11 @@ pub(crate) fn read_number(tokens: &[Token], at: usize) -> Result<(u64, usize), N
 }
 
 /// `REGISTERED AS { n n .. }`: an identifier, and the place behind it.
-pub(crate) fn read_registration(alloc: Global, tokens: &[Token], at: usize) -> Result<(Oid, usize), NotRead> {
+pub(crate) fn read_registration(
+    alloc: Global,
+    tokens: &[Token],
+    at: usize,
+) -> Result<(Oid, usize), NotRead> {
     let start = pass_all(tokens, at, &[b"REGISTERED", b"AS", b"{"])?;
     let mut arcs = Vec::new(alloc);
     for place in start..tokens.len() {

@@ -5,7 +5,9 @@ ghost use Rattle.term_model.specs.RemoteOperation.{integer};
 ghost use Rattle.term_values.specs.Der.{encoded};
 ghost use Rattle.term_values.specs.Oid.{oid_contents};
 
-use crate::tree_writing::{write_identifier, write_integer_contents, write_length, write_oid_contents};
+use crate::tree_writing::{
+    write_identifier, write_integer_contents, write_length, write_oid_contents,
+};
 use std::alloc::{AllocError, Global};
 use term_values::{Oid, Tag};
 
@@ -24,7 +26,11 @@ pub(crate) fn write_value(
 }
 
 /// Appends an INTEGER.
-pub(crate) fn write_integer(alloc: Global, number: i64, into: &mut Vec<u8>) -> Result<(), AllocError>
+pub(crate) fn write_integer(
+    alloc: Global,
+    number: i64,
+    into: &mut Vec<u8>,
+) -> Result<(), AllocError>
     ensures { OnOk result (into.new.items ≡ into.old.items ++ integer number) }
 {
     let mut contents = Vec::new(alloc);
@@ -33,7 +39,12 @@ pub(crate) fn write_integer(alloc: Global, number: i64, into: &mut Vec<u8>) -> R
 }
 
 /// Appends an OBJECT IDENTIFIER under this tag.
-pub(crate) fn write_oid(alloc: Global, tag: Tag, oid: &Oid, into: &mut Vec<u8>) -> Result<(), AllocError>
+pub(crate) fn write_oid(
+    alloc: Global,
+    tag: Tag,
+    oid: &Oid,
+    into: &mut Vec<u8>,
+) -> Result<(), AllocError>
     ensures { OnOk result (into.new.items ≡ into.old.items ++ encoded false tag (oid_contents oid.now)) }
 {
     let mut contents = Vec::new(alloc);

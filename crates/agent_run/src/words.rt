@@ -18,7 +18,10 @@ fn is_place(word: &str) -> bool {
 /// The places of `run SCRIPT DOC`; none where the words are in another form.
 pub(crate) fn read_words(words: &[String]) -> Option<RunWords<'_>> {
     match words {
-        [command, script, document] if command.as_str() == RUN && is_place(script.as_str()) && is_place(document.as_str()) => {
+        [command, script, document]
+            if command.as_str() == RUN
+                && is_place(script.as_str())
+                && is_place(document.as_str()) => {
             Some(RunWords {
                 script: script.as_str(),
                 document: document.as_str(),

@@ -4,9 +4,8 @@
 use agent_bytes::{RealFiles, StdoutSink};
 use agent_run::agent;
 use agent_run::refusal::OUT_OF_MEMORY;
-use std::env;
-use std::io;
 use std::process::ExitCode;
+use std::{env, io};
 
 /// The words behind the program's own name.
 fn words(rt: &HostRuntime) -> io::Result<Vec<String>> {
