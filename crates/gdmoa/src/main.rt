@@ -1,6 +1,9 @@
 //! The program: hands its words to the agent, with the files and the standard output of the system, and ends with the status.
 #![tactic(auto)]
 
+#[cfg(test)]
+mod tests;
+
 use agent_bytes::{RealFiles, StdoutSink};
 use agent_run::agent;
 use agent_run::refusal::OUT_OF_MEMORY;
