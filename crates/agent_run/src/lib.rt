@@ -9,6 +9,7 @@ mod first_records;
 mod not_read;
 mod object_reading;
 mod playing;
+mod property_lists;
 pub mod refusal;
 mod running;
 mod script_form;

@@ -1,17 +1,17 @@
 //! What a Get does to one object: X.711, section 7.4.
 
 ghost use Rattle.std.specs.Prelude.{◌≡◌, ◌++◌, IfOk, OnOk, IsTrue, List, map, flat_map};
-ghost use Rattle.std.specs.List.{list_any};
 ghost use Rattle.term_model.specs.GetRequest.{class_octets, instance_octets, rdn_octets};
-ghost use Rattle.term_model.specs.ObjectOperation.{attribute_octets, attributes_octets, get_one, is_readable, lets_read, readable, time_octets};
+ghost use Rattle.term_model.specs.ObjectOperation.{attribute_octets, attributes_octets, get_one, readable, time_octets};
 ghost use Rattle.term_model.specs.Rising.{rising};
 ghost use Rattle.term_values.specs.Fits.{der};
 
 use crate::apdu_reading::{GLOBAL_FORM, LOCAL_DISTINGUISHED_NAME};
+use crate::property_lists::readable_attributes;
 use crate::tree_writing::write_integer_contents;
 use crate::value_writing::{write_oid, write_value};
 use std::alloc::{AllocError, Global};
-use term_model::{Attribute, Attrs, Object, Property, Rdn, Set};
+use term_model::{Attribute, Attrs, Object, Rdn, Set};
 use term_values::{Bytes, Oid, Tag, Value, ValueForm};
 
 /// The tag of currentTime in a result.
@@ -58,21 +58,6 @@ fn attribute_octets(alloc: Global, attribute: &Attribute) -> Result<Bytes, Alloc
     Ok(Bytes { items })
 }
 
-/// Whether the property list lets managers read the attribute.
-fn lets_read(properties: &[Property], attribute: &Oid) -> bool
-    ensures { result ≡ list_any (lets_read attribute.now) properties.now }
-{
-    properties.iter().any(|property| property.get && property.attribute == *attribute)
-}
-
-/// Whether managers may read the attribute of an object of this class.
-fn is_readable(schema: &Set, class: &Oid, attribute: &Oid) -> bool
-    ensures { result ≡ is_readable schema.now class.now attribute.now }
-{
-    schema.classes.items.iter().any(|record| record.id == *class
-        && lets_read(&record.properties.items, attribute))
-}
-
 /// Appends encodings as the contents of a SET OF, in rising order: X.690, section 11.6.
 pub(crate) fn write_members(mut members: Vec<Bytes>, into: &mut Vec<u8>) -> Result<(), AllocError>
     ensures { OnOk result (into.new.items ≡ into.old.items ++ flat_map (λ member. member) (rising members.items)) }
@@ -101,9 +86,10 @@ pub(crate) fn attribute_set(alloc: Global, attrs: &Attrs) -> Result<Vec<u8>, All
 fn readable_set(alloc: Global, schema: &Set, object: &Object) -> Result<Vec<u8>, AllocError>
     ensures { IfOk result (λ octets. octets.items ≡ flat_map (λ member. member) (rising (map attribute_octets (readable schema.now object.now)))) }
 {
+    let ids = readable_attributes(alloc, schema, &object.class)?;
     let mut members = Vec::new(alloc);
     for attribute in &object.attrs.items {
-        if is_readable(schema, &object.class, &attribute.id) {
+        if ids.contains(&attribute.id) {
             members.push(attribute_octets(alloc, attribute)?)?;
         }
     }
