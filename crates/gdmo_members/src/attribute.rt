@@ -6,7 +6,7 @@ ghost use Rattle.text_lex.specs.Form.{Form, AnyOrder, Named};
 ghost use Rattle.text_lex.specs.Outcome.{Reads, closed};
 ghost use Rattle.text_lex.specs.Turns.{TakesClause};
 ghost use Rattle.text_lex.specs.TokenTests.{is_word_of};
-ghost use Rattle.gdmo_members.specs.Clauses.{attributes, reference};
+ghost use Rattle.gdmo_members.specs.Clauses.{ending, attributes, reference};
 ghost use Rattle.gdmo_members.specs.Templates.{templates, attribute_syntax, attribute_clauses};
 ghost use Rattle.gdmo_members.specs.Trees.{ending_tree};
 ghost use Rattle.gdmo_members.specs.MemberTrees.{attribute_tree, template_tree, attribute_reference_tree, attribute_syntax_tree, attribute_slots, attribute_clauses_tree, is_attribute_clause};
@@ -16,7 +16,7 @@ use super::matching_rules::read_rules_clause;
 use super::parameter::{ParameterReference, read_parameters_clause};
 use super::registration::read_ending;
 use super::type_clause::read_type_clause;
-use std::alloc::{AllocError, Global};
+use std::alloc::Global;
 use text_lex::label_reference::{LabelReference, read_label_reference};
 use text_lex::object_identifier::ObjectIdentifier;
 use text_lex::qualified_name::QualifiedName;
@@ -107,21 +107,24 @@ fn read_attribute_in_line(
     let (label, next) = read_label(alloc, tokens, at)?;
     let next = skip_words(tokens, next, &["ATTRIBUTE"])?;
     let (clauses, next) = read_attribute_clauses(alloc, tokens, next)?;
-    let (registration, next) = read_ending(alloc, tokens, next)?;
-    let template = box_attribute(alloc, label, clauses, registration)?;
+    let (template, next) = end_attribute(alloc, tokens, next, label, clauses)?;
     Ok((template, next))
 }
 
-/// Puts the parts of an attribute template together; only memory can fail.
+/// Reads the end of an attribute template, and puts its parts together. It isn't inlined, so that its
+/// locals take no room while a template in line is read.
 #[inline(never)]
-fn box_attribute(
+fn end_attribute(
     alloc: Global,
+    tokens: &[Token],
+    at: usize,
     label: Token,
     clauses: AttributeClauses,
-    registration: Option<ObjectIdentifier>,
-) -> Result<Box<AttributeTemplate>, AllocError>
-    ensures { IfOk result (λ template. attribute_tree template.value ≡ template_tree 0 label (attribute_clauses_tree clauses) (ending_tree registration)) }
+) -> Result<(Box<AttributeTemplate>, usize), SyntaxRefusal>
+    ensures reads { Reads tokens.now templates closed ending at (λ template. ending_tree template.value.registration) result }
+    ensures made { IfOk result (λ answer. attribute_tree answer.0.value ≡ template_tree 0 label (attribute_clauses_tree clauses) (ending_tree answer.0.value.registration)) }
 {
+    let (registration, next) = read_ending(alloc, tokens, at)?;
     let template = Box::new(
         alloc,
         AttributeTemplate {
@@ -134,7 +137,7 @@ fn box_attribute(
             registration,
         },
     )?;
-    Ok(template)
+    Ok((template, next))
 }
 
 /// Reads what names an attribute: a label, or a template in line where the word ATTRIBUTE is behind it.

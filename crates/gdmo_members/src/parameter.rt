@@ -7,7 +7,7 @@ ghost use Rattle.text_lex.specs.Outcome.{Reads, closed};
 ghost use Rattle.text_lex.specs.Parts.{either};
 ghost use Rattle.text_lex.specs.Turns.{TakesClause};
 ghost use Rattle.text_lex.specs.TokenTests.{is_word_of};
-ghost use Rattle.gdmo_members.specs.Clauses.{comma, parameters, reference, references, parameters_clause, context, clause};
+ghost use Rattle.gdmo_members.specs.Clauses.{ending, comma, parameters, reference, references, parameters_clause, context, clause};
 ghost use Rattle.gdmo_members.specs.Templates.{templates, parameter_syntax, parameter_clauses};
 ghost use Rattle.gdmo_members.specs.Trees.{clause_tree, context_tree, ending_tree, vector_tree};
 ghost use Rattle.gdmo_members.specs.MemberTrees.{parameter_tree, template_tree, parameter_reference_tree, parameter_syntax_tree, parameter_slots, parameter_clauses_tree, is_parameter_clause};
@@ -17,7 +17,7 @@ use super::behaviour::{BehaviourReference, read_behaviour_clause};
 use super::context::{Context, read_context};
 use super::registration::read_ending;
 use super::type_clause::read_type_clause;
-use std::alloc::{AllocError, Global};
+use std::alloc::Global;
 use text_lex::label_reference::{LabelReference, read_label_reference};
 use text_lex::object_identifier::ObjectIdentifier;
 use text_lex::qualified_name::QualifiedName;
@@ -104,21 +104,24 @@ fn read_parameter_in_line(
     let (label, next) = read_label(alloc, tokens, at)?;
     let next = skip_words(tokens, next, &["PARAMETER"])?;
     let (clauses, next) = read_parameter_clauses(alloc, tokens, next)?;
-    let (registration, next) = read_ending(alloc, tokens, next)?;
-    let template = box_parameter(alloc, label, clauses, registration)?;
+    let (template, next) = end_parameter(alloc, tokens, next, label, clauses)?;
     Ok((template, next))
 }
 
-/// Puts the parts of a parameter template together; only memory can fail.
+/// Reads the end of a parameter template, and puts its parts together. It isn't inlined, so that its
+/// locals take no room while a template in line is read.
 #[inline(never)]
-fn box_parameter(
+fn end_parameter(
     alloc: Global,
+    tokens: &[Token],
+    at: usize,
     label: Token,
     clauses: ParameterClauses,
-    registration: Option<ObjectIdentifier>,
-) -> Result<Box<ParameterTemplate>, AllocError>
-    ensures { IfOk result (λ template. parameter_tree template.value ≡ template_tree 0 label (parameter_clauses_tree clauses) (ending_tree registration)) }
+) -> Result<(Box<ParameterTemplate>, usize), SyntaxRefusal>
+    ensures reads { Reads tokens.now templates closed ending at (λ template. ending_tree template.value.registration) result }
+    ensures made { IfOk result (λ answer. parameter_tree answer.0.value ≡ template_tree 0 label (parameter_clauses_tree clauses) (ending_tree answer.0.value.registration)) }
 {
+    let (registration, next) = read_ending(alloc, tokens, at)?;
     let template = Box::new(
         alloc,
         ParameterTemplate {
@@ -130,7 +133,7 @@ fn box_parameter(
             registration,
         },
     )?;
-    Ok(template)
+    Ok((template, next))
 }
 
 /// Reads what names a parameter: a label, or a template in line where the word PARAMETER is behind it.

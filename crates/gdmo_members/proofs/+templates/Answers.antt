@@ -30,11 +30,11 @@ attribute::read_attribute_in_line-returns-in_err-next t c = exit_reads _ c.from_
 pub attribute::read_attribute_in_line-returns-in_err-clauses : goal.attribute::read_attribute_in_line-returns-in_err-clauses
 attribute::read_attribute_in_line-returns-in_err-clauses t c = exit_reads _ c.from_residual-in_err-clauses.result c.from_residual-in_err-clauses.ensures.1 (fails_named attributes (fails_rest (c.in_ok-label.ensures templates) apart_closed (fails_rest (c.in_ok-next.ensures templates) apart_closed (fails_front attribute_apart c.in_err-clauses.ensures))))
 
-pub attribute::read_attribute_in_line-returns-in_err-registration : goal.attribute::read_attribute_in_line-returns-in_err-registration
-attribute::read_attribute_in_line-returns-in_err-registration t c = exit_reads _ c.from_residual-in_err-registration.result c.from_residual-in_err-registration.ensures.1 (fails_named attributes (fails_rest (c.in_ok-label.ensures templates) apart_closed (fails_rest (c.in_ok-next.ensures templates) apart_closed (fails_rest c.in_ok-clauses.ensures attribute_apart c.in_err-registration.ensures))))
+pub attribute::read_attribute_in_line-returns-in_err-template : goal.attribute::read_attribute_in_line-returns-in_err-template
+attribute::read_attribute_in_line-returns-in_err-template t c = exit_reads _ c.from_residual-in_err-template.result c.from_residual-in_err-template.ensures.1 (fails_named attributes (fails_rest (c.in_ok-label.ensures templates) apart_closed (fails_rest (c.in_ok-next.ensures templates) apart_closed (fails_rest c.in_ok-clauses.ensures attribute_apart c.in_err-template.ensures.reads))))
 
 pub attribute::read_attribute_in_line-returns : goal.attribute::read_attribute_in_line-returns
-attribute::read_attribute_in_line-returns t c = spelt_as c.in_ok-template.ensures (spelt_named attributes (spelt_then (c.in_ok-label.ensures templates) apart_closed (spelt_then (c.in_ok-next.ensures templates) apart_closed (spelt_then c.in_ok-clauses.ensures attribute_apart c.in_ok-registration.ensures))))
+attribute::read_attribute_in_line-returns t c = spelt_as c.in_ok-template.ensures.made (spelt_named attributes (spelt_then (c.in_ok-label.ensures templates) apart_closed (spelt_then (c.in_ok-next.ensures templates) apart_closed (spelt_then c.in_ok-clauses.ensures attribute_apart c.in_ok-template.ensures.reads))))
 
 pub attribute::read_attribute_in_line-read_attribute_clauses-requires : goal.attribute::read_attribute_in_line-read_attribute_clauses-requires
 attribute::read_attribute_in_line-read_attribute_clauses-requires t c = let one = advances labels labels_lead refl (c.in_ok-label.ensures templates).spelt in let within = spelt_within labels labels_lead refl (c.in_ok-label.ensures templates) in let o0 = spelt_order (c.in_ok-next.ensures templates) in (omega arith, tt)
@@ -60,11 +60,11 @@ parameter::read_parameter_in_line-returns-in_err-next t c = exit_reads _ c.from_
 pub parameter::read_parameter_in_line-returns-in_err-clauses : goal.parameter::read_parameter_in_line-returns-in_err-clauses
 parameter::read_parameter_in_line-returns-in_err-clauses t c = exit_reads _ c.from_residual-in_err-clauses.result c.from_residual-in_err-clauses.ensures.1 (fails_named parameters (fails_rest (c.in_ok-label.ensures templates) apart_closed (fails_rest (c.in_ok-next.ensures templates) apart_closed (fails_front parameter_apart c.in_err-clauses.ensures))))
 
-pub parameter::read_parameter_in_line-returns-in_err-registration : goal.parameter::read_parameter_in_line-returns-in_err-registration
-parameter::read_parameter_in_line-returns-in_err-registration t c = exit_reads _ c.from_residual-in_err-registration.result c.from_residual-in_err-registration.ensures.1 (fails_named parameters (fails_rest (c.in_ok-label.ensures templates) apart_closed (fails_rest (c.in_ok-next.ensures templates) apart_closed (fails_rest c.in_ok-clauses.ensures parameter_apart c.in_err-registration.ensures))))
+pub parameter::read_parameter_in_line-returns-in_err-template : goal.parameter::read_parameter_in_line-returns-in_err-template
+parameter::read_parameter_in_line-returns-in_err-template t c = exit_reads _ c.from_residual-in_err-template.result c.from_residual-in_err-template.ensures.1 (fails_named parameters (fails_rest (c.in_ok-label.ensures templates) apart_closed (fails_rest (c.in_ok-next.ensures templates) apart_closed (fails_rest c.in_ok-clauses.ensures parameter_apart c.in_err-template.ensures.reads))))
 
 pub parameter::read_parameter_in_line-returns : goal.parameter::read_parameter_in_line-returns
-parameter::read_parameter_in_line-returns t c = spelt_as c.in_ok-template.ensures (spelt_named parameters (spelt_then (c.in_ok-label.ensures templates) apart_closed (spelt_then (c.in_ok-next.ensures templates) apart_closed (spelt_then c.in_ok-clauses.ensures parameter_apart c.in_ok-registration.ensures))))
+parameter::read_parameter_in_line-returns t c = spelt_as c.in_ok-template.ensures.made (spelt_named parameters (spelt_then (c.in_ok-label.ensures templates) apart_closed (spelt_then (c.in_ok-next.ensures templates) apart_closed (spelt_then c.in_ok-clauses.ensures parameter_apart c.in_ok-template.ensures.reads))))
 
 pub parameter::read_parameter_in_line-read_parameter_clauses-requires : goal.parameter::read_parameter_in_line-read_parameter_clauses-requires
 parameter::read_parameter_in_line-read_parameter_clauses-requires t c = let one = advances labels labels_lead refl (c.in_ok-label.ensures templates).spelt in let within = spelt_within labels labels_lead refl (c.in_ok-label.ensures templates) in let o0 = spelt_order (c.in_ok-next.ensures templates) in (omega arith, tt)
