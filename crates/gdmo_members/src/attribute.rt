@@ -1,14 +1,15 @@
 //! The attribute template (X.722, section 8.7) and references to it. It may have parameter templates in
 //! line, and they attribute templates.
 
-ghost use Rattle.std.specs.Prelude.{◌≡◌, ℕ, codes};
+ghost use Rattle.std.specs.Prelude.{◌≡◌, ℕ, codes, IfOk};
 ghost use Rattle.text_lex.specs.Form.{Form, AnyOrder, Named};
 ghost use Rattle.text_lex.specs.Outcome.{Reads, closed};
 ghost use Rattle.text_lex.specs.Turns.{TakesClause};
 ghost use Rattle.text_lex.specs.TokenTests.{is_word_of};
-ghost use Rattle.gdmo_members.specs.Clauses.{attributes, reference};
+ghost use Rattle.gdmo_members.specs.Clauses.{ending, attributes, reference};
 ghost use Rattle.gdmo_members.specs.Templates.{templates, attribute_syntax, attribute_clauses};
-ghost use Rattle.gdmo_members.specs.MemberTrees.{attribute_tree, attribute_reference_tree, attribute_syntax_tree, attribute_slots, attribute_clauses_tree, is_attribute_clause};
+ghost use Rattle.gdmo_members.specs.Trees.{ending_tree};
+ghost use Rattle.gdmo_members.specs.MemberTrees.{attribute_tree, template_tree, attribute_reference_tree, attribute_syntax_tree, attribute_slots, attribute_clauses_tree, is_attribute_clause};
 
 use super::behaviour::{BehaviourReference, read_behaviour_clause};
 use super::matching_rules::read_rules_clause;
@@ -82,7 +83,6 @@ struct AttributeClauses {
 }
 
 /// Reads an attribute template.
-#[cycle(templates)]
 pub fn read_attribute(
     alloc: Global,
     tokens: &[Token],
@@ -90,11 +90,43 @@ pub fn read_attribute(
 ) -> Result<(AttributeTemplate, usize), SyntaxRefusal>
     ensures { Reads tokens.now templates closed (Named attributes) at attribute_tree result }
 {
+    let (template, next) = read_attribute_in_line(alloc, tokens, at)?;
+    Ok((Box::into_inner(template), next))
+}
+
+/// Reads an attribute template into a box, so that few octets of the stack are held for each template that it
+/// stands in.
+#[cycle(templates)]
+fn read_attribute_in_line(
+    alloc: Global,
+    tokens: &[Token],
+    at: usize,
+) -> Result<(Box<AttributeTemplate>, usize), SyntaxRefusal>
+    ensures { Reads tokens.now templates closed (Named attributes) at (λ template. attribute_tree template.value) result }
+{
     let (label, next) = read_label(alloc, tokens, at)?;
     let next = skip_words(tokens, next, &["ATTRIBUTE"])?;
     let (clauses, next) = read_attribute_clauses(alloc, tokens, next)?;
-    let (registration, next) = read_ending(alloc, tokens, next)?;
-    Ok((
+    let (template, next) = end_attribute(alloc, tokens, next, label, clauses)?;
+    Ok((template, next))
+}
+
+/// Reads the end of an attribute template, and puts its parts together. It isn't inlined, so that its
+/// locals take no room while a template in line is read.
+#[inline(never)]
+fn end_attribute(
+    alloc: Global,
+    tokens: &[Token],
+    at: usize,
+    label: Token,
+    clauses: AttributeClauses,
+) -> Result<(Box<AttributeTemplate>, usize), SyntaxRefusal>
+    ensures reads { Reads tokens.now templates closed ending at (λ template. ending_tree template.value.registration) result }
+    ensures made { IfOk result (λ answer. attribute_tree answer.0.value ≡ template_tree 0 label (attribute_clauses_tree clauses) (ending_tree answer.0.value.registration)) }
+{
+    let (registration, next) = read_ending(alloc, tokens, at)?;
+    let template = Box::new(
+        alloc,
         AttributeTemplate {
             document: 0,
             label,
@@ -104,8 +136,8 @@ pub fn read_attribute(
             parameters: clauses.parameters,
             registration,
         },
-        next,
-    ))
+    )?;
+    Ok((template, next))
 }
 
 /// Reads what names an attribute: a label, or a template in line where the word ATTRIBUTE is behind it.
@@ -118,11 +150,8 @@ pub fn read_attribute_reference(
     ensures { Reads tokens.now templates (is_word_of (codes "ATTRIBUTE")) (reference attributes) at attribute_reference_tree result }
 {
     if is_template_at(tokens, at, "ATTRIBUTE") {
-        let (template, next) = read_attribute(alloc, tokens, at)?;
-        return Ok((
-            AttributeReference::Template(Box::new(alloc, template)?),
-            next,
-        ));
+        let (template, next) = read_attribute_in_line(alloc, tokens, at)?;
+        return Ok((AttributeReference::Template(template), next));
     }
     let (label, next) = read_label_reference(alloc, tokens, at)?;
     Ok((AttributeReference::Label(label), next))

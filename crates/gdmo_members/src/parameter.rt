@@ -1,16 +1,16 @@
 //! The parameter template (X.722, section 8.5), references to it, and the clause that other templates
 //! have for it.
 
-ghost use Rattle.std.specs.Prelude.{◌≡◌, ℕ, [], ◌∷◌, codes};
+ghost use Rattle.std.specs.Prelude.{◌≡◌, ℕ, [], ◌∷◌, codes, IfOk};
 ghost use Rattle.text_lex.specs.Form.{Form, AnyOrder, Named};
 ghost use Rattle.text_lex.specs.Outcome.{Reads, closed};
 ghost use Rattle.text_lex.specs.Parts.{either};
 ghost use Rattle.text_lex.specs.Turns.{TakesClause};
 ghost use Rattle.text_lex.specs.TokenTests.{is_word_of};
-ghost use Rattle.gdmo_members.specs.Clauses.{comma, parameters, reference, references, parameters_clause, context, clause};
+ghost use Rattle.gdmo_members.specs.Clauses.{ending, comma, parameters, reference, references, parameters_clause, context, clause};
 ghost use Rattle.gdmo_members.specs.Templates.{templates, parameter_syntax, parameter_clauses};
-ghost use Rattle.gdmo_members.specs.Trees.{clause_tree, context_tree, vector_tree};
-ghost use Rattle.gdmo_members.specs.MemberTrees.{parameter_tree, parameter_reference_tree, parameter_syntax_tree, parameter_slots, parameter_clauses_tree, is_parameter_clause};
+ghost use Rattle.gdmo_members.specs.Trees.{clause_tree, context_tree, ending_tree, vector_tree};
+ghost use Rattle.gdmo_members.specs.MemberTrees.{parameter_tree, template_tree, parameter_reference_tree, parameter_syntax_tree, parameter_slots, parameter_clauses_tree, is_parameter_clause};
 
 use super::attribute::{AttributeReference, read_attribute_reference};
 use super::behaviour::{BehaviourReference, read_behaviour_clause};
@@ -80,7 +80,6 @@ struct ParameterClauses {
 }
 
 /// Reads a parameter template.
-#[cycle(templates)]
 pub fn read_parameter(
     alloc: Global,
     tokens: &[Token],
@@ -88,11 +87,43 @@ pub fn read_parameter(
 ) -> Result<(ParameterTemplate, usize), SyntaxRefusal>
     ensures { Reads tokens.now templates closed (Named parameters) at parameter_tree result }
 {
+    let (template, next) = read_parameter_in_line(alloc, tokens, at)?;
+    Ok((Box::into_inner(template), next))
+}
+
+/// Reads a parameter template into a box, so that few octets of the stack are held for each template that it
+/// stands in.
+#[cycle(templates)]
+fn read_parameter_in_line(
+    alloc: Global,
+    tokens: &[Token],
+    at: usize,
+) -> Result<(Box<ParameterTemplate>, usize), SyntaxRefusal>
+    ensures { Reads tokens.now templates closed (Named parameters) at (λ template. parameter_tree template.value) result }
+{
     let (label, next) = read_label(alloc, tokens, at)?;
     let next = skip_words(tokens, next, &["PARAMETER"])?;
     let (clauses, next) = read_parameter_clauses(alloc, tokens, next)?;
-    let (registration, next) = read_ending(alloc, tokens, next)?;
-    Ok((
+    let (template, next) = end_parameter(alloc, tokens, next, label, clauses)?;
+    Ok((template, next))
+}
+
+/// Reads the end of a parameter template, and puts its parts together. It isn't inlined, so that its
+/// locals take no room while a template in line is read.
+#[inline(never)]
+fn end_parameter(
+    alloc: Global,
+    tokens: &[Token],
+    at: usize,
+    label: Token,
+    clauses: ParameterClauses,
+) -> Result<(Box<ParameterTemplate>, usize), SyntaxRefusal>
+    ensures reads { Reads tokens.now templates closed ending at (λ template. ending_tree template.value.registration) result }
+    ensures made { IfOk result (λ answer. parameter_tree answer.0.value ≡ template_tree 0 label (parameter_clauses_tree clauses) (ending_tree answer.0.value.registration)) }
+{
+    let (registration, next) = read_ending(alloc, tokens, at)?;
+    let template = Box::new(
+        alloc,
         ParameterTemplate {
             document: 0,
             label,
@@ -101,8 +132,8 @@ pub fn read_parameter(
             behaviour: clauses.behaviour,
             registration,
         },
-        next,
-    ))
+    )?;
+    Ok((template, next))
 }
 
 /// Reads what names a parameter: a label, or a template in line where the word PARAMETER is behind it.
@@ -115,11 +146,8 @@ pub fn read_parameter_reference(
     ensures { Reads tokens.now templates (is_word_of (codes "PARAMETER")) (reference parameters) at parameter_reference_tree result }
 {
     if is_template_at(tokens, at, "PARAMETER") {
-        let (template, next) = read_parameter(alloc, tokens, at)?;
-        return Ok((
-            ParameterReference::Template(Box::new(alloc, template)?),
-            next,
-        ));
+        let (template, next) = read_parameter_in_line(alloc, tokens, at)?;
+        return Ok((ParameterReference::Template(template), next));
     }
     let (label, next) = read_label_reference(alloc, tokens, at)?;
     Ok((ParameterReference::Label(label), next))

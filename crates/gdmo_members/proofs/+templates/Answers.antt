@@ -21,29 +21,29 @@ use Rattle.gdmo_members.proofs.Members.{boxed_attribute, boxed_parameter, attrib
 use Rattle.gdmo_members.specs.MemberTrees.{attribute_slots, parameter_slots, attribute_syntax_tree, parameter_syntax_tree, parameter_reference_tree, is_attribute_clause, is_parameter_clause}
 use Rattle.gdmo_members.proofs.+templates.Goals as goal
 
-pub attribute::read_attribute-returns-in_err-label : goal.attribute::read_attribute-returns-in_err-label
-attribute::read_attribute-returns-in_err-label t c = exit_reads _ c.from_residual.result c.from_residual.ensures.1 (fails_named attributes (fails_front apart_closed (c.in_err-label.ensures templates)))
+pub attribute::read_attribute_in_line-returns-in_err-label : goal.attribute::read_attribute_in_line-returns-in_err-label
+attribute::read_attribute_in_line-returns-in_err-label t c = exit_reads _ c.from_residual.result c.from_residual.ensures.1 (fails_named attributes (fails_front apart_closed (c.in_err-label.ensures templates)))
 
-pub attribute::read_attribute-returns-in_err-next : goal.attribute::read_attribute-returns-in_err-next
-attribute::read_attribute-returns-in_err-next t c = exit_reads _ c.from_residual-in_err-next.result c.from_residual-in_err-next.ensures.1 (fails_named attributes (fails_rest (c.in_ok-label.ensures templates) apart_closed (fails_front apart_closed (c.in_err-next.ensures templates))))
+pub attribute::read_attribute_in_line-returns-in_err-next : goal.attribute::read_attribute_in_line-returns-in_err-next
+attribute::read_attribute_in_line-returns-in_err-next t c = exit_reads _ c.from_residual-in_err-next.result c.from_residual-in_err-next.ensures.1 (fails_named attributes (fails_rest (c.in_ok-label.ensures templates) apart_closed (fails_front apart_closed (c.in_err-next.ensures templates))))
 
-pub attribute::read_attribute-returns-in_err-clauses : goal.attribute::read_attribute-returns-in_err-clauses
-attribute::read_attribute-returns-in_err-clauses t c = exit_reads _ c.from_residual-in_err-clauses.result c.from_residual-in_err-clauses.ensures.1 (fails_named attributes (fails_rest (c.in_ok-label.ensures templates) apart_closed (fails_rest (c.in_ok-next.ensures templates) apart_closed (fails_front attribute_apart c.in_err-clauses.ensures))))
+pub attribute::read_attribute_in_line-returns-in_err-clauses : goal.attribute::read_attribute_in_line-returns-in_err-clauses
+attribute::read_attribute_in_line-returns-in_err-clauses t c = exit_reads _ c.from_residual-in_err-clauses.result c.from_residual-in_err-clauses.ensures.1 (fails_named attributes (fails_rest (c.in_ok-label.ensures templates) apart_closed (fails_rest (c.in_ok-next.ensures templates) apart_closed (fails_front attribute_apart c.in_err-clauses.ensures))))
 
-pub attribute::read_attribute-returns-in_err-registration : goal.attribute::read_attribute-returns-in_err-registration
-attribute::read_attribute-returns-in_err-registration t c = exit_reads _ c.from_residual-in_err-registration.result c.from_residual-in_err-registration.ensures.1 (fails_named attributes (fails_rest (c.in_ok-label.ensures templates) apart_closed (fails_rest (c.in_ok-next.ensures templates) apart_closed (fails_rest c.in_ok-clauses.ensures attribute_apart c.in_err-registration.ensures))))
+pub attribute::read_attribute_in_line-returns-in_err-template : goal.attribute::read_attribute_in_line-returns-in_err-template
+attribute::read_attribute_in_line-returns-in_err-template t c = exit_reads _ c.from_residual-in_err-template.result c.from_residual-in_err-template.ensures.1 (fails_named attributes (fails_rest (c.in_ok-label.ensures templates) apart_closed (fails_rest (c.in_ok-next.ensures templates) apart_closed (fails_rest c.in_ok-clauses.ensures attribute_apart c.in_err-template.ensures.reads))))
 
-pub attribute::read_attribute-returns : goal.attribute::read_attribute-returns
-attribute::read_attribute-returns t c = spelt_named attributes (spelt_then (c.in_ok-label.ensures templates) apart_closed (spelt_then (c.in_ok-next.ensures templates) apart_closed (spelt_then c.in_ok-clauses.ensures attribute_apart c.in_ok-registration.ensures)))
+pub attribute::read_attribute_in_line-returns : goal.attribute::read_attribute_in_line-returns
+attribute::read_attribute_in_line-returns t c = spelt_as c.in_ok-template.ensures.made (spelt_named attributes (spelt_then (c.in_ok-label.ensures templates) apart_closed (spelt_then (c.in_ok-next.ensures templates) apart_closed (spelt_then c.in_ok-clauses.ensures attribute_apart c.in_ok-template.ensures.reads))))
 
-pub attribute::read_attribute-read_attribute_clauses-requires : goal.attribute::read_attribute-read_attribute_clauses-requires
-attribute::read_attribute-read_attribute_clauses-requires t c = let one = advances labels labels_lead refl (c.in_ok-label.ensures templates).spelt in let within = spelt_within labels labels_lead refl (c.in_ok-label.ensures templates) in let o0 = spelt_order (c.in_ok-next.ensures templates) in (omega arith, tt)
+pub attribute::read_attribute_in_line-read_attribute_clauses-requires : goal.attribute::read_attribute_in_line-read_attribute_clauses-requires
+attribute::read_attribute_in_line-read_attribute_clauses-requires t c = let one = advances labels labels_lead refl (c.in_ok-label.ensures templates).spelt in let within = spelt_within labels labels_lead refl (c.in_ok-label.ensures templates) in let o0 = spelt_order (c.in_ok-next.ensures templates) in (omega arith, tt)
 
 pub attribute::read_attribute_reference-returns-in_err-template : goal.attribute::read_attribute_reference-returns-in_err-template
 attribute::read_attribute_reference-returns-in_err-template t c = exit_reads _ c.from_residual.result c.from_residual.ensures.1 (fails_template refl (sym c.is_template_at.ensures ∙ c.if-is_template_at.true) c.in_err-template.ensures)
 
 pub attribute::read_attribute_reference-returns-then-is_template_at : goal.attribute::read_attribute_reference-returns-then-is_template_at
-attribute::read_attribute_reference-returns-then-is_template_at t c = spelt_as (boxed_attribute c.in_ok-new.field-0 c.in_ok-template.template c.in_ok-new.ensures.ok) (spelt_template refl (sym c.is_template_at.ensures ∙ c.if-is_template_at.true) c.in_ok-template.ensures)
+attribute::read_attribute_reference-returns-then-is_template_at t c = spelt_as (boxed_attribute c.in_ok-template.template c.in_ok-template.template.value refl) (spelt_template refl (sym c.is_template_at.ensures ∙ c.if-is_template_at.true) c.in_ok-template.ensures)
 
 pub attribute::read_attribute_reference-returns-in_err-label : goal.attribute::read_attribute_reference-returns-in_err-label
 attribute::read_attribute_reference-returns-in_err-label t c = exit_reads _ c.from_residual-in_err-label.result c.from_residual-in_err-label.ensures.1 (fails_label refl (sym c.is_template_at.ensures ∙ c.if-is_template_at.false) (c.in_err-label.ensures templates))
@@ -51,29 +51,29 @@ attribute::read_attribute_reference-returns-in_err-label t c = exit_reads _ c.fr
 pub attribute::read_attribute_reference-returns : goal.attribute::read_attribute_reference-returns
 attribute::read_attribute_reference-returns t c = spelt_label refl (sym c.is_template_at.ensures ∙ c.if-is_template_at.false) (c.in_ok-label.ensures templates)
 
-pub parameter::read_parameter-returns-in_err-label : goal.parameter::read_parameter-returns-in_err-label
-parameter::read_parameter-returns-in_err-label t c = exit_reads _ c.from_residual.result c.from_residual.ensures.1 (fails_named parameters (fails_front apart_closed (c.in_err-label.ensures templates)))
+pub parameter::read_parameter_in_line-returns-in_err-label : goal.parameter::read_parameter_in_line-returns-in_err-label
+parameter::read_parameter_in_line-returns-in_err-label t c = exit_reads _ c.from_residual.result c.from_residual.ensures.1 (fails_named parameters (fails_front apart_closed (c.in_err-label.ensures templates)))
 
-pub parameter::read_parameter-returns-in_err-next : goal.parameter::read_parameter-returns-in_err-next
-parameter::read_parameter-returns-in_err-next t c = exit_reads _ c.from_residual-in_err-next.result c.from_residual-in_err-next.ensures.1 (fails_named parameters (fails_rest (c.in_ok-label.ensures templates) apart_closed (fails_front apart_closed (c.in_err-next.ensures templates))))
+pub parameter::read_parameter_in_line-returns-in_err-next : goal.parameter::read_parameter_in_line-returns-in_err-next
+parameter::read_parameter_in_line-returns-in_err-next t c = exit_reads _ c.from_residual-in_err-next.result c.from_residual-in_err-next.ensures.1 (fails_named parameters (fails_rest (c.in_ok-label.ensures templates) apart_closed (fails_front apart_closed (c.in_err-next.ensures templates))))
 
-pub parameter::read_parameter-returns-in_err-clauses : goal.parameter::read_parameter-returns-in_err-clauses
-parameter::read_parameter-returns-in_err-clauses t c = exit_reads _ c.from_residual-in_err-clauses.result c.from_residual-in_err-clauses.ensures.1 (fails_named parameters (fails_rest (c.in_ok-label.ensures templates) apart_closed (fails_rest (c.in_ok-next.ensures templates) apart_closed (fails_front parameter_apart c.in_err-clauses.ensures))))
+pub parameter::read_parameter_in_line-returns-in_err-clauses : goal.parameter::read_parameter_in_line-returns-in_err-clauses
+parameter::read_parameter_in_line-returns-in_err-clauses t c = exit_reads _ c.from_residual-in_err-clauses.result c.from_residual-in_err-clauses.ensures.1 (fails_named parameters (fails_rest (c.in_ok-label.ensures templates) apart_closed (fails_rest (c.in_ok-next.ensures templates) apart_closed (fails_front parameter_apart c.in_err-clauses.ensures))))
 
-pub parameter::read_parameter-returns-in_err-registration : goal.parameter::read_parameter-returns-in_err-registration
-parameter::read_parameter-returns-in_err-registration t c = exit_reads _ c.from_residual-in_err-registration.result c.from_residual-in_err-registration.ensures.1 (fails_named parameters (fails_rest (c.in_ok-label.ensures templates) apart_closed (fails_rest (c.in_ok-next.ensures templates) apart_closed (fails_rest c.in_ok-clauses.ensures parameter_apart c.in_err-registration.ensures))))
+pub parameter::read_parameter_in_line-returns-in_err-template : goal.parameter::read_parameter_in_line-returns-in_err-template
+parameter::read_parameter_in_line-returns-in_err-template t c = exit_reads _ c.from_residual-in_err-template.result c.from_residual-in_err-template.ensures.1 (fails_named parameters (fails_rest (c.in_ok-label.ensures templates) apart_closed (fails_rest (c.in_ok-next.ensures templates) apart_closed (fails_rest c.in_ok-clauses.ensures parameter_apart c.in_err-template.ensures.reads))))
 
-pub parameter::read_parameter-returns : goal.parameter::read_parameter-returns
-parameter::read_parameter-returns t c = spelt_named parameters (spelt_then (c.in_ok-label.ensures templates) apart_closed (spelt_then (c.in_ok-next.ensures templates) apart_closed (spelt_then c.in_ok-clauses.ensures parameter_apart c.in_ok-registration.ensures)))
+pub parameter::read_parameter_in_line-returns : goal.parameter::read_parameter_in_line-returns
+parameter::read_parameter_in_line-returns t c = spelt_as c.in_ok-template.ensures.made (spelt_named parameters (spelt_then (c.in_ok-label.ensures templates) apart_closed (spelt_then (c.in_ok-next.ensures templates) apart_closed (spelt_then c.in_ok-clauses.ensures parameter_apart c.in_ok-template.ensures.reads))))
 
-pub parameter::read_parameter-read_parameter_clauses-requires : goal.parameter::read_parameter-read_parameter_clauses-requires
-parameter::read_parameter-read_parameter_clauses-requires t c = let one = advances labels labels_lead refl (c.in_ok-label.ensures templates).spelt in let within = spelt_within labels labels_lead refl (c.in_ok-label.ensures templates) in let o0 = spelt_order (c.in_ok-next.ensures templates) in (omega arith, tt)
+pub parameter::read_parameter_in_line-read_parameter_clauses-requires : goal.parameter::read_parameter_in_line-read_parameter_clauses-requires
+parameter::read_parameter_in_line-read_parameter_clauses-requires t c = let one = advances labels labels_lead refl (c.in_ok-label.ensures templates).spelt in let within = spelt_within labels labels_lead refl (c.in_ok-label.ensures templates) in let o0 = spelt_order (c.in_ok-next.ensures templates) in (omega arith, tt)
 
 pub parameter::read_parameter_reference-returns-in_err-template : goal.parameter::read_parameter_reference-returns-in_err-template
 parameter::read_parameter_reference-returns-in_err-template t c = exit_reads _ c.from_residual.result c.from_residual.ensures.1 (fails_template refl (sym c.is_template_at.ensures ∙ c.if-is_template_at.true) c.in_err-template.ensures)
 
 pub parameter::read_parameter_reference-returns-then-is_template_at : goal.parameter::read_parameter_reference-returns-then-is_template_at
-parameter::read_parameter_reference-returns-then-is_template_at t c = spelt_as (boxed_parameter c.in_ok-new.field-0 c.in_ok-template.template c.in_ok-new.ensures.ok) (spelt_template refl (sym c.is_template_at.ensures ∙ c.if-is_template_at.true) c.in_ok-template.ensures)
+parameter::read_parameter_reference-returns-then-is_template_at t c = spelt_as (boxed_parameter c.in_ok-template.template c.in_ok-template.template.value refl) (spelt_template refl (sym c.is_template_at.ensures ∙ c.if-is_template_at.true) c.in_ok-template.ensures)
 
 pub parameter::read_parameter_reference-returns-in_err-label : goal.parameter::read_parameter_reference-returns-in_err-label
 parameter::read_parameter_reference-returns-in_err-label t c = exit_reads _ c.from_residual-in_err-label.result c.from_residual-in_err-label.ensures.1 (fails_label refl (sym c.is_template_at.ensures ∙ c.if-is_template_at.false) (c.in_err-label.ensures templates))

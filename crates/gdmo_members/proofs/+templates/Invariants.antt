@@ -9,8 +9,8 @@ use Rattle.gdmo_members.specs.MemberTrees.{attribute_slots, parameter_slots, par
 use Rattle.gdmo_members.proofs.+templates.Given as goal
 
 -- the tokens that are left, and for one place the order in which the functions call one another
-abbrev pub decreases-attribute::read_attribute : goal.decreases-attribute::read_attribute
-decreases-attribute::read_attribute l = 4 * (length l.tokens.now - l.at) + 1
+abbrev pub decreases-attribute::read_attribute_in_line : goal.decreases-attribute::read_attribute_in_line
+decreases-attribute::read_attribute_in_line l = 4 * (length l.tokens.now - l.at) + 1
 
 abbrev pub decreases-attribute::read_attribute_reference : goal.decreases-attribute::read_attribute_reference
 decreases-attribute::read_attribute_reference l = 4 * (length l.tokens.now - l.at) + 2
@@ -24,8 +24,8 @@ decreases-attribute::read_attribute_clause l = 4 * (length l.tokens.now - l.at) 
 abbrev pub decreases-attribute::read_attribute_syntax : goal.decreases-attribute::read_attribute_syntax
 decreases-attribute::read_attribute_syntax l = 4 * (length l.tokens.now - l.at) + 1
 
-abbrev pub decreases-parameter::read_parameter : goal.decreases-parameter::read_parameter
-decreases-parameter::read_parameter l = 4 * (length l.tokens.now - l.at) + 1
+abbrev pub decreases-parameter::read_parameter_in_line : goal.decreases-parameter::read_parameter_in_line
+decreases-parameter::read_parameter_in_line l = 4 * (length l.tokens.now - l.at) + 1
 
 abbrev pub decreases-parameter::read_parameter_reference : goal.decreases-parameter::read_parameter_reference
 decreases-parameter::read_parameter_reference l = 4 * (length l.tokens.now - l.at) + 2

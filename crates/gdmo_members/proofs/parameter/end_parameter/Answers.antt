@@ -1,0 +1,14 @@
+-- The end, and the parts with the document number 0.
+use Rattle.std.proofs.Common.{◌≡◌, sym, ap, refl, subst, ◌-◌}
+use Rattle.text_lex.proofs.Exits.{exit_reads}
+use Rattle.text_lex.proofs.Parts.{spelt_as}
+use Rattle.gdmo_members.specs.Trees.{ending_tree}
+use Rattle.gdmo_members.specs.MemberTrees.{parameter_tree, template_tree, parameter_clauses_tree}
+use Rattle.gdmo_members.specs.declared.parameter.ParameterTemplate.{ParameterTemplate}
+use Rattle.gdmo_members.proofs.parameter.end_parameter.Goals as goal
+
+pub returns-in_err-registration-clause-reads : goal.returns-in_err-registration-clause-reads
+returns-in_err-registration-clause-reads c = exit_reads _ c.from_residual.result c.from_residual.ensures.1 c.in_err-registration.ensures
+
+pub returns : goal.returns
+returns c = record { reads = spelt_as (ap (λ (x : ParameterTemplate). ending_tree x.registration) c.in_ok-template.ensures.ok) c.in_ok-registration.ensures; made = subst (λ (x : ParameterTemplate). parameter_tree x ≡ template_tree 0 c.args.label (parameter_clauses_tree c.args.clauses) (ending_tree x.registration)) (sym c.in_ok-template.ensures.ok) refl }
