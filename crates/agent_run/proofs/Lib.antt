@@ -8,6 +8,7 @@ pub mod OutLines
 pub mod PartLaws
 pub mod PlayLaws
 pub mod ReadingSteps
+pub mod ScriptLaws
 mod StandardFacts
 pub mod SubidentifierLaws
 pub mod WritingLaws
