@@ -8,6 +8,9 @@ pub mod OutLines
 pub mod PartLaws
 pub mod PlayLaws
 pub mod ReadingSteps
+mod ScriptFacts
+pub mod ScriptLaws
 mod StandardFacts
 pub mod SubidentifierLaws
+pub mod WordLaws
 pub mod WritingLaws

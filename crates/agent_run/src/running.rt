@@ -1,9 +1,9 @@
 //! The top call: the words of a command line, the files that they name, and what is written.
 
-ghost use Rattle.std.specs.Prelude.{◌≡◌, ◌≢◌, ◌⊎◌, ◌≤◌, IfErr, IfOk, IsSome};
+ghost use Rattle.std.specs.Prelude.{◌≡◌, ◌≢◌, ◌⊎◌, ◌≤◌, map, string_bytes, IfErr, IfOk, IsSome};
 ghost use Rattle.agent_bytes.specs.Faults.{Rose};
-ghost use Rattle.agent_bytes.specs.Told.{gained};
-ghost use Rattle.agent_run.specs.Running.{HasCause, IsNoFileFault, IsRun, Prints, status_of};
+ghost use Rattle.agent_bytes.specs.Told.{IsFile, gained};
+ghost use Rattle.agent_run.specs.Running.{HasCause, IsNoFileFault, IsPlayed, IsRun, IsRunOf, IsScriptFor, Prints, status_of};
 ghost use Rattle.term_model.specs.Bind.{title_in};
 
 use crate::first_form::read_first_form;
@@ -35,6 +35,8 @@ fn read_file<'a, F: Files>(
     name: &'a str,
     limit: u64,
 ) -> Result<Vec<u8>, Refusal<'a>>
+    ensures told { IfOk result (λ bytes. IsFile (F.files files.old) name.now bytes.items) }
+    ensures same { F.files files.new ≡ F.files files.old }
     ensures cause { IfErr result (HasCause (F.faults files.old) (F.faults files.new)) }
     ensures counted { F.faults files.old ≤ F.faults files.new }
 {
@@ -88,6 +90,7 @@ fn read_document<'a>(alloc: Global, document: &[u8]) -> Result<Set, Refusal<'a>>
 
 /// The script, for the class of a document.
 fn read_script_for<'a>(alloc: Global, text: &[u8], schema: &Set) -> Result<Script, Refusal<'a>>
+    ensures found { IfOk result (λ script. IsScriptFor schema.now text.now script.bind script.sends.items) }
     ensures bound { IfOk result (λ script. IsSome (title_in script.bind)) }
     ensures cause { IfErr result IsNoFileFault }
 {
@@ -103,7 +106,7 @@ fn read_script_for<'a>(alloc: Global, text: &[u8], schema: &Set) -> Result<Scrip
 /// What `run` prints of a script that is played on a schema.
 fn play(alloc: Global, schema: Set, script: Script) -> Result<Vec<u8>, AllocError>
     requires { IsSome (title_in script.bind) }
-    ensures { IfOk result (λ text. IsRun text.items) }
+    ensures { IfOk result (λ text. IsPlayed schema script.bind script.sends.items text.items) }
 {
     let played = perform_script(alloc, schema, script)?;
     run_text(alloc, &played.journal, &played.agent)
@@ -111,7 +114,7 @@ fn play(alloc: Global, schema: Set, script: Script) -> Result<Vec<u8>, AllocErro
 
 /// What `run` prints of a script and a document.
 fn run<'a>(alloc: Global, script: &[u8], document: &[u8]) -> Result<Vec<u8>, Refusal<'a>>
-    ensures text { IfOk result (λ text. IsRun text.items) }
+    ensures text { IfOk result (λ text. IsRun script.now text.items) }
     ensures cause { IfErr result IsNoFileFault }
 {
     let schema = read_document(alloc, document)?;
@@ -128,7 +131,7 @@ fn prepare<'a, F: Files>(
     words: &'a [String],
     files: &mut F,
 ) -> Result<Vec<u8>, Refusal<'a>>
-    ensures text { IfOk result (λ text. IsRun text.items) }
+    ensures text { IfOk result (λ text. IsRunOf (F.files files.old) (map string_bytes words.now) text.items) }
     ensures cause { IfErr result (HasCause (F.faults files.old) (F.faults files.new)) }
 {
     let places = match read_words(words) {
@@ -175,8 +178,9 @@ pub fn agent<R: AllocGlobal, F: Files, O: Sink>(
     files: &mut F,
     out: &mut O,
 ) -> u8
-    // What was written is what a script comes to on a schema: its journal, and what the agent placed.
-    ensures printed { result ≡ DONE → Prints (O.contents out.old) (O.contents out.new) }
+    // What was written is what the named script comes to on a schema: its journal, and what the agent placed.
+    ensures printed { result ≡ DONE
+        → Prints (F.files files.old) (map string_bytes words.now) (O.contents out.old) (O.contents out.new) }
 
     // A fault comes only where the count rose in this call.
     ensures file_fault { result ≡ FILE_FAULT → Rose (F.faults files.old) (F.faults files.new) }

@@ -1,5 +1,8 @@
 //! The words of a command line. They are places: a word that begins with `-` is in no form.
 
+ghost use Rattle.std.specs.Prelude.{map, string_bytes, IfSome};
+ghost use Rattle.agent_run.specs.Running.{AreRunWords};
+
 /// `run SCRIPT DOC`.
 #[derive(Drop)]
 pub(crate) struct RunWords<'a> {
@@ -16,7 +19,10 @@ fn is_place(word: &str) -> bool {
 }
 
 /// The places of `run SCRIPT DOC`; none where the words are in another form.
-pub(crate) fn read_words(words: &[String]) -> Option<RunWords<'_>> {
+pub(crate) fn read_words(words: &[String]) -> Option<RunWords<'_>>
+    ensures { IfSome result (λ places.
+        AreRunWords (map string_bytes words.now) places.script.now places.document.now) }
+{
     match words {
         [command, script, document]
             if command.as_str() == RUN
