@@ -8,8 +8,8 @@ use Rattle.term_model.specs.declared.schema.ClassRec.{ClassRec}
 use Rattle.term_model.specs.declared.schema.Set.{Set}
 use Rattle.term_model.specs.History.{is_legal_journal, replay}
 use Rattle.term_model.specs.Played.{played, run_text}
-use Rattle.agent_run.specs.Playing.{script_lines}
-use Rattle.agent_run.specs.ScriptForm.{IsScript}
+use Rattle.one_manager_agent.specs.Playing.{script_lines}
+use Rattle.first_script.specs.ScriptForm.{IsScript}
 
 -- the text is what a script comes to on a schema, and the script's journal is legal and comes to its agent
 pub record IsPlayed (schema : Set) (bind : List ℕ) (sends : List (List ℕ)) (text : List ℕ) : Type 0 where

@@ -29,7 +29,7 @@ pub const NOT_BUILT: u8 = 12;
 
 /// What is not built.
 #[derive(Clone, Copy, Debug, PartialEq, Eq)]
-pub(crate) enum Unbuilt {
+pub enum Unbuilt {
     Command,
     Document,
     Script,
@@ -37,7 +37,7 @@ pub(crate) enum Unbuilt {
 
 /// Why a command is not done.
 #[derive(Clone, Copy, Debug, PartialEq, Eq)]
-pub(crate) enum Refusal<'a> {
+pub enum Refusal<'a> {
     /// A file could not be read.
     FileFault(&'a str),
     /// A file is longer than its limit.
@@ -76,7 +76,7 @@ fn kind_name(kind: LexKind) -> &'static str {
 
 impl Refusal<'_> {
     /// The status with which the program ends.
-    pub(crate) fn status(&self) -> u8
+    pub fn status(&self) -> u8
         ensures { result ≡ status_of self.now }
     {
         match self {
@@ -89,7 +89,7 @@ impl Refusal<'_> {
     }
 
     /// The line that is printed last.
-    pub(crate) fn line(&self, alloc: Global) -> Result<String, AllocError> {
+    pub fn line(&self, alloc: Global) -> Result<String, AllocError> {
         match self {
             Refusal::FileFault(name) => format!(in alloc; "file {name}\n"),
             Refusal::FileTooLarge(name) => format!(in alloc; "too large {name}\n"),

@@ -5,7 +5,7 @@ ghost use Rattle.agent_run.specs.Running.{AreRunWords};
 
 /// `run SCRIPT DOC`.
 #[derive(Drop)]
-pub(crate) struct RunWords<'a> {
+pub struct RunWords<'a> {
     pub script: &'a str,
     pub document: &'a str,
 }
@@ -19,7 +19,7 @@ fn is_place(word: &str) -> bool {
 }
 
 /// The places of `run SCRIPT DOC`; none where the words are in another form.
-pub(crate) fn read_words(words: &[String]) -> Option<RunWords<'_>>
+pub fn read_words(words: &[String]) -> Option<RunWords<'_>>
     ensures { IfSome result (λ places.
         AreRunWords (map string_bytes words.now) places.script.now places.document.now) }
 {

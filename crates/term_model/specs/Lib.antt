@@ -13,3 +13,4 @@ pub mod RemoteOperation
 pub mod Rising
 pub mod Step
 pub mod Texts
+pub mod WellFormedMib

@@ -1,0 +1,8 @@
+pub mod Extending
+pub mod IdentifierSteps
+pub mod IntegerLaws
+pub mod IntegerReading
+pub mod ReadingSteps
+mod StandardFacts
+pub mod SubidentifierLaws
+pub mod WritingLaws

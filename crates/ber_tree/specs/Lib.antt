@@ -1,0 +1,4 @@
+pub mod Integers
+pub mod Reading
+pub mod Subidentifiers
+pub mod Writing

@@ -1,0 +1,297 @@
+//! Reads what managers send: a BIND, and an invoke of m-Get. X.229, section 9; X.711, section 7.4.
+
+ghost use Rattle.std.specs.Prelude.{◌≡◌, Option, Some, IfOk, option_and_then};
+ghost use Rattle.std.specs.Option.{option_map, option_copied};
+ghost use Rattle.term_values.specs.BerReading.{tree_in};
+ghost use Rattle.term_values.specs.Der.{written};
+ghost use Rattle.term_values.specs.Oid.{oid_in};
+ghost use Rattle.term_values.specs.Tree.{listed};
+ghost use Rattle.term_model.specs.Bind.{title_in, title_of};
+ghost use Rattle.term_model.specs.GetRequest.{asked_by, asked_in, assertion_of, get_of, instance_of, rdn_of, rdns_of};
+ghost use Rattle.term_model.specs.Parts.{contents_under, inside_under, integer_under, oid_under, one, one_under, three, three_under, two, two_under};
+ghost use Rattle.term_model.specs.RemoteOperation.{id_of, invoke_of};
+
+use ber_tree::tree_reading::{read_integer_contents, read_oid_contents, read_tree};
+use ber_tree::tree_writing::write_tree;
+use op_object::object_reading::{GLOBAL_FORM, LOCAL_DISTINGUISHED_NAME};
+use std::alloc::{AllocError, Global};
+use term_model::{Asked, Head, IdRef, Instance, Name, Named, Rdn, Request};
+use term_values::{Body, Bytes, Oid, Tag, Tree};
+
+/// The tag of an Invoke APDU.
+pub const INVOKE: Tag = Tag {
+    class: 2,
+    number: 1,
+};
+
+/// The operation m-Get.
+pub const M_GET: i64 = 3;
+
+/// The values inside a constructed value of this tag.
+fn inside_of(tree: &Tree, tag: Tag) -> Option<&[Tree]>
+    ensures { option_map listed (option_copied result) ≡ inside_under tag tree.now }
+{
+    match &tree.body {
+        Body::Cons(inside) if tree.tag == tag => Some(inside.items.as_slice()),
+        _ => None,
+    }
+}
+
+/// The contents octets of a primitive value of this tag.
+fn contents_of(tree: &Tree, tag: Tag) -> Option<&[u8]>
+    ensures { option_copied result ≡ contents_under tag tree.now }
+{
+    match &tree.body {
+        Body::Prim(contents) if tree.tag == tag => Some(contents.as_slice()),
+        _ => None,
+    }
+}
+
+/// The value that stands alone in a list.
+fn alone(trees: &[Tree]) -> Option<&Tree>
+    ensures { option_copied result ≡ one (listed trees.now) }
+{
+    if trees.len() == 1 {
+        Some(&trees[0])
+    } else {
+        None
+    }
+}
+
+/// The values of a list of two.
+fn pair(trees: &[Tree]) -> Option<(&Tree, &Tree)>
+    ensures { option_map (λ parts. (parts.0.now, parts.1.now)) result ≡ two (listed trees.now) }
+{
+    if trees.len() == 2 {
+        Some((&trees[0], &trees[1]))
+    } else {
+        None
+    }
+}
+
+/// The values of a list of three.
+fn triple(trees: &[Tree]) -> Option<(&Tree, &Tree, &Tree)>
+    ensures { option_map (λ parts. (parts.0.now, parts.1.now, parts.2.now)) result ≡ three (listed trees.now) }
+{
+    if trees.len() == 3 {
+        Some((&trees[0], &trees[1], &trees[2]))
+    } else {
+        None
+    }
+}
+
+/// The one value inside a constructed value of this tag.
+fn one_of(tree: &Tree, tag: Tag) -> Option<&Tree>
+    ensures { option_copied result ≡ one_under tag tree.now }
+{
+    alone(inside_of(tree, tag)?)
+}
+
+/// The two values inside a constructed value of this tag.
+fn two_of(tree: &Tree, tag: Tag) -> Option<(&Tree, &Tree)>
+    ensures { option_map (λ parts. (parts.0.now, parts.1.now)) result ≡ two_under tag tree.now }
+{
+    pair(inside_of(tree, tag)?)
+}
+
+/// The three values inside a constructed value of this tag.
+fn three_of(tree: &Tree, tag: Tag) -> Option<(&Tree, &Tree, &Tree)>
+    ensures { option_map (λ parts. (parts.0.now, parts.1.now, parts.2.now)) result ≡ three_under tag tree.now }
+{
+    triple(inside_of(tree, tag)?)
+}
+
+/// The tree that all of the octets spell.
+fn whole_tree(alloc: Global, bytes: &[u8]) -> Result<Option<Tree>, AllocError>
+    ensures { IfOk result (λ tree. tree ≡ tree_in bytes.now) }
+{
+    match read_tree(alloc, bytes)? {
+        None => Ok(None),
+        Some((tree, size)) => {
+            if size == bytes.len() {
+                Ok(Some(tree))
+            } else {
+                Ok(None)
+            }
+        }
+    }
+}
+
+/// The identifier that contents octets denote.
+fn read_oid(alloc: Global, contents: &[u8]) -> Result<Option<Oid>, AllocError>
+    ensures { IfOk result (λ oid. oid ≡ oid_in contents.now) }
+{
+    match read_oid_contents(alloc, contents)? {
+        None => Ok(None),
+        Some(oid) => {
+            let _arcs = oid.arcs();
+            Ok(Some(oid))
+        }
+    }
+}
+
+/// An identifier under this tag.
+fn oid_of(alloc: Global, tree: &Tree, tag: Tag) -> Result<Option<Oid>, AllocError>
+    ensures { IfOk result (λ oid. oid ≡ oid_under tag tree.now) }
+{
+    match contents_of(tree, tag) {
+        None => Ok(None),
+        Some(contents) => read_oid(alloc, contents),
+    }
+}
+
+/// The title in a BIND.
+fn title_of(alloc: Global, bind: &Tree) -> Result<Option<Oid>, AllocError>
+    ensures { IfOk result (λ title. title ≡ title_of bind.now) }
+{
+    match one_of(bind, Tag::SEQUENCE) {
+        None => Ok(None),
+        Some(title) => oid_of(alloc, title, Tag::OBJECT_IDENTIFIER),
+    }
+}
+
+/// The title in the octets of a BIND; none where they are no BIND.
+pub fn title_in(alloc: Global, bind: &[u8]) -> Result<Option<Oid>, AllocError>
+    ensures { IfOk result (λ title. title ≡ title_in bind.now) }
+{
+    match whole_tree(alloc, bind)? {
+        None => Ok(None),
+        Some(tree) => title_of(alloc, &tree),
+    }
+}
+
+/// The written octets of a tree.
+fn written(alloc: Global, tree: &Tree) -> Result<Bytes, AllocError>
+    ensures { IfOk result (λ octets. octets ≡ written tree.now) }
+{
+    let mut items = Vec::new(alloc);
+    write_tree(tree, &mut items)?;
+    Ok(Bytes { items })
+}
+
+/// An attribute value assertion: an identifier and a value.
+fn assertion_of(alloc: Global, tree: &Tree) -> Result<Option<Rdn>, AllocError>
+    ensures { IfOk result (λ rdn. rdn ≡ assertion_of tree.now) }
+{
+    match two_of(tree, Tag::SEQUENCE) {
+        None => Ok(None),
+        Some((id, value)) => match oid_of(alloc, id, Tag::OBJECT_IDENTIFIER)? {
+            None => Ok(None),
+            Some(attribute) => {
+                let value = written(alloc, value)?;
+                Ok(Some(Rdn { attribute, value }))
+            }
+        },
+    }
+}
+
+/// A relative distinguished name of one assertion.
+fn rdn_of(alloc: Global, tree: &Tree) -> Result<Option<Rdn>, AllocError>
+    ensures { IfOk result (λ rdn. rdn ≡ rdn_of tree.now) }
+{
+    match one_of(tree, Tag::SET) {
+        None => Ok(None),
+        Some(assertion) => assertion_of(alloc, assertion),
+    }
+}
+
+/// An RDNSequence.
+fn rdns_of(alloc: Global, trees: &[Tree]) -> Result<Option<Name>, AllocError>
+    ensures { IfOk result (λ name. name ≡ rdns_of (listed trees.now)) }
+{
+    let mut parts = Vec::new(alloc);
+    for tree in trees {
+        match rdn_of(alloc, tree)? {
+            None => return Ok(None),
+            Some(rdn) => parts.push(rdn)?,
+        }
+    }
+    Ok(Some(Name { parts }))
+}
+
+/// The name in an ObjectInstance in localDistinguishedName.
+fn local_name(alloc: Global, tree: &Tree) -> Result<Option<Name>, AllocError>
+    ensures { IfOk result (λ name. name ≡ option_and_then rdns_of (inside_under LOCAL_DISTINGUISHED_NAME tree.now)) }
+{
+    match inside_of(tree, LOCAL_DISTINGUISHED_NAME) {
+        None => Ok(None),
+        Some(inside) => rdns_of(alloc, inside),
+    }
+}
+
+/// An ObjectInstance in localDistinguishedName.
+fn instance_of(alloc: Global, tree: &Tree) -> Result<Option<Instance>, AllocError>
+    ensures { IfOk result (λ instance. instance ≡ instance_of tree.now) }
+{
+    match local_name(alloc, tree)? {
+        None => Ok(None),
+        Some(name) => {
+            let raw = written(alloc, tree)?;
+            Ok(Some(Instance {
+                raw,
+                named: Named::Object(name),
+            }))
+        }
+    }
+}
+
+/// The argument of m-Get.
+fn get_of(alloc: Global, argument: &Tree) -> Result<Option<Request>, AllocError>
+    ensures { IfOk result (λ request. request ≡ get_of argument.now) }
+{
+    match two_of(argument, Tag::SEQUENCE) {
+        None => Ok(None),
+        Some((class, instance)) => match oid_of(alloc, class, GLOBAL_FORM)? {
+            None => Ok(None),
+            Some(class) => match instance_of(alloc, instance)? {
+                None => Ok(None),
+                Some(base) => Ok(Some(Request::Get {
+                    head: Head {
+                        class: IdRef::Global(class),
+                        base,
+                    },
+                })),
+            },
+        },
+    }
+}
+
+/// An INTEGER.
+fn integer_of(tree: &Tree) -> Option<i64>
+    ensures { result ≡ integer_under Tag.INTEGER tree.now }
+{
+    read_integer_contents(contents_of(tree, Tag::INTEGER)?)
+}
+
+/// An invoke id, which has at most 32 bits.
+fn id_of(tree: &Tree) -> Option<i32>
+    ensures { result ≡ id_of tree.now }
+{
+    i32::try_from(integer_of(tree)?).ok()
+}
+
+/// The request that an invoke brings; none where it is none of m-Get in the form of X.711.
+fn invoked(alloc: Global, apdu: &Tree) -> Result<Option<Asked>, AllocError>
+    ensures { IfOk result (λ asked. asked ≡ option_and_then asked_by (invoke_of apdu.now)) }
+{
+    match three_of(apdu, INVOKE) {
+        None => Ok(None),
+        Some((id, operation, argument)) => match (id_of(id), integer_of(operation)) {
+            (Some(id), Some(M_GET)) => match get_of(alloc, argument)? {
+                None => Ok(None),
+                Some(request) => Ok(Some(Asked { id, request })),
+            },
+            _ => Ok(None),
+        },
+    }
+}
+
+/// The request that an APDU brings; none where it is no invoke of m-Get in the form of X.711.
+pub fn asked_in(alloc: Global, apdu: &[u8]) -> Result<Option<Asked>, AllocError>
+    ensures { IfOk result (λ asked. asked ≡ asked_in apdu.now) }
+{
+    match whole_tree(alloc, apdu)? {
+        None => Ok(None),
+        Some(tree) => invoked(alloc, &tree),
+    }
+}

@@ -1,0 +1,2 @@
+mod ScriptFacts
+pub mod ScriptLaws

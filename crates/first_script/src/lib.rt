@@ -1,0 +1,5 @@
+//! Scripts in the first form: an association, and what it sends.
+#![tactic(auto)]
+
+pub mod script_form;
+pub mod script_refusal;

@@ -1,0 +1,4 @@
+//! The texts of a journal and of what it comes to.
+#![tactic(auto)]
+
+pub mod texts;

@@ -1,0 +1,37 @@
+use Rattle.std.proofs.Common.{◌≡◌, ◌++◌, [], ◌∷◌, length, sym, ap, ◌∙◌}
+use Rattle.std.proofs.lemmas.Result.{on_ok_weaker}
+use Rattle.term_model.specs.declared.entry.Entry.TheVariants.{Opened}
+use Rattle.term_model.specs.Played.{line_played, taken_all, with_entry}
+use Rattle.term_model.specs.Played.ScriptLine.{Open}
+use Rattle.term_model.specs.Step.{step}
+use Rattle.one_manager_agent.specs.Playing.{so_far}
+use Rattle.one_manager_agent.proofs.PlayLaws.{noted, lives_counted, fresh_lives, open_line, taken_ready, ready_at}
+use Rattle.one_manager_agent.proofs.playing.Play.open.Goals as goal
+
+pub take-requires : goal.take-requires
+take-requires c =
+    let agent = c.args.self.now.agent in
+    let journal = c.args.self.now.journal in
+    let stepped : c.open.new.agent ≡ step agent (Opened 1 c.args.bind) = c.in_ok-open.ensures ∙ ap (λ bs. step agent (Opened 1 bs)) c.as_slice.ensures in
+    let next = Opened 1 c.args.bind in
+    let first = noted agent c.open.new.agent journal c.write_down.new.journal next stepped c.in_ok-write_down.ensures in
+    record { counted = lives_counted c.open.new.agent c.write_down.new.journal (with_entry (so_far agent journal) next) first (fresh_lives agent journal c.args.bind c.requires.fresh c.requires.titled) }
+
+pub returns-clause-played : goal.returns-clause-played
+returns-clause-played c =
+    let agent = c.args.self.now.agent in
+    let journal = c.args.self.now.journal in
+    let stepped : c.open.new.agent ≡ step agent (Opened 1 c.args.bind) = c.in_ok-open.ensures ∙ ap (λ bs. step agent (Opened 1 bs)) c.as_slice.ensures in
+    let first = noted agent c.open.new.agent journal c.write_down.new.journal (Opened 1 c.args.bind) stepped c.in_ok-write_down.ensures in
+    on_ok_weaker c.take.result (λ e. e ∙ (ap (λ p. taken_all 1 p) first ∙ sym (open_line agent journal c.args.bind c.requires.fresh c.requires.titled))) c.take.ensures
+
+pub returns-clause-ready : goal.returns-clause-ready
+returns-clause-ready c =
+    let agent = c.args.self.now.agent in
+    let journal = c.args.self.now.journal in
+    let stepped : c.open.new.agent ≡ step agent (Opened 1 c.args.bind) = c.in_ok-open.ensures ∙ ap (λ bs. step agent (Opened 1 bs)) c.as_slice.ensures in
+    let play = with_entry (so_far agent journal) (Opened 1 c.args.bind) in
+    let first = noted agent c.open.new.agent journal c.write_down.new.journal (Opened 1 c.args.bind) stepped c.in_ok-write_down.ensures in
+    on_ok_weaker c.take.result
+    (λ e. ready_at c.take.new.self.agent c.take.new.self.journal (taken_all 1 play) (e ∙ ap (λ p. taken_all 1 p) first) (taken_ready play (fresh_lives agent journal c.args.bind c.requires.fresh c.requires.titled)))
+    c.take.ensures

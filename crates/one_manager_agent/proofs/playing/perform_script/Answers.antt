@@ -1,0 +1,69 @@
+use Rattle.std.proofs.Common.{◌≡◌, ◌++◌, [], ◌∷◌, List, length, sym, ap, ◌∙◌, refl, arith, append_assoc}
+use Rattle.std.proofs.lemmas.List.{append-nil}
+use Rattle.term_model.specs.AgentState.{start}
+use Rattle.term_model.specs.History.{is_legal_journal, replay}
+use Rattle.term_model.specs.Played.{Play, beginning, line_played, lines_played}
+use Rattle.term_model.specs.Played.ScriptLine.{Open, Send}
+use Rattle.one_manager_agent.specs.Playing.{script_lines, so_far}
+use Rattle.one_manager_agent.proofs.JournalLaws.{script_faithful}
+use Rattle.one_manager_agent.proofs.PlayLaws.{script_closed, script_more}
+use Rattle.one_manager_agent.proofs.playing.perform_script.Goals as goal
+
+pub send-requires : goal.send-requires
+send-requires c = c.loop-apdu.invariant.ready
+
+pub loop-apdu-init : goal.loop-apdu-init
+loop-apdu-init c = record {
+  ready = c.in_ok-open.ensures.ready;
+  played =
+      c.in_ok-open.ensures.played
+      ∙ (ap (λ a. line_played (so_far a c.new.result.items) (Open c.args.bind)) c.in_ok-opened_agent.ensures
+      ∙ ap (λ xs. line_played (so_far (start c.args.schema) xs) (Open c.args.bind)) c.new.ensures.items);
+  rest = c.into_iter-apdu-iterator.ensures.into_iter_gives.0;
+}
+
+pub loop-apdu-preserved : goal.loop-apdu-preserved
+loop-apdu-preserved c =
+    let apdu = c.in-Some.apdu in
+    let yielded = c.loop-apdu.yielded in
+    record {
+      ready = c.in_ok-send.ensures.ready;
+      played =
+          c.in_ok-send.ensures.played
+          ∙ (ap (λ p. line_played p (Send 1 apdu)) c.loop-apdu.invariant.played
+          ∙ sym (script_more c.args.schema c.args.bind yielded apdu));
+      rest =
+          append_assoc yielded (apdu ∷ []) c.next.new.self.rest.items
+          ∙ (ap (λ xs. yielded ++ xs) (sym c.in-Some.ensures.steps.0) ∙ c.loop-apdu.invariant.rest);
+    }
+
+pub close-requires : goal.close-requires
+close-requires c = c.loop-apdu.invariant.ready
+
+none_of : {T : Type 0} (xs : List T) → length xs ≡ 0 → xs ≡ []
+none_of [] e = refl
+none_of (x ∷ xs) e = absurd (omega arith)
+
+pub returns-clause-played : goal.returns-clause-played
+returns-clause-played c =
+    let schema = c.args.schema in
+    let bind = c.args.bind in
+    let rest = c.loop-apdu.apdu-iterator.rest in
+    let yielded = c.loop-apdu.yielded in
+    let none : rest.items ≡ [] = none_of rest.items (sym rest.ok.0 ∙ c.in-None.ensures.steps.0) in
+    let all : yielded ≡ c.args.sends.items = sym (append-nil yielded) ∙ (ap (λ xs. yielded ++ xs) (sym none) ∙ c.loop-apdu.invariant.rest) in
+    let played = c.loop-apdu.invariant.played ∙ ap (λ xs. lines_played (beginning schema) (script_lines bind xs)) all in
+    c.in_ok-close.ensures ∙ script_closed schema bind c.args.sends.items c.loop-apdu.play.agent c.loop-apdu.play.journal c.loop-apdu.invariant.ready played
+
+pub returns-clause-legal : goal.returns-clause-legal
+returns-clause-legal c =
+    let schema = c.args.schema in
+    let f = script_faithful schema c.args.bind c.args.sends.items c.requires in
+    ap (λ (p : Play). is_legal_journal schema p.journal) (returns-clause-played c) ∙ f.legal
+
+pub returns-clause-replayed : goal.returns-clause-replayed
+returns-clause-replayed c =
+    let schema = c.args.schema in
+    let f = script_faithful schema c.args.bind c.args.sends.items c.requires in
+    let played = returns-clause-played c in
+    ap (λ (p : Play). replay schema p.journal) played ∙ (f.replayed ∙ ap (λ (p : Play). p.agent) (sym played))

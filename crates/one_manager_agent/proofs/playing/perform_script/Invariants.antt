@@ -1,0 +1,11 @@
+use Rattle.std.proofs.Common.{◌≡◌, ◌++◌}
+use Rattle.term_model.specs.Played.{beginning, lines_played}
+use Rattle.one_manager_agent.specs.Playing.{IsReady, script_lines, so_far}
+use Rattle.one_manager_agent.proofs.playing.perform_script.Given as goal
+
+abbrev pub invariant-loop-apdu : goal.invariant-loop-apdu
+invariant-loop-apdu l = record {
+  ready : IsReady l.play.agent l.play.journal;
+  played : so_far l.play.agent l.play.journal ≡ lines_played (beginning l.fn.schema) (script_lines l.fn.bind l.yielded);
+  rest : l.yielded ++ l.apdu-iterator.rest.items ≡ l.fn.sends.items;
+}
