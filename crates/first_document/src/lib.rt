@@ -1,0 +1,14 @@
+//! A document in the first form: a module of one INTEGER type, attributes, one class, and the root's
+//! instance (docs/PROFILE.md, section 6).
+#![tactic(auto)]
+
+pub mod laws;
+mod marks;
+pub mod parts;
+pub mod reading;
+
+pub use parts::DocumentParts;
+pub use reading::read_parts;
+
+#[cfg(test)]
+mod tests;
