@@ -1,5 +1,5 @@
-//! A document in the first form: a module of one INTEGER type, attributes, one class, and the root's instance
-//! (docs/PROFILE.md, section 6).
+//! A document in the first form: a module of one INTEGER type, attributes, one class, and the root's
+//! instance (docs/PROFILE.md, section 6).
 #![tactic(auto)]
 
 pub mod document;
@@ -12,3 +12,8 @@ mod records;
 
 pub use document::read_document;
 pub use document_refusal::DocumentRefusal;
+pub use parts::DocumentParts;
+pub use reading::read_parts;
+
+#[cfg(test)]
+mod tests;

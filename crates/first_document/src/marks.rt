@@ -41,7 +41,11 @@ fn skip_mark(tokens: &[Token], at: usize, text: &str) -> Result<usize, SyntaxRef
 
 /// Goes past words and signs in a row, and answers the place behind them. `Syntax`: the place at
 /// which the first stands that is another.
-pub(crate) fn skip_marks(tokens: &[Token], at: usize, texts: &[&str]) -> Result<usize, SyntaxRefusal>
+pub(crate) fn skip_marks(
+    tokens: &[Token],
+    at: usize,
+    texts: &[&str],
+) -> Result<usize, SyntaxRefusal>
     ensures { (grammar : ℕ → Form) → Skips tokens.now grammar closed (Marks (map (λ text. is_mark_of text.now) texts.now)) at Bare result }
 {
     let mut next = at;
