@@ -1,21 +1,24 @@
--- What a run of the program is: the text that it prints, and the causes of the statuses with which it ends otherwise.
-use Rattle.std.specs.Prelude.{◌≡◌, ℕ, List, [], ◌∷◌, IsTrue, Option, codes}
-use Rattle.agent_bytes.specs.Faults.{Rose}
+-- What a run of the program is: the words, the files that they name, and the text that is printed.
+use Rattle.std.specs.Prelude.{◌≡◌, ◌≢◌, ℕ, List, [], ◌∷◌, ◌++◌, IsTrue, Option, codes, slice_index}
 use Rattle.agent_bytes.specs.Told.{IsFile, gained}
-use Rattle.agent_run.specs.declared.refusal.Refusal.{Refusal}
-use Rattle.agent_run.specs.declared.refusal.Refusal.TheVariants.{FileFault, FileTooLarge, BadDocument, NotBuilt, OutOfMemory}
+use Rattle.term_model.specs.declared.entry.Entry.{Entry}
 use Rattle.term_model.specs.declared.schema.ClassRec.{ClassRec}
 use Rattle.term_model.specs.declared.schema.Set.{Set}
 use Rattle.term_model.specs.History.{is_legal_journal, replay}
-use Rattle.term_model.specs.Played.{played, run_text}
-use Rattle.one_manager_agent.specs.Playing.{script_lines}
+use Rattle.term_model.specs.Played.{played}
+use Rattle.term_model.specs.Texts.{journal_text, line_feed, outs}
+use Rattle.term_model.specs.WellFormedMib.{IsWellFormedMib}
+use Rattle.text_lex.specs.declared.token.Token.{Token}
+use Rattle.text_lex.specs.Lexed.{AreTokensOf}
+use Rattle.first_document.specs.FirstDocument.{IsFirstDocument}
 use Rattle.first_script.specs.ScriptForm.{IsScript}
+use Rattle.one_manager_agent.specs.Playing.{script_lines}
 
--- the text is what a script comes to on a schema, and the script's journal is legal and comes to its agent
-pub record IsPlayed (schema : Set) (bind : List ℕ) (sends : List (List ℕ)) (text : List ℕ) : Type 0 where
-  pub printed : text ≡ run_text schema (script_lines bind sends)
-  pub legal : IsTrue (is_legal_journal schema (played schema (script_lines bind sends)).journal)
-  pub replayed : replay schema (played schema (script_lines bind sends)).journal ≡ (played schema (script_lines bind sends)).agent
+-- the bytes of a document have tokens in the first form, and these are its records
+pub record IsDocument (document : List ℕ) (schema : Set) : Type 0 where
+  pub tokens : List Token
+  pub cut : AreTokensOf document tokens
+  pub is : IsFirstDocument tokens schema
 
 -- the bytes are those of a script for the one class of a schema
 pub record IsScriptFor (schema : Set) (script bind : List ℕ) (sends : List (List ℕ)) : Type 0 where
@@ -23,47 +26,55 @@ pub record IsScriptFor (schema : Set) (script bind : List ℕ) (sends : List (Li
   pub only : schema.classes ≡ class ∷ []
   pub is : IsScript class.id script bind sends
 
--- the text is what the script comes to whose bytes these are
-pub record IsRun (script text : List ℕ) : Type 0 where
+-- the objects obey their templates after each part of the journal, from none of it to all
+abbrev pub Obeys : Set → List Entry → Type 0
+Obeys schema journal = (before after : List Entry) → journal ≡ before ++ after → IsWellFormedMib schema (replay schema before).objects
+
+-- a line of two dashes
+abbrev pub separator : List ℕ
+separator = 45 ∷ 45 ∷ line_feed
+
+-- The text is the journal of the script, a line of two dashes, and what the one-manager agent places on that journal. Each
+-- entry of the journal may stand where it stands, and every object obeys its templates all along.
+pub record IsPlayed (schema : Set) (bind : List ℕ) (sends : List (List ℕ)) (text : List ℕ) : Type 0 where
+  pub journal : List Entry
+  pub of_script : journal ≡ (played schema (script_lines bind sends)).journal
+  pub legal : IsTrue (is_legal_journal schema journal)
+  pub obeys : Obeys schema journal
+  pub printed : text ≡ journal_text journal ++ (separator ++ outs (replay schema journal))
+
+-- the text is what a script comes to on the records of a document
+pub record IsRun (script document text : List ℕ) : Type 0 where
   pub schema : Set
   pub bind : List ℕ
   pub sends : List (List ℕ)
-  pub read : IsScriptFor schema script bind sends
-  pub run : IsPlayed schema bind sends text
+  pub document_is : IsDocument document schema
+  pub script_is : IsScriptFor schema script bind sends
+  pub played : IsPlayed schema bind sends text
+
+-- a word that may stand in a place doesn't begin with a hyphen
+abbrev pub IsPlace : List ℕ → Type 0
+IsPlace word = slice_index word 0 ≢ 45
 
 -- the words are the command `run` and the names of a script and of a document
-abbrev pub AreRunWords : List (List ℕ) → List ℕ → List ℕ → Type 0
-AreRunWords words script document = words ≡ codes "run" ∷ script ∷ document ∷ []
+pub record AreRunWords (words : List (List ℕ)) (script document : List ℕ) : Type 0 where
+  pub spelt : words ≡ codes "run" ∷ script ∷ document ∷ []
+  pub script_place : IsPlace script
+  pub document_place : IsPlace document
 
--- the text is that of the script in the file which the words name, where the files tell it
+-- the text is what the script in one named file comes to on the document in the other one, where the files are told
 pub record IsRunOf (files : Option (List ℕ → Option (List ℕ))) (words : List (List ℕ)) (text : List ℕ) : Type 0 where
   pub script_name : List ℕ
   pub document_name : List ℕ
   pub named : AreRunWords words script_name document_name
   pub script : List ℕ
+  pub document : List ℕ
   pub script_told : IsFile files script_name script
-  pub run : IsRun script text
+  pub document_told : IsFile files document_name document
+  pub run : IsRun script document text
 
 -- what was written in a call is such a text, where it is told
 pub record Prints (files : Option (List ℕ → Option (List ℕ))) (words : List (List ℕ)) (before after : Option (List ℕ)) : Type 0 where
   pub text : List ℕ
   pub run : IsRunOf files words text
   pub written : after ≡ gained before text
-
--- a file that could not be read raised the count of faults
-abbrev pub HasCause : ℕ → ℕ → Refusal → Type 0
-HasCause before after (FileFault name) = Rose before after
-HasCause before after _ = Unit {0}
-
--- a refusal that no file call caused
-abbrev pub IsNoFileFault : Refusal → Type 0
-IsNoFileFault (FileFault name) = ⊥
-IsNoFileFault _ = Unit {0}
-
--- the status with which the program ends
-abbrev pub status_of : Refusal → ℕ
-status_of (FileFault name) = 3
-status_of (FileTooLarge name) = 10
-status_of (BadDocument line kind) = 4
-status_of (NotBuilt what) = 12
-status_of OutOfMemory = 8

@@ -1,9 +1,11 @@
 //! How a command ends when it is not done: its status, and the line that says why.
 
-ghost use Rattle.std.specs.Prelude.{◌≡◌};
-ghost use Rattle.agent_run.specs.Running.{IsNoFileFault, status_of};
+ghost use Rattle.std.specs.Prelude.{◌≡◌, ◌++◌, IfOk, OnOk};
+ghost use Rattle.term_model.specs.Texts.{line_feed};
+ghost use Rattle.agent_run.specs.Refusing.{bad_document_line, kind_name, line_of, status_of, unbuilt_name};
 
-use std::alloc::{AllocError, AllocFailed, Global};
+use journal_text::texts::write_decimal;
+use std::alloc::{AllocError, Global};
 use text_lex::LexKind;
 
 /// Everything was done and written.
@@ -48,24 +50,13 @@ pub enum Refusal<'a> {
     OutOfMemory,
 }
 
-impl From<AllocError> for Refusal<'_> {
-    ghost from_gives = { λ _ e. IsNoFileFault e };
-
-    fn from(_error: AllocError) -> Self {
-        Refusal::OutOfMemory
-    }
-}
-
-impl<T: Drop> From<AllocFailed<T>> for Refusal<'_> {
-    ghost from_gives = { λ _ e. IsNoFileFault e };
-
-    fn from(_error: AllocFailed<T>) -> Self {
-        Refusal::OutOfMemory
-    }
-}
+/// The byte that ends each line.
+const LINE_FEED: u8 = 10;
 
 /// The name of a fault of the tokens.
-fn kind_name(kind: LexKind) -> &'static str {
+fn kind_name(kind: LexKind) -> &'static str
+    ensures { result.now ≡ kind_name kind }
+{
     match kind {
         LexKind::BadByte => "BadByte",
         LexKind::OpenString => "OpenString",
@@ -74,9 +65,39 @@ fn kind_name(kind: LexKind) -> &'static str {
     }
 }
 
+/// The name of what is not built.
+fn unbuilt_name(what: Unbuilt) -> &'static str
+    ensures { result.now ≡ unbuilt_name what }
+{
+    match what {
+        Unbuilt::Command => "command",
+        Unbuilt::Document => "document",
+        Unbuilt::Script => "script",
+    }
+}
+
+/// Appends a word, and what stands behind it up to the end of the line.
+fn write_line(word: &str, rest: &str, into: &mut Vec<u8>) -> Result<(), AllocError>
+    ensures { OnOk result (into.new.items ≡ into.old.items ++ (word.now ++ (rest.now ++ line_feed))) }
+{
+    into.extend_from_slice(word.as_bytes())?;
+    into.extend_from_slice(rest.as_bytes())?;
+    into.push(LINE_FEED)?;
+    Ok(())
+}
+
+/// Appends the line of a fault in the tokens of a document.
+fn write_bad_document(line: u64, kind: LexKind, into: &mut Vec<u8>) -> Result<(), AllocError>
+    ensures { OnOk result (into.new.items ≡ into.old.items ++ bad_document_line line kind) }
+{
+    into.extend_from_slice(b"bad document 1 ")?;
+    write_decimal(line, into)?;
+    write_line(" ", kind_name(kind), into)
+}
+
 impl Refusal<'_> {
     /// The status with which the program ends.
-    pub fn status(&self) -> u8
+    pub(crate) fn status(&self) -> u8
         ensures { result ≡ status_of self.now }
     {
         match self {
@@ -89,18 +110,17 @@ impl Refusal<'_> {
     }
 
     /// The line that is printed last.
-    pub fn line(&self, alloc: Global) -> Result<String, AllocError> {
+    pub(crate) fn line(&self, alloc: Global) -> Result<Vec<u8>, AllocError>
+        ensures { IfOk result (λ line. line.items ≡ line_of self.now) }
+    {
+        let mut line = Vec::new(alloc);
         match self {
-            Refusal::FileFault(name) => format!(in alloc; "file {name}\n"),
-            Refusal::FileTooLarge(name) => format!(in alloc; "too large {name}\n"),
-            Refusal::BadDocument(line, kind) => {
-                let name = kind_name(*kind);
-                format!(in alloc; "bad document 1 {line} {name}\n")
-            }
-            Refusal::NotBuilt(Unbuilt::Command) => String::from_str(alloc, "not built command\n"),
-            Refusal::NotBuilt(Unbuilt::Document) => String::from_str(alloc, "not built document\n"),
-            Refusal::NotBuilt(Unbuilt::Script) => String::from_str(alloc, "not built script\n"),
-            Refusal::OutOfMemory => String::from_str(alloc, "memory\n"),
+            Refusal::FileFault(name) => write_line("file ", name, &mut line)?,
+            Refusal::FileTooLarge(name) => write_line("too large ", name, &mut line)?,
+            Refusal::BadDocument(number, kind) => write_bad_document(*number, *kind, &mut line)?,
+            Refusal::NotBuilt(what) => write_line("not built ", unbuilt_name(*what), &mut line)?,
+            Refusal::OutOfMemory => write_line("memory", "", &mut line)?,
         }
+        Ok(line)
     }
 }

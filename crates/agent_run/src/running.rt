@@ -1,29 +1,37 @@
 //! The top call: the words of a command line, the files that they name, and what is written.
 
-ghost use Rattle.std.specs.Prelude.{◌≡◌, ◌≢◌, ◌⊎◌, ◌≤◌, map, string_bytes, IfErr, IfOk, IsSome};
+ghost use Rattle.std.specs.Prelude.{◌≡◌, ◌≢◌, ◌⊎◌, ◌≤◌, ◌∷◌, [], Contains, map, string_bytes, IfErr, IfOk, IsSome};
 ghost use Rattle.agent_bytes.specs.Faults.{Rose};
 ghost use Rattle.agent_bytes.specs.Told.{IsFile, gained};
-ghost use Rattle.agent_run.specs.Running.{HasCause, IsNoFileFault, IsPlayed, IsRun, IsRunOf, IsScriptFor, Prints, status_of};
+ghost use Rattle.agent_run.specs.Answers.{EndsByBadDocument, EndsByFileFault, EndsByFileTooLarge, EndsByNotBuilt, IsRunnable};
+ghost use Rattle.agent_run.specs.Refusing.{HasCause, HasDocumentCause, HasFileCause, HasRunCause, HasScriptCause, line_of, line_of_place, memory_line, status_of};
+ghost use Rattle.agent_run.specs.Running.{IsDocument, IsPlayed, IsRun, IsRunOf, IsScriptFor, Prints};
+ghost use Rattle.term_model.specs.declared.schema.Set.{Set};
+ghost use Rattle.term_model.specs.AgentState.{start};
 ghost use Rattle.term_model.specs.Bind.{title_in};
+ghost use Rattle.term_model.specs.WellFormedMib.{IsWellFormedMib};
 
-use crate::refusal::{DONE, FILE_FAULT, OUT_OF_MEMORY, Refusal, Unbuilt, WRITE_FAULT};
+use crate::refusal::{
+    BAD_DOCUMENT, DONE, FILE_FAULT, FILE_TOO_LARGE, NOT_BUILT, OUT_OF_MEMORY, Refusal, Unbuilt, WRITE_FAULT,
+};
 use crate::words::read_words;
 use agent_bytes::{FileRefusal, Files, Sink, write_all};
-use first_document::document::read_document;
-use first_document::document_refusal::DocumentRefusal;
-use first_script::script_form::{Script, read_script};
-use first_script::script_refusal::ScriptRefusal;
+use first_document::{DocumentRefusal, read_document};
+use first_script::{Script, ScriptRefusal, read_script};
 use journal_text::texts::run_text;
 use one_manager_agent::playing::perform_script;
 use std::alloc::{AllocError, Global};
 use term_model::Set;
-use text_lex::{LexRefusal, Token, lex};
+use text_lex::{LexRefusal, lex};
 
 /// The most bytes of a document.
 const MOST_DOCUMENT: u64 = 4_194_304;
 
 /// The most bytes of a script.
 const MOST_SCRIPT: u64 = 16_777_216;
+
+/// The byte that ends each line.
+const LINE_FEED: u8 = 10;
 
 /// The line printed where there is no memory for another one.
 const MEMORY_LINE: &[u8] = b"memory\n";
@@ -37,7 +45,7 @@ fn read_file<'a, F: Files>(
 ) -> Result<Vec<u8>, Refusal<'a>>
     ensures told { IfOk result (λ bytes. IsFile (F.files files.old) name.now bytes.items) }
     ensures same { F.files files.new ≡ F.files files.old }
-    ensures cause { IfErr result (HasCause (F.faults files.old) (F.faults files.new)) }
+    ensures cause { IfErr result (HasFileCause (F.files files.old) name.now limit (F.faults files.old) (F.faults files.new)) }
     ensures counted { F.faults files.old ≤ F.faults files.new }
 {
     match files.read_file(alloc, name, limit) {
@@ -49,42 +57,37 @@ fn read_file<'a, F: Files>(
 }
 
 /// The line of a place in a text, counted from 1.
-fn line_of(text: &[u8], at: usize) -> u64 {
-    let end = at.min(text.len());
-    text[..end].iter().filter(|byte| **byte == b'\n').count() as u64 + 1
-}
-
-/// What is left of a text that was not read.
-fn not_built<'a>(fault: NotRead, what: Unbuilt) -> Refusal<'a>
-    ensures { IsNoFileFault result }
+fn line_of(text: &[u8], at: usize) -> u64
+    ensures { result ≡ line_of_place text.now at }
 {
-    match fault {
-        NotRead::Outside => Refusal::NotBuilt(what),
-        NotRead::Memory => Refusal::OutOfMemory,
+    let before = if at < text.len() { &text[..at] } else { text };
+    let mut line = 1u64;
+    for octet in before {
+        if *octet == LINE_FEED {
+            line += 1;
+        }
     }
-}
-
-/// The records that the tokens of a document define.
-fn read_records(alloc: Global, tokens: &[Token]) -> Result<Set, NotRead> {
-    let form = read_first_form(alloc, tokens)?;
-    first_records(alloc, form)
+    line
 }
 
 /// The records of a document.
-fn read_document<'a>(alloc: Global, document: &[u8]) -> Result<Set, Refusal<'a>>
-    ensures { IfErr result IsNoFileFault }
+fn read_schema<'a>(alloc: Global, document: &[u8]) -> Result<Set, Refusal<'a>>
+    ensures found { IfOk result (IsDocument document.now) }
+    ensures only { IfOk result (λ schema. (other : Set) → IsDocument document.now other → other ≡ schema) }
+    ensures opening { IfOk result (λ schema. IsWellFormedMib schema (start schema).objects) }
+    ensures cause { IfErr result (HasDocumentCause document.now) }
 {
     let tokens = match lex(alloc, document) {
         Ok(tokens) => tokens,
-        Err(LexRefusal::Fault { at, kind }) => return Err(Refusal::BadDocument(
-            line_of(document, at as usize),
-            kind,
-        )),
+        Err(LexRefusal::Fault { at, kind }) => {
+            return Err(Refusal::BadDocument(line_of(document, at as usize), kind));
+        }
         Err(LexRefusal::Memory) => return Err(Refusal::OutOfMemory),
     };
-    match read_records(alloc, &tokens) {
+    match read_document(alloc, &tokens) {
         Ok(schema) => Ok(schema),
-        Err(fault) => Err(not_built(fault, Unbuilt::Document)),
+        Err(DocumentRefusal::Outside) => Err(Refusal::NotBuilt(Unbuilt::Document)),
+        Err(DocumentRefusal::Memory) => Err(Refusal::OutOfMemory),
     }
 }
 
@@ -92,12 +95,13 @@ fn read_document<'a>(alloc: Global, document: &[u8]) -> Result<Set, Refusal<'a>>
 fn read_script_for<'a>(alloc: Global, text: &[u8], schema: &Set) -> Result<Script, Refusal<'a>>
     ensures found { IfOk result (λ script. IsScriptFor schema.now text.now script.bind script.sends.items) }
     ensures bound { IfOk result (λ script. IsSome (title_in script.bind)) }
-    ensures cause { IfErr result IsNoFileFault }
+    ensures cause { IfErr result (HasScriptCause schema.now text.now) }
 {
     match schema.classes.items.as_slice() {
         [class] => match read_script(alloc, text, &class.id) {
             Ok(script) => Ok(script),
-            Err(fault) => Err(not_built(fault, Unbuilt::Script)),
+            Err(ScriptRefusal::Outside) => Err(Refusal::NotBuilt(Unbuilt::Script)),
+            Err(ScriptRefusal::Memory) => Err(Refusal::OutOfMemory),
         },
         _ => Err(Refusal::NotBuilt(Unbuilt::Script)),
     }
@@ -106,18 +110,19 @@ fn read_script_for<'a>(alloc: Global, text: &[u8], schema: &Set) -> Result<Scrip
 /// What `run` prints of a script that is played on a schema.
 fn play(alloc: Global, schema: Set, script: Script) -> Result<Vec<u8>, AllocError>
     requires { IsSome (title_in script.bind) }
+    requires { IsWellFormedMib schema (start schema).objects }
     ensures { IfOk result (λ text. IsPlayed schema script.bind script.sends.items text.items) }
 {
-    let played = perform_script(alloc, schema, script)?;
+    let played = perform_script(alloc, schema, script.bind, script.sends)?;
     run_text(alloc, &played.journal, &played.agent)
 }
 
 /// What `run` prints of a script and a document.
 fn run<'a>(alloc: Global, script: &[u8], document: &[u8]) -> Result<Vec<u8>, Refusal<'a>>
-    ensures text { IfOk result (λ text. IsRun script.now text.items) }
-    ensures cause { IfErr result IsNoFileFault }
+    ensures text { IfOk result (λ text. IsRun script.now document.now text.items) }
+    ensures cause { IfErr result (HasRunCause script.now document.now) }
 {
-    let schema = read_document(alloc, document)?;
+    let schema = read_schema(alloc, document)?;
     let script = read_script_for(alloc, script, &schema)?;
     match play(alloc, schema, script) {
         Ok(text) => Ok(text),
@@ -132,7 +137,7 @@ fn prepare<'a, F: Files>(
     files: &mut F,
 ) -> Result<Vec<u8>, Refusal<'a>>
     ensures text { IfOk result (λ text. IsRunOf (F.files files.old) (map string_bytes words.now) text.items) }
-    ensures cause { IfErr result (HasCause (F.faults files.old) (F.faults files.new)) }
+    ensures cause { IfErr result (HasCause (F.files files.old) (map string_bytes words.now) (F.faults files.old) (F.faults files.new)) }
 {
     let places = match read_words(words) {
         Some(places) => places,
@@ -156,13 +161,15 @@ fn put<O: Sink>(out: &mut O, text: &[u8], status: u8) -> u8
     }
 }
 
-/// Writes the line of a refusal, and answers its status.
+/// Writes the line of a refusal, and answers its status. Where there is no memory for the line it is that of want of memory.
 fn refuse<O: Sink>(alloc: Global, refusal: &Refusal<'_>, out: &mut O) -> u8
     ensures status { result ≡ status_of refusal.now ⊎ (result ≡ OUT_OF_MEMORY ⊎ result ≡ WRITE_FAULT) }
+    ensures line { result ≢ OUT_OF_MEMORY → result ≢ WRITE_FAULT → O.contents out.new ≡ gained (O.contents out.old) (line_of refusal.now) }
+    ensures memory { result ≡ OUT_OF_MEMORY → O.contents out.new ≡ gained (O.contents out.old) memory_line }
     ensures fault { result ≡ WRITE_FAULT → Rose (O.faults out.old) (O.faults out.new) }
 {
     match refusal.line(alloc) {
-        Ok(line) => put(out, line.as_bytes(), refusal.status()),
+        Ok(line) => put(out, &line, refusal.status()),
         Err(_) => put(out, MEMORY_LINE, OUT_OF_MEMORY),
     }
 }
@@ -171,20 +178,36 @@ fn refuse<O: Sink>(alloc: Global, refusal: &Refusal<'_>, out: &mut O) -> u8
 ///
 /// The words are `run SCRIPT DOC`: the files are read in this order, the script is played on the document's objects, and the
 /// journal, a line of two dashes, a line `out A HEX` for each association and a line `objects N` are written to `out`. With
-/// another status than 0 and 6 one line is written that says why.
+/// another status than 0 and 6 one line is written that says why. A call of the files that fails ends the run with 3, a file
+/// past its limit with 10, a document that is no tokens with 4, words, a document or a script outside their forms with 12, a
+/// failed write with 6, and want of memory with 8.
 pub fn agent<R: AllocGlobal, F: Files, O: Sink>(
     rt: &R,
     words: &[String],
     files: &mut F,
     out: &mut O,
 ) -> u8
-    // What was written is what the named script comes to on a schema: its journal, and what the agent placed.
+    // What was written is what the named script comes to on the named document: its journal, and what the agent placed.
     ensures printed { result ≡ DONE
         → Prints (F.files files.old) (map string_bytes words.now) (O.contents out.old) (O.contents out.new) }
 
-    // A fault comes only where the count rose in this call.
-    ensures file_fault { result ≡ FILE_FAULT → Rose (F.faults files.old) (F.faults files.new) }
+    // Each other status has its cause, and its line was written.
+    ensures file_fault { result ≡ FILE_FAULT
+        → EndsByFileFault (map string_bytes words.now) (F.faults files.old) (F.faults files.new) (O.contents out.old) (O.contents out.new) }
+    ensures too_large { result ≡ FILE_TOO_LARGE
+        → EndsByFileTooLarge (F.files files.old) (map string_bytes words.now) (O.contents out.old) (O.contents out.new) }
+    ensures bad_document { result ≡ BAD_DOCUMENT
+        → EndsByBadDocument (F.files files.old) (map string_bytes words.now) (O.contents out.old) (O.contents out.new) }
+    ensures not_built { result ≡ NOT_BUILT
+        → EndsByNotBuilt (F.files files.old) (map string_bytes words.now) (O.contents out.old) (O.contents out.new) }
+    ensures memory { result ≡ OUT_OF_MEMORY → O.contents out.new ≡ gained (O.contents out.old) memory_line }
     ensures write_fault { result ≡ WRITE_FAULT → Rose (O.faults out.old) (O.faults out.new) }
+    ensures statuses { Contains (DONE ∷ FILE_FAULT ∷ BAD_DOCUMENT ∷ WRITE_FAULT ∷ OUT_OF_MEMORY ∷ FILE_TOO_LARGE ∷ NOT_BUILT ∷ []) result }
+
+    // Where words and files are in their forms and no call failed, everything was written, or there was no memory.
+    ensures complete { IsRunnable (F.files files.old) (map string_bytes words.now)
+        → (Rose (F.faults files.old) (F.faults files.new) → ⊥) → (Rose (O.faults out.old) (O.faults out.new) → ⊥)
+        → result ≡ DONE ⊎ result ≡ OUT_OF_MEMORY }
 {
     let alloc = rt.alloc();
     match prepare(alloc, words, files) {

@@ -3,3 +3,6 @@
 
 pub mod script_form;
 pub mod script_refusal;
+
+pub use script_form::{Script, read_script};
+pub use script_refusal::ScriptRefusal;

@@ -14,7 +14,8 @@ const LINE_FEED: u8 = 10;
 /// The line between the journal and what it comes to.
 const SEPARATOR: &[u8] = b"--\n";
 
-fn write_decimal(number: u64, into: &mut Vec<u8>) -> Result<(), AllocError>
+/// Appends a number in decimal digits, without leading zeros.
+pub fn write_decimal(number: u64, into: &mut Vec<u8>) -> Result<(), AllocError>
     ensures { OnOk result (into.new.items ≡ into.old.items ++ decimal number) }
 {
     let mut buffer = Buffer::new();
