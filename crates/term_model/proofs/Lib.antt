@@ -3,3 +3,4 @@ mod StandardFacts
 pub mod HistoryLaws
 pub mod ScriptLaws
 pub mod StepLaws
+pub mod TextLaws

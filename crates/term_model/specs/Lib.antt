@@ -12,4 +12,5 @@ pub mod Played
 pub mod RemoteOperation
 pub mod Rising
 pub mod Step
+pub mod TextLaws
 pub mod Texts
