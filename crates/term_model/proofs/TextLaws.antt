@@ -1,5 +1,5 @@
 -- Each line of a journal ends at its own line feed and tells its entry, so different journals have different texts.
-use Rattle.std.proofs.Common.{◌≡◌, ℕ, suc, ◌<◌, ◌≤◌, ◌^◌, ◌/◌, ◌%◌, Bool, true, false, List, [], ◌∷◌, ◌++◌, length, get_or, drop, slice_index, Option, Some, None, Ok, refl, sym, ap, ◌∙◌, append_assoc, arith}
+use Rattle.std.proofs.Common.{◌≡◌, ℕ, suc, ◌<◌, ◌/◌, ◌%◌, Bool, true, false, List, [], ◌∷◌, ◌++◌, get_or, drop, slice_index, Option, Some, None, refl, sym, ap, ◌∙◌, append_assoc, arith}
 use Rattle.std.specs.Prelude.{◌==◌, ◌&&◌, codes, decimal, nat_lt, nat_le, if◌then◌else◌}
 use Rattle.std.specs.List.{All}
 use Rattle.std.specs.Option.{option_map_or}
@@ -222,20 +222,35 @@ one_tail (Some t) (Some u) r s ht hu e =
     let p = one_end 10 t u (10 ∷ r) (10 ∷ s) ht hu refl refl (ap (λ l. drop 1 l) e) in
     (ap Some p.0, ap (λ l. drop 1 l) p.1)
 
+same_parts : (e f : Entry) → IsEntry e → IsEntry f → word e ≡ word f → number_of e ≡ number_of f → text_of e ≡ text_of f → e ≡ f
+same_parts e f is_e is_f words numbers texts =
+    sym (entry_is_read e is_e)
+    ∙ (ap (λ w. entry_read w (number_of e) (text_of e)) words
+    ∙ (ap (λ n. entry_read (word f) n (text_of e)) numbers
+    ∙ (ap (λ t. entry_read (word f) (number_of f) t) texts
+    ∙ entry_is_read f is_f)))
+
+same_number : (m n : ℕ) → IsNumber m → IsNumber n → decimal m ≡ decimal n → m ≡ n
+same_number m n is_m is_n e = sym (decimal_read m is_m) ∙ (ap (digits_value 10) e ∙ decimal_read n is_n)
+
+one_word_end : (e f : Entry) (p q : List ℕ) → word e ++ 32 ∷ p ≡ word f ++ 32 ∷ q → (word e ≡ word f) × (32 ∷ p ≡ 32 ∷ q)
+one_word_end e f p q same = one_end 32 (word e) (word f) (32 ∷ p) (32 ∷ q) (word_above e) (word_above f) refl refl same
+
+one_number_end : (m n : ℕ) (t u : Option (List ℕ)) (r s : List ℕ) → IsNumber m → IsNumber n → decimal m ++ tail t r ≡ decimal n ++ tail u s → (decimal m ≡ decimal n) × (tail t r ≡ tail u s)
+one_number_end m n t u r s is_m is_n same =
+    one_end 32 (decimal m) (decimal n) (tail t r) (tail u s)
+    (decimal_above 32 m (omega arith) is_m) (decimal_above 32 n (omega arith) is_n)
+    (tail_stops t r) (tail_stops u s) same
+
 one_line : (e f : Entry) (r s : List ℕ) → IsEntry e → IsEntry f → line e ++ r ≡ line f ++ s → (e ≡ f) × (r ≡ s)
 one_line e f r s is_e is_f same =
-    let words = one_end 32 (word e) (word f) (32 ∷ (decimal (number_of e) ++ tail (text_of e) r)) (32 ∷ (decimal (number_of f) ++ tail (text_of f) s)) (word_above e) (word_above f) refl refl (sym (line_then e r) ∙ (same ∙ line_then f s)) in
-    let numbers = one_end 32 (decimal (number_of e)) (decimal (number_of f)) (tail (text_of e) r) (tail (text_of f) s) (decimal_above 32 (number_of e) (omega arith) (number_is e is_e)) (decimal_above 32 (number_of f) (omega arith) (number_is f is_f)) (tail_stops (text_of e) r) (tail_stops (text_of f) s) (ap (λ l. drop 1 l) words.1) in
+    let m = number_is e is_e in
+    let n = number_is f is_f in
+    let words = one_word_end e f (decimal (number_of e) ++ tail (text_of e) r) (decimal (number_of f) ++ tail (text_of f) s) (sym (line_then e r) ∙ (same ∙ line_then f s)) in
+    let numbers = one_number_end (number_of e) (number_of f) (text_of e) (text_of f) r s m n (ap (λ l. drop 1 l) words.1) in
     let texts = one_tail (text_of e) (text_of f) r s (text_is_above e is_e) (text_is_above f is_f) numbers.1 in
-    let number : number_of e ≡ number_of f = sym (decimal_read (number_of e) (number_is e is_e)) ∙ (ap (digits_value 10) numbers.0 ∙ decimal_read (number_of f) (number_is f is_f)) in
-    (
-      sym (entry_is_read e is_e)
-      ∙ (ap (λ w. entry_read w (number_of e) (text_of e)) words.0
-      ∙ (ap (λ n. entry_read (word f) n (text_of e)) number
-      ∙ (ap (λ t. entry_read (word f) (number_of f) t) texts.0
-      ∙ entry_is_read f is_f))),
-      texts.1,
-    )
+    let number = same_number (number_of e) (number_of f) m n numbers.0 in
+    (same_parts e f is_e is_f words.0 number texts.0, texts.1)
 
 -- a line begins with a letter, and the line of dashes does not
 begins_with_letter : (e : Entry) (r : List ℕ) → 96 < get_or (line e ++ r) 0 0
@@ -247,22 +262,26 @@ begins_with_letter (entry.Taken number count) r = omega arith
 begins_with_letter (entry.Finished number) r = omega arith
 begins_with_letter (entry.Closed number cause) r = omega arith
 
-no_dash : (e : Entry) (a r s : List ℕ) → 45 ∷ s ≡ (line e ++ a) ++ r → ⊥
-no_dash e a r s same =
-    let letter = begins_with_letter e (a ++ r) in
-    let dash : 45 ≡ get_or (line e ++ (a ++ r)) 0 0 = ap (λ l. get_or l 0 0) (same ∙ append_assoc (line e) a r) in
+-- a text, the line of two dashes, and what follows
+abbrev printed : List ℕ → List ℕ → List ℕ
+printed text r = text ++ ((45 ∷ 45 ∷ line_feed) ++ r)
+
+no_dash : (e : Entry) (text r s : List ℕ) → printed [] s ≡ printed (line e ++ text) r → ⊥
+no_dash e text r s same =
+    let letter = begins_with_letter e (printed text r) in
+    let dash : 45 ≡ get_or (line e ++ printed text r) 0 0 = ap (λ l. get_or l 0 0) (same ∙ append_assoc (line e) text ((45 ∷ 45 ∷ line_feed) ++ r)) in
     absurd (omega arith)
 
-pub print_tells_journal : (xs ys : List Entry) (r s : List ℕ) → All IsEntry xs → All IsEntry ys → journal_text xs ++ ((45 ∷ 45 ∷ line_feed) ++ r) ≡ journal_text ys ++ ((45 ∷ 45 ∷ line_feed) ++ s) → (xs ≡ ys) × (r ≡ s)
+pub print_tells_journal : (xs ys : List Entry) (r s : List ℕ) → All IsEntry xs → All IsEntry ys → printed (journal_text xs) r ≡ printed (journal_text ys) s → (xs ≡ ys) × (r ≡ s)
 print_tells_journal [] [] r s hx hy e = (refl, ap (λ l. drop 3 l) e)
-print_tells_journal [] (y ∷ ys) r s hx hy e = absurd (no_dash y (journal_text ys) ((45 ∷ 45 ∷ line_feed) ++ s) (45 ∷ line_feed ++ r) e)
-print_tells_journal (x ∷ xs) [] r s hx hy e = absurd (no_dash x (journal_text xs) ((45 ∷ 45 ∷ line_feed) ++ r) (45 ∷ line_feed ++ s) (sym e))
+print_tells_journal [] (y ∷ ys) r s hx hy e = absurd (no_dash y (journal_text ys) s r e)
+print_tells_journal (x ∷ xs) [] r s hx hy e = absurd (no_dash x (journal_text xs) r s (sym e))
 print_tells_journal (x ∷ xs) (y ∷ ys) r s hx hy e =
-    let p = (journal_text xs ++ ((45 ∷ 45 ∷ line_feed) ++ r)) in
-    let q = (journal_text ys ++ ((45 ∷ 45 ∷ line_feed) ++ s)) in
-    let first = one_line x y p q (All-head IsEntry x xs hx) (All-head IsEntry y ys hy) (sym (append_assoc (line x) (journal_text xs) ((45 ∷ 45 ∷ line_feed) ++ r)) ∙ (e ∙ append_assoc (line y) (journal_text ys) ((45 ∷ 45 ∷ line_feed) ++ s))) in
-    let more = print_tells_journal xs ys r s (All-tail IsEntry x xs hx) (All-tail IsEntry y ys hy) first.1 in
-    (ap (λ z. z ∷ xs) first.0 ∙ ap (λ zs. y ∷ zs) more.0, more.1)
+    let left = append_assoc (line x) (journal_text xs) ((45 ∷ 45 ∷ line_feed) ++ r) in
+    let right = append_assoc (line y) (journal_text ys) ((45 ∷ 45 ∷ line_feed) ++ s) in
+    let head = one_line x y (printed (journal_text xs) r) (printed (journal_text ys) s) (All-head IsEntry x xs hx) (All-head IsEntry y ys hy) (sym left ∙ (e ∙ right)) in
+    let more = print_tells_journal xs ys r s (All-tail IsEntry x xs hx) (All-tail IsEntry y ys hy) head.1 in
+    (ap (λ z. z ∷ xs) head.0 ∙ ap (λ zs. y ∷ zs) more.0, more.1)
 
 pub texts_differ : (xs ys : List Entry) → All IsEntry xs → All IsEntry ys → journal_text xs ≡ journal_text ys → xs ≡ ys
-texts_differ xs ys hx hy e = (print_tells_journal xs ys [] [] hx hy (ap (λ l. l ++ ((45 ∷ 45 ∷ line_feed) ++ [])) e)).0
+texts_differ xs ys hx hy e = (print_tells_journal xs ys [] [] hx hy (ap (λ text. printed text []) e)).0
