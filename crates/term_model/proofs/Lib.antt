@@ -1,5 +1,7 @@
 pub mod RisingLaws
 mod StandardFacts
 pub mod HistoryLaws
+pub mod ObjectLaws
 pub mod ScriptLaws
 pub mod StepLaws
+pub mod TextLaws

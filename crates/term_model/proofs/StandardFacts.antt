@@ -1,19 +1,25 @@
--- Worked runs, computed from the definitions alone: a Get of the root, and a Get of an object that is not there.
-use Rattle.std.specs.Prelude.{◌≡◌, ℕ, pos, true, false, List, [], ◌∷◌, codes, refl}
+-- Worked runs, computed from the definitions alone: a Get of the root, and a Get of an object that is not there. Then which
+-- entries the program can hold, at the bounds.
+use Rattle.std.specs.Prelude.{◌≡◌, ℕ, zero, suc, ◌<◌, pos, true, false, List, [], ◌∷◌, codes, refl}
 use Rattle.std.specs.Fmt.{digits}
-use Rattle.hex.specs.Hex.{encode_with}
+use Rattle.std.proofs.Common.{arith}
+use Rattle.hex.specs.Hex.{IsBytes, encode_with}
 use Rattle.term_values.specs.Typed.TypeSyntax.{Integer}
 use Rattle.term_values.specs.Typed.TypedValue.{Int}
 use Rattle.term_values.specs.Oid.{subidentifier, oid_in}
 use Rattle.term_values.specs.Octets.{integer_contents, integer_in}
 use Rattle.term_values.specs.Der.{identifier_octets, length_octets}
 use Rattle.term_values.specs.BerReading.{identifier_of, length_at, front_of}
+use Rattle.term_model.specs.declared.entry.Entry.TheVariants as entry
+use Rattle.term_model.specs.declared.entry.Why.TheVariants as why
 use Rattle.term_model.specs.declared.schema.Set.{Set}
 use Rattle.term_model.specs.declared.schema.Rules.{Rules}
 use Rattle.term_model.specs.Moment.{moment_text}
 use Rattle.term_model.specs.Played.{played, run_text}
 use Rattle.term_model.specs.Played.ScriptLine.{Open, Send}
 use Rattle.term_model.specs.Step.{step}
+use Rattle.term_model.specs.Texts.{line}
+use Rattle.term_model.specs.TextLaws.{IsEntry}
 
 -- 2.999.3.1 and the attributes 2.999.7.1 and 2.999.7.2 of an element
 abbrev element : List ℕ
@@ -69,3 +75,25 @@ run_of_five = refl
 end_of_9998 : moment_text 253370764799 ≡ codes "99981231235959Z"
 unfolding moment_text
 end_of_9998 = refl
+
+-- the line of an association that is closed for a bad frame
+bad_frame_line : line (entry.Closed 1 (why.BadFrame 12)) ≡ codes "closed 1 badframe 12\n"
+unfolding digits
+bad_frame_line = refl
+
+-- a number has 64 bits, and an octet 8
+greatest_number : IsEntry (entry.Closed 1 (why.BadFrame 18446744073709551615))
+greatest_number = (omega arith, omega arith)
+
+number_too_great : IsEntry (entry.Committed 18446744073709551616) → ⊥
+number_too_great is = omega arith
+
+octet_of_one : IsBytes (255 ∷ [])
+octet_of_one zero = omega arith
+octet_of_one (suc i) = omega arith
+
+greatest_octet : IsEntry (entry.Opened 1 (255 ∷ []))
+greatest_octet = (omega arith, octet_of_one)
+
+octet_too_great : IsEntry (entry.Opened 1 (256 ∷ [])) → ⊥
+octet_too_great is = let fits : 256 < 256 = is.1 0 in omega arith

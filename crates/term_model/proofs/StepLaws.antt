@@ -9,19 +9,16 @@ use Rattle.std.proofs.lemmas.List.{length-set, get_or-set_same, set_at}
 use Rattle.term_model.specs.declared.agent_state.AgentState.{AgentState}
 use Rattle.term_model.specs.declared.agent_state.Association.{Association}
 use Rattle.term_model.specs.declared.agent_state.AssociationState.TheVariants as standing
-use Rattle.term_model.specs.declared.agent_state.NamedObject.{NamedObject}
 use Rattle.term_model.specs.declared.agent_state.Operation.{Operation}
 use Rattle.term_model.specs.declared.agent_state.OperationState.{OperationState}
 use Rattle.term_model.specs.declared.agent_state.OperationState.TheVariants as operation
 use Rattle.term_model.specs.declared.entry.Entry.{Entry}
 use Rattle.term_model.specs.declared.entry.Entry.TheVariants as entry
 use Rattle.term_model.specs.declared.entry.Why.TheVariants as why
-use Rattle.term_model.specs.declared.request.Request.{Request}
-use Rattle.term_model.specs.declared.request.Request.TheVariants.{Get}
-use Rattle.term_model.specs.declared.schema.Set.{Set}
 use Rattle.term_model.specs.AgentState.{association_of, operation_of, numbered, outstanding, left_to_take, granted_moment, is_finished_state, is_closed_state, is_waiting_state, is_ended_state}
 use Rattle.term_model.specs.Operation.{exec}
 use Rattle.term_model.specs.Step.{is_legal, effect, counted, step, may_take, may_close, last_moment, changed_association, changed_operation, ended_with, performed, reply_bytes, with_placed, with_state, with_taken}
+use Rattle.term_model.proofs.ObjectLaws.{exec_objects}
 
 -- a legal entry does what it does, and is counted
 pub step_legal : (agent : AgentState) (next : Entry) → is_legal agent next ≡ true → step agent next ≡ counted (effect agent next)
@@ -150,9 +147,6 @@ committed_at agent number moment o is at =
     ∙ (ap (λ q. counted (option_map_or (λ (p : Operation). option_map_or (performed agent number p) (granted_moment p.state) agent) q agent)) is
     ∙ ap (λ m. counted (option_map_or (performed agent number o) m agent)) at)
 
-exec_objects : (schema : Set) (objects : List NamedObject) (request : Request) (moment : ℕ) → objects ≡ (exec schema objects request moment).objects
-exec_objects schema objects (Get head) moment = refl
-
 -- a Get changes no object
 pub performed_as : (agent : AgentState) (number moment : ℕ) (o : Operation) (octets : List ℕ) → octets ≡ reply_bytes o (exec agent.schema agent.objects o.request moment)
     → record agent { associations = changed_association agent.associations o.association (with_placed octets); operations = changed_operation agent.operations number (operation.Ended agent.entries) } ≡ performed agent number o moment
@@ -162,7 +156,7 @@ performed_as agent number moment o octets e =
       objects = xs;
       associations = changed_association agent.associations o.association (with_placed (reply_bytes o (exec agent.schema agent.objects o.request moment)));
       operations = changed_operation agent.operations number (operation.Ended agent.entries);
-    }) (exec_objects agent.schema agent.objects o.request moment)
+    }) (sym (exec_objects agent.schema agent.objects o.request moment))
 
 -- after its grant an operation is granted
 pub granted_then : (agent : AgentState) (number moment : ℕ) → is_legal agent (entry.Granted number moment) ≡ true → option_and_then (λ (o : Operation). granted_moment o.state) (operation_of (step agent (entry.Granted number moment)) number) ≡ Some moment

@@ -1,15 +1,12 @@
 -- The exchange that opens an association: BIND ::= SEQUENCE { title OBJECT IDENTIFIER }, and its answer
 -- SEQUENCE { ENUMERATED { accepted(0), titleInUse(1), badBind(2), tooMany(3) }, INTEGER association }.
-use Rattle.std.specs.Prelude.{ℕ, pos, List, ◌++◌, true, false, ◌&&◌, if◌then◌else◌, Option, None, option_and_then}
+use Rattle.std.specs.Prelude.{ℕ, pos, List, ◌++◌, true, false, Option, option_and_then}
 use Rattle.term_values.specs.declared.tag.TheConstants.Tag.{ENUMERATED, OBJECT_IDENTIFIER, SEQUENCE}
 use Rattle.term_values.specs.BerReading.{tree_in}
 use Rattle.term_values.specs.Der.{encoded}
 use Rattle.term_values.specs.Octets.{integer_contents}
-use Rattle.term_values.specs.Oid.{oid_contents, oid_in}
-use Rattle.term_values.specs.Tag.{is_same_tag}
+use Rattle.term_values.specs.Oid.{oid_contents}
 use Rattle.term_values.specs.Tree.{TreeValue}
-use Rattle.term_values.specs.Tree.TreeValue.{Primitive, Constructed}
-use Rattle.term_values.specs.Tree.TreeValues.{Nothing, Then}
 use Rattle.term_model.specs.Parts.{oid_under, one_under}
 use Rattle.term_model.specs.RemoteOperation.{integer}
 

@@ -1,16 +1,15 @@
 -- The argument of m-Get, SEQUENCE { ObjectClass, ObjectInstance }, with the class in globalForm [0] and the instance in
 -- localDistinguishedName [4]: X.711, section 7.4.
-use Rattle.std.specs.Prelude.{ℕ, ℤ, pos, List, [], ◌∷◌, ◌++◌, true, false, ◌&&◌, if◌then◌else◌, Option, None, Some, option_and_then, flat_map}
+use Rattle.std.specs.Prelude.{ℕ, ℤ, pos, List, [], ◌∷◌, ◌++◌, true, false, if◌then◌else◌, Option, None, Some, option_and_then, flat_map}
 use Rattle.std.specs.Option.{option_map}
 use Rattle.std.specs.Ordering.{int_eq}
 use Rattle.term_values.specs.declared.tag.Tag.{Tag}
 use Rattle.term_values.specs.declared.tag.TheConstants.Tag.{OBJECT_IDENTIFIER, SEQUENCE, SET}
 use Rattle.term_values.specs.BerReading.{tree_in}
 use Rattle.term_values.specs.Der.{encoded, written}
-use Rattle.term_values.specs.Oid.{oid_contents, oid_in}
-use Rattle.term_values.specs.Tag.{context, is_same_tag}
+use Rattle.term_values.specs.Oid.{oid_contents}
+use Rattle.term_values.specs.Tag.{context}
 use Rattle.term_values.specs.Tree.{TreeValue, TreeValues}
-use Rattle.term_values.specs.Tree.TreeValue.{Primitive, Constructed}
 use Rattle.term_values.specs.Tree.TreeValues.{Nothing, Then}
 use Rattle.term_model.specs.declared.name.Rdn.{Rdn}
 use Rattle.term_model.specs.declared.request.Asked.{Asked}

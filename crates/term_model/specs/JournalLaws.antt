@@ -1,9 +1,10 @@
--- Laws of journals: one that follows another goes on where that one ended, what was placed for an association stays, and the
--- journal of a script comes to its agent.
+-- Laws of journals: one that follows another goes on where that one ended, what was placed for an association stays, the
+-- journal of a script comes to its agent, and the objects stay what they are.
 use Rattle.std.specs.Prelude.{◌≡◌, ℕ, ◌&&◌, List, [], ◌∷◌, ◌++◌}
 use Rattle.term_model.specs.declared.agent_state.AgentState.{AgentState}
 use Rattle.term_model.specs.declared.entry.Entry.{Entry}
 use Rattle.term_model.specs.declared.schema.Set.{Set}
+use Rattle.term_model.specs.AgentState.{start}
 use Rattle.term_model.specs.History.{is_legal_from, out, replay, replay_from}
 use Rattle.term_model.specs.Played.{ScriptLine, played}
 use Rattle.term_model.specs.Step.{step}
@@ -23,3 +24,11 @@ PlacedStays = (schema : Set) (number : ℕ) (xs ys : List Entry) → (rest : Lis
 -- the journal of any script comes to the agent that the script came to
 abbrev pub ScriptReplays : Type 0
 ScriptReplays = (schema : Set) (script : List ScriptLine) → replay schema (played schema script).journal ≡ (played schema script).agent
+
+-- no entry changes what the objects are: the only operation so far is a Get
+abbrev pub EntryKeepsObjects : Type 0
+EntryKeepsObjects = (agent : AgentState) (next : Entry) → (step agent next).objects ≡ agent.objects
+
+-- the objects after any journal are those at the opening
+abbrev pub ObjectsStay : Type 0
+ObjectsStay = (schema : Set) (journal : List Entry) → (replay schema journal).objects ≡ (start schema).objects

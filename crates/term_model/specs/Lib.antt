@@ -12,5 +12,6 @@ pub mod Played
 pub mod RemoteOperation
 pub mod Rising
 pub mod Step
+pub mod TextLaws
 pub mod Texts
 pub mod WellFormedMib

@@ -4,11 +4,9 @@ use Rattle.term_values.specs.declared.tag.Tag.{Tag}
 use Rattle.term_values.specs.declared.tag.TheConstants.Tag.{INTEGER, SEQUENCE}
 use Rattle.term_values.specs.Der.{encoded}
 use Rattle.term_model.specs.Parts.{integer_under, three_under}
-use Rattle.term_values.specs.Octets.{octets, integer_contents, integer_in}
-use Rattle.term_values.specs.Tag.{context, is_same_tag}
-use Rattle.term_values.specs.Tree.{TreeValue, TreeValues}
-use Rattle.term_values.specs.Tree.TreeValue.{Primitive, Constructed}
-use Rattle.term_values.specs.Tree.TreeValues.{Nothing, Then}
+use Rattle.term_values.specs.Octets.{octets, integer_contents}
+use Rattle.term_values.specs.Tag.{context}
+use Rattle.term_values.specs.Tree.{TreeValue}
 
 -- the tags of the APDUs
 abbrev pub invoke_tag : Tag

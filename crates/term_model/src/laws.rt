@@ -1,6 +1,7 @@
 //! Laws of journals, each as the contract of a function that does nothing.
 
-ghost use Rattle.term_model.specs.JournalLaws.{LegalGoesOn, PlacedStays, ReplayGoesOn, ReplayStepsOn, ScriptReplays};
+ghost use Rattle.term_model.specs.JournalLaws.{EntryKeepsObjects, LegalGoesOn, ObjectsStay, PlacedStays, ReplayGoesOn, ReplayStepsOn, ScriptReplays};
+ghost use Rattle.term_model.specs.TextLaws.{PrintTellsJournal, TextsDiffer};
 
 /// A journal that follows another is replayed from the state that the other one came to.
 pub fn replay_goes_on()
@@ -25,4 +26,20 @@ pub fn placed_stays()
 /// The journal of a script comes to the agent that the script came to.
 pub fn script_replays()
     ensures { ScriptReplays }
+{}
+
+/// Different journals have different texts.
+pub fn texts_differ()
+    ensures { TextsDiffer }
+{}
+
+/// What stands in front of the line of two dashes is the text of one journal alone, whatever stands behind it.
+pub fn print_tells_journal()
+    ensures { PrintTellsJournal }
+{}
+
+/// No entry changes what the objects are, so that after any journal they are those at the opening.
+pub fn objects_stay()
+    ensures entry { EntryKeepsObjects }
+    ensures journal { ObjectsStay }
 {}
