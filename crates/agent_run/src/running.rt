@@ -109,8 +109,8 @@ fn read_script_for<'a>(alloc: Global, text: &[u8], schema: &Set) -> Result<Scrip
 
 /// What `run` prints of a script that is played on a schema.
 fn play(alloc: Global, schema: Set, script: Script) -> Result<Vec<u8>, AllocError>
-    requires { IsSome (title_in script.bind) }
-    requires { IsWellFormedMib schema (start schema).objects }
+    requires bound { IsSome (title_in script.bind) }
+    requires opening { IsWellFormedMib schema (start schema).objects }
     ensures { IfOk result (λ text. IsPlayed schema script.bind script.sends.items text.items) }
 {
     let played = perform_script(alloc, schema, script.bind, script.sends)?;
