@@ -5,8 +5,8 @@ use Rattle.agent_bytes.specs.Told.{gained}
 use Rattle.agent_run.specs.declared.refusal.Unbuilt.{Unbuilt}
 use Rattle.term_model.specs.declared.schema.Set.{Set}
 use Rattle.text_lex.specs.declared.lex_refusal.LexKind.{LexKind}
-use Rattle.agent_run.specs.Refusing.{HasFault, IsNamed, OfNamed, IsOutside, IsTooLarge, Told, bad_document_line, file_line, most_document, most_script, not_built_line, too_large_line}
-use Rattle.agent_run.specs.Running.{AreRunWords, IsDocument, IsScriptFor}
+use Rattle.agent_run.specs.Refusing.{HasFault, IsNamed, IsOutside, IsTooLarge, OfNamed, bad_document_line, file_line, not_built_line, too_large_line}
+use Rattle.agent_run.specs.Running.{AreRunWords, IsDocument, IsScriptFor, Told, most_document, most_script}
 
 -- a call of the files failed, and the line has the name of one of the two files
 pub record EndsByFileFault (words : List (List ℕ)) (faults_before faults_after : ℕ) (before after : Option (List ℕ)) : Type 0 where

@@ -1,7 +1,7 @@
 -- Why a run is not done: the cause of each status, and the line that is written then.
 use Rattle.std.specs.Prelude.{◌≡◌, ◌==◌, ◌+◌, ◌<◌, ◌≤◌, ◌⊎◌, ℕ, List, [], ◌∷◌, ◌++◌, Option, None, Some, codes, count_by, decimal, length, take}
 use Rattle.agent_bytes.specs.Faults.{Rose}
-use Rattle.agent_bytes.specs.Told.{IsFile, IsLonger, gained}
+use Rattle.agent_bytes.specs.Told.{IsLonger}
 use Rattle.agent_run.specs.declared.refusal.Refusal.{Refusal}
 use Rattle.agent_run.specs.declared.refusal.Refusal.TheVariants.{FileFault, FileTooLarge, BadDocument, NotBuilt, OutOfMemory}
 use Rattle.agent_run.specs.declared.refusal.Unbuilt.{Unbuilt}
@@ -13,18 +13,7 @@ use Rattle.text_lex.specs.declared.lex_refusal.LexKind.TheVariants.{BadByte, Ope
 use Rattle.text_lex.specs.declared.lex_refusal.LexRefusal.TheVariants.{Fault}
 use Rattle.text_lex.specs.declared.token.Token.{Token}
 use Rattle.text_lex.specs.Lexed.{AreTokensOf, IsRefused}
-use Rattle.agent_run.specs.Running.{AreRunWords, IsDocument, IsScriptFor}
-
--- what the files tell of the bytes under each name
-abbrev pub Told : Type 0
-Told = Option (List ℕ → Option (List ℕ))
-
--- the most octets of a script and of a document
-abbrev pub most_script : ℕ
-most_script = 16777216
-
-abbrev pub most_document : ℕ
-most_document = 4194304
+use Rattle.agent_run.specs.Running.{AreNamed, AreRunWords, IsDocument, IsScriptFor, Told, most_document, most_script}
 
 -- one of the two files that the words name
 pub record IsNamed (words : List (List ℕ)) (name : List ℕ) : Type 0 where
@@ -37,14 +26,6 @@ pub record IsNamed (words : List (List ℕ)) (name : List ℕ) : Type 0 where
 pub data IsTooLarge (files : Told) (words : List (List ℕ)) (name : List ℕ) : Type 0 where
   script : {document : List ℕ} → AreRunWords words name document → IsLonger files name most_script → IsTooLarge files words name
   document : {script : List ℕ} → AreRunWords words script name → IsLonger files name most_document → IsTooLarge files words name
-
--- the bytes of the two files that the words name, where the files are told
-pub record AreNamed (files : Told) (words : List (List ℕ)) (script document : List ℕ) : Type 0 where
-  pub script_name : List ℕ
-  pub document_name : List ℕ
-  pub words_are : AreRunWords words script_name document_name
-  pub script_told : IsFile files script_name script
-  pub document_told : IsFile files document_name document
 
 -- something holds of the bytes of these files
 pub record OfNamed (files : Told) (words : List (List ℕ)) (Holds : List ℕ → List ℕ → Type 0) : Type 0 where

@@ -1,5 +1,5 @@
 -- What a run of the program is: the words, the files that they name, and the text that is printed.
-use Rattle.std.specs.Prelude.{◌≡◌, ◌≢◌, ℕ, List, [], ◌∷◌, ◌++◌, IsTrue, Option, codes, slice_index}
+use Rattle.std.specs.Prelude.{◌≡◌, ◌≢◌, ◌≤◌, ℕ, List, [], ◌∷◌, ◌++◌, IsTrue, Option, codes, length, slice_index}
 use Rattle.agent_bytes.specs.Told.{IsFile, gained}
 use Rattle.term_model.specs.declared.entry.Entry.{Entry}
 use Rattle.term_model.specs.declared.schema.ClassRec.{ClassRec}
@@ -62,19 +62,36 @@ pub record AreRunWords (words : List (List ℕ)) (script document : List ℕ) : 
   pub script_place : IsPlace script
   pub document_place : IsPlace document
 
--- the text is what the script in one named file comes to on the document in the other one, where the files are told
-pub record IsRunOf (files : Option (List ℕ → Option (List ℕ))) (words : List (List ℕ)) (text : List ℕ) : Type 0 where
+-- what the files tell of the bytes under each name; none where they tell nothing
+abbrev pub Told : Type 0
+Told = Option (List ℕ → Option (List ℕ))
+
+-- the most octets of a script and of a document
+abbrev pub most_script : ℕ
+most_script = 16777216
+
+abbrev pub most_document : ℕ
+most_document = 4194304
+
+-- the bytes of the two files that the words name, within their limits, where the files are told
+pub record AreNamed (files : Told) (words : List (List ℕ)) (script document : List ℕ) : Type 0 where
   pub script_name : List ℕ
   pub document_name : List ℕ
-  pub named : AreRunWords words script_name document_name
-  pub script : List ℕ
-  pub document : List ℕ
+  pub words_are : AreRunWords words script_name document_name
   pub script_told : IsFile files script_name script
   pub document_told : IsFile files document_name document
+  pub script_small : length script ≤ most_script
+  pub document_small : length document ≤ most_document
+
+-- the text is what the script in one named file comes to on the document in the other one
+pub record IsRunOf (files : Told) (words : List (List ℕ)) (text : List ℕ) : Type 0 where
+  pub script : List ℕ
+  pub document : List ℕ
+  pub named : AreNamed files words script document
   pub run : IsRun script document text
 
 -- what was written in a call is such a text, where it is told
-pub record Prints (files : Option (List ℕ → Option (List ℕ))) (words : List (List ℕ)) (before after : Option (List ℕ)) : Type 0 where
+pub record Prints (files : Told) (words : List (List ℕ)) (before after : Option (List ℕ)) : Type 0 where
   pub text : List ℕ
   pub run : IsRunOf files words text
   pub written : after ≡ gained before text

@@ -1,6 +1,6 @@
 //! The top call: the words of a command line, the files that they name, and what is written.
 
-ghost use Rattle.std.specs.Prelude.{◌≡◌, ◌≢◌, ◌⊎◌, ◌≤◌, ◌∷◌, [], Contains, map, string_bytes, IfErr, IfOk, IsSome};
+ghost use Rattle.std.specs.Prelude.{◌≡◌, ◌≢◌, ◌⊎◌, ◌≤◌, ◌∷◌, [], Contains, length, map, string_bytes, IfErr, IfOk, IsSome};
 ghost use Rattle.agent_bytes.specs.Faults.{Rose};
 ghost use Rattle.agent_bytes.specs.Told.{IsFile, gained};
 ghost use Rattle.agent_run.specs.Answers.{EndsByBadDocument, EndsByFileFault, EndsByFileTooLarge, EndsByNotBuilt, IsRunnable};
@@ -44,6 +44,7 @@ fn read_file<'a, F: Files>(
     limit: u64,
 ) -> Result<Vec<u8>, Refusal<'a>>
     ensures told { IfOk result (λ bytes. IsFile (F.files files.old) name.now bytes.items) }
+    ensures within { IfOk result (λ bytes. length bytes.items ≤ limit) }
     ensures same { F.files files.new ≡ F.files files.old }
     ensures cause { IfErr result (HasFileCause (F.files files.old) name.now limit (F.faults files.old) (F.faults files.new)) }
     ensures counted { F.faults files.old ≤ F.faults files.new }
