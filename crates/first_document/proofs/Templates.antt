@@ -52,8 +52,8 @@ attribute_stops {tokens} i {k} other most = template_stops (words (codes "WITH" 
 pub attributes_start : {tokens : List Token} {i : ℕ} (xs : List AttributePart) → xs ≡ [] → Leads tokens no_names closed (templates_form Empty) i (templates_form (list_tree attribute_tree Empty xs)) i
 attributes_start {tokens} {i} xs none = subst (λ (ys : List AttributePart). Leads tokens no_names closed (templates_form Empty) i (templates_form (list_tree attribute_tree Empty ys)) i) (sym none) leads_start
 
-pub attributes_push : {tokens : List Token} {i j k : ℕ} (xs ys : List AttributePart) {x : AttributePart} → comes_attribute tokens j ≡ true → Leads tokens no_names closed (templates_form Empty) i (templates_form (list_tree attribute_tree Empty xs)) j → IsSpelt tokens no_names closed attribute_form j (attribute_tree x) k → ys ≡ xs ++ x ∷ [] → Leads tokens no_names closed (templates_form Empty) i (templates_form (list_tree attribute_tree Empty ys)) k
-attributes_push {tokens} {i} {j} {k} xs ys {x} comes led one more = subst (λ (t : Tree). Leads tokens no_names closed (templates_form Empty) i (templates_form t) k) (sym (list_tree-append attribute_tree Empty xs x) ∙ ap (list_tree attribute_tree Empty) (sym more)) (leads_on led (turn_leads one (class_stops j comes (past_label j comes one.furthest))))
+pub attributes_push : {tokens : List Token} {i j k : ℕ} (xs ys : List AttributePart) (x : AttributePart) → comes_attribute tokens j ≡ true → Leads tokens no_names closed (templates_form Empty) i (templates_form (list_tree attribute_tree Empty xs)) j → IsSpelt tokens no_names closed attribute_form j (attribute_tree x) k → ys ≡ xs ++ x ∷ [] → Leads tokens no_names closed (templates_form Empty) i (templates_form (list_tree attribute_tree Empty ys)) k
+attributes_push {tokens} {i} {j} {k} xs ys x comes led one more = subst (λ (t : Tree). Leads tokens no_names closed (templates_form Empty) i (templates_form t) k) (sym (list_tree-append attribute_tree Empty xs x) ∙ ap (list_tree attribute_tree Empty) (sym more)) (leads_on led (turn_leads one (class_stops j comes (past_label j comes one.furthest))))
 
 -- an attribute has its fault
 pub attribute_fault : {tokens : List Token} {before : Tree} (i : ℕ) {k : ℕ} → comes_attribute tokens i ≡ true → IsFault tokens no_names closed attribute_form i k → IsFault tokens no_names closed (templates_form before) i k

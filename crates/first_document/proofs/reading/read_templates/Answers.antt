@@ -15,7 +15,7 @@ pub returns-in_err-attribute : goal.returns-in_err-attribute
 returns-in_err-attribute c = exit_reads _ c.from_residual.result c.from_residual.ensures.1 (fails_by (λ k r. fault_led c.turns.invariant (attribute_fault c.turns.next (sym c.is_template_at.ensures ∙ c.turns-test.true) r)) c.in_err-attribute.ensures)
 
 pub turns-preserved : goal.turns-preserved
-turns-preserved c = attributes_push c.turns.attributes.items c.push.new.self.items (sym c.is_template_at.ensures ∙ c.turns-test.true) c.turns.invariant c.in_ok-attribute.ensures c.in_ok-push.ensures.items
+turns-preserved c = attributes_push c.turns.attributes.items c.push.new.self.items _ (sym c.is_template_at.ensures ∙ c.turns-test.true) c.turns.invariant c.in_ok-attribute.ensures c.in_ok-push.ensures.items
 
 pub turns-smaller : goal.turns-smaller
 turns-smaller c = let forward = advances unknown heads_unknown refl c.in_ok-attribute.ensures.spelt in let within = attribute_within c.args.tokens.now c.turns.next (sym c.is_template_at.ensures ∙ c.turns-test.true) in omega arith
