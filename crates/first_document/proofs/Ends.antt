@@ -1,7 +1,7 @@
 -- Which tokens the ends of lists and of optional parts are apart from.
 use Rattle.std.proofs.Common.{◌≡◌, ℕ, Bool, true, false, ◌||◌, List, [], ◌∷◌, refl, codes}
 use Rattle.text_lex.specs.declared.token.Token.{Token}
-use Rattle.text_lex.specs.Form.{Form, Marks}
+use Rattle.text_lex.specs.Form.{Marks}
 use Rattle.text_lex.specs.TokenTests.{is_word_of, is_sign_of, is_number}
 use Rattle.text_lex.proofs.Heads.{starts, unknown, heads_unknown}
 use Rattle.text_lex.proofs.Sequences.{Apart, apart_by}

@@ -1,8 +1,8 @@
 -- A tree has one value: parts with one tree have the same contents.
-use Rattle.std.proofs.Common.{◌≡◌, ℕ, Bool, true, false, List, [], ◌∷◌, ◌++◌, map, refl, sym, ◌∙◌, ap, append_assoc}
+use Rattle.std.proofs.Common.{◌≡◌, Bool, true, false, List, [], ◌∷◌, ◌++◌, map, refl, sym, ◌∙◌, ap, append_assoc}
 use Rattle.std.proofs.lemmas.List.{append-nil}
 use Rattle.text_lex.specs.declared.token.Token.{Token}
-use Rattle.text_lex.specs.Form.{Tree, Bare, Leaf, Pair, First, Second, Absent, Present, Empty, After, Numbered}
+use Rattle.text_lex.specs.Form.{Tree, Leaf, Pair, Empty, After}
 use Rattle.text_lex.specs.Parts.{list_tree}
 use Rattle.first_document.specs.declared.parts.ModulePart.{ModulePart}
 use Rattle.first_document.specs.declared.parts.AttributePart.{AttributePart}
@@ -12,7 +12,7 @@ use Rattle.first_document.specs.declared.parts.GivenValue.{GivenValue}
 use Rattle.first_document.specs.declared.parts.RootPart.{RootPart}
 use Rattle.first_document.specs.declared.parts.DocumentParts.{DocumentParts}
 use Rattle.first_document.specs.DocumentTree.{module_tree, rules_tree, attribute_tree, use_tree, class_tree, given_tree, root_tree, document_tree}
-use Rattle.first_document.specs.Contents.{AttributeContents, ClassContents, RootContents, DocumentContents, attribute_contents, class_contents, root_contents, document_contents}
+use Rattle.first_document.specs.Contents.{attribute_contents, class_contents, root_contents, document_contents}
 
 -- the trees of a list's members
 abbrev members : Tree → List Tree

@@ -1,6 +1,6 @@
 -- Laws on a repeat and on what stands behind it, where both begin alike: where one of the two comes, the
 -- other stops no further.
-use Rattle.std.proofs.Common.{◌≡◌, ℕ, ◌+◌, ◌≤◌, Bool, List, ◌⊎◌, inl, inr, refl, ap, subst}
+use Rattle.std.proofs.Common.{◌≡◌, ℕ, ◌≤◌, List, ◌⊎◌, inl, inr, ap, subst}
 use Rattle.text_lex.specs.declared.token.Token.{Token}
 use Rattle.text_lex.specs.Form.{Form, Tree, Then, Many, Pair, After}
 use Rattle.text_lex.specs.Spelling as S

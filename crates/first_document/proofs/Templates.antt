@@ -2,8 +2,8 @@
 -- them.
 use Rattle.std.proofs.Common.{◌≡◌, ℕ, ◌+◌, ◌≤◌, ◌<◌, Bool, true, false, List, [], ◌∷◌, ◌++◌, refl, sym, ◌∙◌, ap, subst, arith, slice_get, length, codes}
 use Rattle.text_lex.specs.declared.token.Token.{Token}
-use Rattle.text_lex.specs.Form.{Form, Tree, Then, Maybe, Empty}
-use Rattle.text_lex.specs.Spelling.{At, passes}
+use Rattle.text_lex.specs.Form.{Tree, Then, Maybe, Empty}
+use Rattle.text_lex.specs.Spelling.{passes}
 use Rattle.text_lex.specs.Beginning as B
 use Rattle.text_lex.specs.Beginning.{Begins}
 use Rattle.text_lex.specs.Outcome.{closed, Stops, IsFault, IsSpelt}

@@ -1,5 +1,5 @@
 -- As many attributes as come, the class and the instance.
-use Rattle.std.proofs.Common.{◌∙◌, sym, refl, arith, ◌-◌}
+use Rattle.std.proofs.Common.{◌∙◌, sym, refl, arith}
 use Rattle.text_lex.proofs.Sequences.{apart_closed, spelt_then, fails_by, fails_front, fails_rest}
 use Rattle.text_lex.proofs.Heads.{unknown, heads_unknown, advances}
 use Rattle.text_lex.proofs.Exits.{exit_reads}
