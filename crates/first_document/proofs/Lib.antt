@@ -1,1 +1,5 @@
 -- The lemmas of this crate.
+pub mod Ends
+pub mod Repeats
+pub mod Templates
+pub mod OneTree
