@@ -1,4 +1,4 @@
--- The journal of a script in the first form is legal, and comes to the agent that the script came to.
+-- The journal of a script in the first form is legal, comes to the agent that the script came to, and has the script's frames.
 use Rattle.std.proofs.Common.{◌≡◌, ℕ, ◌+◌, ◌<◌, ◌≤◌, Bool, true, false, List, [], ◌∷◌, ◌++◌, length, Option, Some, None, refl, sym, ap, ◌∙◌, ⊎_elim, arith, subst}
 use Rattle.std.specs.Prelude.{◌==◌, nat_lt, map, if◌then◌else◌, is_some, option_and_then}
 use Rattle.std.specs.Option.{option_map_or}
@@ -12,10 +12,12 @@ use Rattle.term_model.specs.declared.entry.Why.TheVariants as why
 use Rattle.term_model.specs.declared.schema.Set.{Set}
 use Rattle.term_model.specs.AgentState.{association_of, granted_moment, left_to_take, operation_of}
 use Rattle.term_model.specs.Bind.{title_in}
-use Rattle.term_model.specs.History.{is_legal_journal, replay}
+use Rattle.term_model.specs.History.{came, is_legal_journal, replay}
+use Rattle.term_model.specs.JournalLaws.{frames_of}
 use Rattle.term_model.specs.Played.{Play, ScriptLine, with_entry, taken_all, answered, line_played, lines_played, closed, beginning, played}
 use Rattle.term_model.specs.Played.ScriptLine.{Open, Send}
 use Rattle.term_model.specs.Step.{is_legal, may_take, step}
+use Rattle.term_model.proofs.FrameLaws as frame_laws
 use Rattle.term_model.proofs.HistoryLaws.{legal_more, replay_more}
 use Rattle.term_model.proofs.StepLaws.{granted_stands, granted_then}
 use Rattle.one_manager_agent.specs.Playing.{IsFresh, IsReady, script_lines, so_far, sole}
@@ -159,3 +161,12 @@ script_faithful schema bind sends titled =
     let faithful : IsFaithful schema (so_far play.agent play.journal) = subst (λ p. IsFaithful schema p) g.still g.faithful in
     subst (λ p. IsFaithful schema p) (sym (closed_alone play g.ready))
     (subst (λ p. IsFaithful schema (closed sole p)) (sym g.still) (closed_faithful schema play.agent play.journal g.ready faithful))
+
+-- what is sent to the association are its frames
+sends_frames : (opened : ℕ) (sends : List (List ℕ)) → frames_of sole opened (map (Send sole) sends) ≡ sends
+sends_frames opened [] = refl
+sends_frames opened (apdu ∷ sends) = ap (λ xs. apdu ∷ xs) (sends_frames opened sends)
+
+-- the frames of the association are the BIND and what is sent
+pub script_frames : (schema : Set) (bind : List ℕ) (sends : List (List ℕ)) → came sole (played schema (script_lines bind sends)).journal ≡ bind ∷ sends
+script_frames schema bind sends = frame_laws.script_frames schema (script_lines bind sends) sole ∙ ap (λ xs. bind ∷ xs) (sends_frames 1 sends)

@@ -3,11 +3,11 @@
 ghost use Rattle.std.specs.Prelude.{◌≡◌, ◌+◌, ◌^◌, ◌<◌, ◌++◌, [], ◌∷◌, length, IsTrue, OnOk, IfOk, IsSome};
 ghost use Rattle.term_model.specs.AgentState.{start};
 ghost use Rattle.term_model.specs.Bind.{title_in};
-ghost use Rattle.term_model.specs.History.{is_legal_journal, replay};
+ghost use Rattle.term_model.specs.History.{came, is_legal_journal, replay};
 ghost use Rattle.term_model.specs.Played.{answered, closed, line_played, played, taken_all, with_entry};
 ghost use Rattle.term_model.specs.Played.ScriptLine.{Open, Send};
 ghost use Rattle.term_model.specs.Step.{is_legal};
-ghost use Rattle.one_manager_agent.specs.Playing.{IsFresh, IsReady, script_lines, so_far};
+ghost use Rattle.one_manager_agent.specs.Playing.{IsFresh, IsReady, script_lines, so_far, sole};
 
 use crate::agent_steps::{
     SCRIPT_START, arrive, close_at_end, commit, finish, grant, open, take_all,
@@ -189,6 +189,9 @@ pub fn perform_script(
     // The journal is one that the agent may have, and comes to the agent as it is.
     ensures legal { IfOk result (λ play. IsTrue (is_legal_journal schema play.journal)) }
     ensures replayed { IfOk result (λ play. replay schema play.journal ≡ play.agent) }
+
+    // Its frames are the BIND and these APDUs, in their order, and no others.
+    ensures frames { IfOk result (λ play. came sole play.journal ≡ bind ∷ sends.items) }
 {
     let mut play = Play {
         agent: opened_agent(alloc, schema)?,

@@ -1,5 +1,6 @@
 pub mod RisingLaws
 mod StandardFacts
+pub mod FrameLaws
 pub mod HistoryLaws
 pub mod ObjectLaws
 pub mod ScriptLaws

@@ -14,8 +14,9 @@ use Rattle.term_model.specs.declared.entry.Entry.TheVariants as entry
 use Rattle.term_model.specs.declared.entry.Why.TheVariants as why
 use Rattle.term_model.specs.declared.schema.Set.{Set}
 use Rattle.term_model.specs.declared.schema.Rules.{Rules}
+use Rattle.term_model.specs.JournalLaws.{frames_of}
 use Rattle.term_model.specs.Moment.{moment_text}
-use Rattle.term_model.specs.Played.{played, run_text}
+use Rattle.term_model.specs.Played.{ScriptLine, played, run_text}
 use Rattle.term_model.specs.Played.ScriptLine.{Open, Send}
 use Rattle.term_model.specs.Step.{step}
 use Rattle.term_model.specs.Texts.{line}
@@ -70,6 +71,19 @@ run_of_five : run_text network (Open bind_octets ∷ Send 1 get_five ∷ []) ≡
     codes "opened 1 3006060488370B01\ntaken 1 12\narrived 1 A11D0201010201033015800488370301A40D310B3009060488370701020105\ngranted 1 0\ncommitted 1\ntaken 1 27\nfinished 1\nclosed 1 end\n--\nout 1 0000000830060A010002010100000017A315020101020101A40D310B3009060488370701020105\nobjects 1\n"
 unfolding digits encode_with subidentifier oid_in integer_contents integer_in identifier_octets length_octets identifier_of length_at front_of moment_text played step
 run_of_five = refl
+
+-- of a script with two associations, the frames of each, and none of one that is never opened and to which nothing is sent
+abbrev two_managers : List ScriptLine
+two_managers = Open bind_octets ∷ Send 1 get_root ∷ Open (1 ∷ []) ∷ Send 2 get_five ∷ Send 1 get_five ∷ []
+
+frames_of_first : frames_of 1 0 two_managers ≡ bind_octets ∷ get_root ∷ get_five ∷ []
+frames_of_first = refl
+
+frames_of_second : frames_of 2 0 two_managers ≡ (1 ∷ []) ∷ get_five ∷ []
+frames_of_second = refl
+
+frames_of_third : frames_of 3 0 two_managers ≡ []
+frames_of_third = refl
 
 -- the last second that the text can tell
 end_of_9998 : moment_text 253370764799 ≡ codes "99981231235959Z"

@@ -1,6 +1,6 @@
 //! Laws of journals, each as the contract of a function that does nothing.
 
-ghost use Rattle.term_model.specs.JournalLaws.{EntryKeepsObjects, LegalGoesOn, ObjectsStay, PlacedStays, ReplayGoesOn, ReplayStepsOn, ScriptReplays};
+ghost use Rattle.term_model.specs.JournalLaws.{EntryKeepsObjects, LegalGoesOn, ObjectsStay, PlacedStays, ReplayGoesOn, ReplayStepsOn, ScriptFrames, ScriptReplays};
 ghost use Rattle.term_model.specs.TextLaws.{PrintTellsJournal, TextsDiffer};
 
 /// A journal that follows another is replayed from the state that the other one came to.
@@ -26,6 +26,11 @@ pub fn placed_stays()
 /// The journal of a script comes to the agent that the script came to.
 pub fn script_replays()
     ensures { ScriptReplays }
+{}
+
+/// In the journal of a script each association's frames stand in their order, and no others.
+pub fn script_frames()
+    ensures { ScriptFrames }
 {}
 
 /// Different journals have different texts.

@@ -1,11 +1,11 @@
 use Rattle.std.proofs.Common.{◌≡◌, ◌++◌, [], ◌∷◌, List, length, sym, ap, ◌∙◌, refl, arith, append_assoc}
 use Rattle.std.proofs.lemmas.List.{append-nil}
 use Rattle.term_model.specs.AgentState.{start}
-use Rattle.term_model.specs.History.{is_legal_journal, replay}
+use Rattle.term_model.specs.History.{came, is_legal_journal, replay}
 use Rattle.term_model.specs.Played.{Play, beginning, line_played, lines_played}
 use Rattle.term_model.specs.Played.ScriptLine.{Open, Send}
-use Rattle.one_manager_agent.specs.Playing.{script_lines, so_far}
-use Rattle.one_manager_agent.proofs.JournalLaws.{script_faithful}
+use Rattle.one_manager_agent.specs.Playing.{script_lines, so_far, sole}
+use Rattle.one_manager_agent.proofs.JournalLaws.{script_faithful, script_frames}
 use Rattle.one_manager_agent.proofs.PlayLaws.{script_closed, script_more}
 use Rattle.one_manager_agent.proofs.playing.perform_script.Goals as goal
 
@@ -67,3 +67,6 @@ returns-clause-replayed c =
     let f = script_faithful schema c.args.bind c.args.sends.items c.requires in
     let played = returns-clause-played c in
     ap (λ (p : Play). replay schema p.journal) played ∙ (f.replayed ∙ ap (λ (p : Play). p.agent) (sym played))
+
+pub returns-clause-frames : goal.returns-clause-frames
+returns-clause-frames c = ap (λ (p : Play). came sole p.journal) (returns-clause-played c) ∙ script_frames c.args.schema c.args.bind c.args.sends.items
