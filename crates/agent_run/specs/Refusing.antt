@@ -24,8 +24,8 @@ pub record IsNamed (words : List (List ℕ)) (name : List ℕ) : Type 0 where
 
 -- the named script or the named document has more bytes than its limit
 pub data IsTooLarge (files : Told) (words : List (List ℕ)) (name : List ℕ) : Type 0 where
-  script : {document : List ℕ} → AreRunWords words name document → IsLonger files name most_script → IsTooLarge files words name
-  document : {script : List ℕ} → AreRunWords words script name → IsLonger files name most_document → IsTooLarge files words name
+  of_script : {document : List ℕ} → AreRunWords words name document → IsLonger files name most_script → IsTooLarge files words name
+  of_document : {script : List ℕ} → AreRunWords words script name → IsLonger files name most_document → IsTooLarge files words name
 
 -- something holds of the bytes of these files
 pub record OfNamed (files : Told) (words : List (List ℕ)) (Holds : List ℕ → List ℕ → Type 0) : Type 0 where

@@ -4,7 +4,7 @@ use Rattle.agent_bytes.specs.Told.{IsFile, gained}
 use Rattle.term_model.specs.declared.entry.Entry.{Entry}
 use Rattle.term_model.specs.declared.schema.ClassRec.{ClassRec}
 use Rattle.term_model.specs.declared.schema.Set.{Set}
-use Rattle.term_model.specs.History.{is_legal_journal, replay}
+use Rattle.term_model.specs.History.{came, is_legal_journal, replay}
 use Rattle.term_model.specs.Played.{played}
 use Rattle.term_model.specs.Texts.{journal_text, line_feed, outs}
 use Rattle.term_model.specs.WellFormedMib.{IsWellFormedMib}
@@ -12,7 +12,7 @@ use Rattle.text_lex.specs.declared.token.Token.{Token}
 use Rattle.text_lex.specs.Lexed.{AreTokensOf}
 use Rattle.first_document.specs.FirstDocument.{IsFirstDocument}
 use Rattle.first_script.specs.ScriptForm.{IsScript}
-use Rattle.one_manager_agent.specs.Playing.{script_lines}
+use Rattle.one_manager_agent.specs.Playing.{script_lines, sole}
 
 -- the bytes of a document have tokens in the first form, and these are its records
 pub record IsDocument (document : List ℕ) (schema : Set) : Type 0 where
@@ -34,11 +34,13 @@ Obeys schema journal = (before after : List Entry) → journal ≡ before ++ aft
 abbrev pub separator : List ℕ
 separator = 45 ∷ 45 ∷ line_feed
 
--- The text is the journal of the script, a line of two dashes, and what the one-manager agent places on that journal. Each
--- entry of the journal may stand where it stands, and every object obeys its templates all along.
+-- The text is the journal of the script, a line of two dashes, and what the one-manager agent places on that journal. The
+-- association's frames stand in the journal in their order, and no others; each entry may stand where it stands; and every
+-- object obeys its templates all along.
 pub record IsPlayed (schema : Set) (bind : List ℕ) (sends : List (List ℕ)) (text : List ℕ) : Type 0 where
   pub journal : List Entry
   pub of_script : journal ≡ (played schema (script_lines bind sends)).journal
+  pub frames : came sole journal ≡ bind ∷ sends
   pub legal : IsTrue (is_legal_journal schema journal)
   pub obeys : Obeys schema journal
   pub printed : text ≡ journal_text journal ++ (separator ++ outs (replay schema journal))
