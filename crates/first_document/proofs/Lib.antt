@@ -3,3 +3,4 @@ pub mod Ends
 pub mod Repeats
 pub mod Templates
 pub mod OneTree
+pub mod StandardFacts
