@@ -1,9 +1,8 @@
 -- The object with a name, as far as the objects were gone through.
-use Rattle.std.proofs.Common.{◌≡◌, ℕ, ◌+◌, ◌<◌, ◌≤◌, true, false, List, [], ◌∷◌, length, drop, get_or, Option, Some, None, refl, sym, ap, ◌∙◌}
+use Rattle.std.proofs.Common.{◌≡◌, ℕ, ◌+◌, ◌<◌, ◌≤◌, true, false, List, ◌∷◌, length, drop, get_or, Some, None, refl, sym, ap, ◌∙◌}
 use Rattle.std.proofs.lemmas.List.{drop_more, drop_all}
 use Rattle.term_model.specs.declared.agent_state.NamedObject.{NamedObject}
 use Rattle.term_model.specs.declared.name.Rdn.{Rdn}
-use Rattle.term_model.specs.declared.object.Object.{Object}
 use Rattle.term_model.specs.Comparing.{is_same_name}
 use Rattle.term_model.specs.Operation.{object_at}
 

@@ -1,5 +1,5 @@
 -- The journal of a script in the first form is legal, comes to the agent that the script came to, and has the script's frames.
-use Rattle.std.proofs.Common.{◌≡◌, ℕ, ◌+◌, ◌<◌, ◌≤◌, Bool, true, false, List, [], ◌∷◌, ◌++◌, length, Option, Some, None, refl, sym, ap, ◌∙◌, ⊎_elim, arith, subst}
+use Rattle.std.proofs.Common.{◌≡◌, ℕ, Bool, true, false, List, [], ◌∷◌, length, Option, Some, None, refl, sym, ap, ◌∙◌, ⊎_elim, subst}
 use Rattle.std.specs.Prelude.{◌==◌, nat_lt, map, if◌then◌else◌, is_some, option_and_then}
 use Rattle.std.specs.Option.{option_map_or}
 use Rattle.std.proofs.lemmas.Bool.{cases_Bool, eqb-false, eqb-true, ltb-true}
@@ -14,14 +14,14 @@ use Rattle.term_model.specs.AgentState.{association_of, granted_moment, left_to_
 use Rattle.term_model.specs.Bind.{title_in}
 use Rattle.term_model.specs.History.{came, is_legal_journal, replay}
 use Rattle.term_model.specs.JournalLaws.{frames_of}
-use Rattle.term_model.specs.Played.{Play, ScriptLine, with_entry, taken_all, answered, line_played, lines_played, closed, beginning, played}
+use Rattle.term_model.specs.Played.{Play, with_entry, taken_all, answered, line_played, lines_played, closed, beginning, played}
 use Rattle.term_model.specs.Played.ScriptLine.{Open, Send}
-use Rattle.term_model.specs.Step.{is_legal, may_take, step}
+use Rattle.term_model.specs.Step.{is_legal, step}
 use Rattle.term_model.proofs.FrameLaws as frame_laws
 use Rattle.term_model.proofs.HistoryLaws.{legal_more, replay_more}
 use Rattle.term_model.proofs.StepLaws.{granted_stands, granted_then}
 use Rattle.one_manager_agent.specs.Playing.{IsFresh, IsReady, script_lines, so_far, sole}
-use Rattle.one_manager_agent.proofs.PlayLaws.{Lives, all_taken_alone, answered_lives, arrive_legal, closed_alone, finish_legal, fresh_lives, grant_legal, may_take_all, open_line, ready_ends, send_line, send_ready, taken_all_none, taken_all_some, taken_ready}
+use Rattle.one_manager_agent.proofs.PlayLaws.{Lives, answered_lives, arrive_legal, closed_alone, finish_legal, fresh_lives, grant_legal, may_take_all, open_line, ready_ends, send_line, send_ready, taken_all_none, taken_all_some, taken_ready}
 
 -- the journal is legal, and what it comes to is the agent
 pub record IsFaithful (schema : Set) (play : Play) : Type 0 where

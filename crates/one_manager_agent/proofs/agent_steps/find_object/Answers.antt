@@ -1,4 +1,4 @@
-use Rattle.std.proofs.Common.{◌≡◌, ◌+◌, length, sym, ap, ◌∙◌}
+use Rattle.std.proofs.Common.{◌≡◌, sym, ◌∙◌}
 use Rattle.one_manager_agent.proofs.FindingLaws.{found_here, found_later, found_nowhere}
 use Rattle.one_manager_agent.proofs.agent_steps.find_object.Goals as goal
 

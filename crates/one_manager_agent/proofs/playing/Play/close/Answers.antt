@@ -1,10 +1,8 @@
-use Rattle.std.proofs.Common.{◌≡◌, ◌+◌, ◌<◌, ◌++◌, [], ◌∷◌, length, sym, ap, ◌∙◌, arith}
-use Rattle.term_model.specs.declared.agent_state.AgentState.{AgentState}
+use Rattle.std.proofs.Common.{◌≡◌, ◌++◌, [], ◌∷◌, ap, ◌∙◌, arith}
 use Rattle.term_model.specs.declared.entry.Entry.TheVariants.{Finished, Closed}
 use Rattle.term_model.specs.declared.entry.Why.TheVariants.{End}
-use Rattle.term_model.specs.Played.{Play, taken_all, with_entry}
-use Rattle.term_model.specs.Step.{is_legal, step}
-use Rattle.one_manager_agent.specs.Playing.{so_far}
+use Rattle.term_model.specs.Played.{Play, taken_all}
+use Rattle.term_model.specs.Step.{is_legal}
 use Rattle.one_manager_agent.proofs.PlayLaws.{noted, note_counted, finish_legal, ready_ends}
 use Rattle.one_manager_agent.proofs.playing.Play.close.Goals as goal
 

@@ -1,8 +1,7 @@
-use Rattle.std.proofs.Common.{◌≡◌, ◌++◌, [], ◌∷◌, length, sym, ap, ◌∙◌}
+use Rattle.std.proofs.Common.{◌≡◌, sym, ap, ◌∙◌}
 use Rattle.std.proofs.lemmas.Result.{on_ok_weaker}
 use Rattle.term_model.specs.declared.entry.Entry.TheVariants.{Opened}
-use Rattle.term_model.specs.Played.{line_played, taken_all, with_entry}
-use Rattle.term_model.specs.Played.ScriptLine.{Open}
+use Rattle.term_model.specs.Played.{taken_all, with_entry}
 use Rattle.term_model.specs.Step.{step}
 use Rattle.one_manager_agent.specs.Playing.{so_far}
 use Rattle.one_manager_agent.proofs.PlayLaws.{noted, lives_counted, fresh_lives, open_line, taken_ready, ready_at}
