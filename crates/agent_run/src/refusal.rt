@@ -1,8 +1,8 @@
 //! How a command ends when it is not done: its status, and the line that says why.
 
-ghost use Rattle.std.specs.Prelude.{◌≡◌, ◌++◌, IfOk, OnOk};
+ghost use Rattle.std.specs.Prelude.{◌≡◌, ◌++◌, IfOk, OnOk, codes, decimal};
 ghost use Rattle.term_model.specs.Texts.{line_feed};
-ghost use Rattle.agent_run.specs.Refusing.{bad_document_line, kind_name, line_of, status_of, unbuilt_name};
+ghost use Rattle.agent_run.specs.Refusing.{kind_name, line_of, status_of, unbuilt_name};
 
 use journal_text::texts::write_decimal;
 use std::alloc::{AllocError, Global};
@@ -76,23 +76,31 @@ fn unbuilt_name(what: Unbuilt) -> &'static str
     }
 }
 
-/// Appends a word, and what stands behind it up to the end of the line.
-fn write_line(word: &str, rest: &str, into: &mut Vec<u8>) -> Result<(), AllocError>
-    ensures { OnOk result (into.new.items ≡ into.old.items ++ (word.now ++ (rest.now ++ line_feed))) }
+/// Appends words, and what stands behind them up to the end of the line.
+fn write_line(words: &str, rest: &str, into: &mut Vec<u8>) -> Result<(), AllocError>
+    ensures { OnOk result (into.new.items ≡ into.old.items ++ (words.now ++ (rest.now ++ line_feed))) }
 {
-    into.extend_from_slice(word.as_bytes())?;
+    into.extend_from_slice(words.as_bytes())?;
     into.extend_from_slice(rest.as_bytes())?;
     into.push(LINE_FEED)?;
     Ok(())
 }
 
-/// Appends the line of a fault in the tokens of a document.
-fn write_bad_document(line: u64, kind: LexKind, into: &mut Vec<u8>) -> Result<(), AllocError>
-    ensures { OnOk result (into.new.items ≡ into.old.items ++ bad_document_line line kind) }
+/// Appends words, a number, and what stands behind it up to the end of the line.
+fn write_numbered_line(
+    words: &str,
+    number: u64,
+    rest: &str,
+    into: &mut Vec<u8>,
+) -> Result<(), AllocError>
+    ensures { OnOk result (into.new.items ≡ into.old.items ++ (words.now ++ (decimal number ++ (codes " " ++ (rest.now ++ line_feed))))) }
 {
-    into.extend_from_slice(b"bad document 1 ")?;
-    write_decimal(line, into)?;
-    write_line(" ", kind_name(kind), into)
+    into.extend_from_slice(words.as_bytes())?;
+    write_decimal(number, into)?;
+    into.push(b' ')?;
+    into.extend_from_slice(rest.as_bytes())?;
+    into.push(LINE_FEED)?;
+    Ok(())
 }
 
 impl Refusal<'_> {
@@ -117,7 +125,9 @@ impl Refusal<'_> {
         match self {
             Refusal::FileFault(name) => write_line("file ", name, &mut line)?,
             Refusal::FileTooLarge(name) => write_line("too large ", name, &mut line)?,
-            Refusal::BadDocument(number, kind) => write_bad_document(*number, *kind, &mut line)?,
+            Refusal::BadDocument(number, kind) => {
+                write_numbered_line("bad document 1 ", *number, kind_name(*kind), &mut line)?;
+            }
             Refusal::NotBuilt(what) => write_line("not built ", unbuilt_name(*what), &mut line)?,
             Refusal::OutOfMemory => write_line("memory", "", &mut line)?,
         }

@@ -115,7 +115,8 @@ fn play(alloc: Global, schema: Set, script: Script) -> Result<Vec<u8>, AllocErro
     ensures { IfOk result (λ text. IsPlayed schema script.bind script.sends.items text.items) }
 {
     let played = perform_script(alloc, schema, script.bind, script.sends)?;
-    run_text(alloc, &played.journal, &played.agent)
+    let text = run_text(alloc, &played.journal, &played.agent)?;
+    Ok(text)
 }
 
 /// What `run` prints of a script and a document.
@@ -152,6 +153,7 @@ fn prepare<'a, F: Files>(
 /// Writes a text, and answers the status where it was written.
 fn put<O: Sink>(out: &mut O, text: &[u8], status: u8) -> u8
     requires { status ≢ WRITE_FAULT }
+    ensures status { result ≡ status ⊎ result ≡ WRITE_FAULT }
     ensures done { result ≢ WRITE_FAULT → result ≡ status }
     ensures written { result ≢ WRITE_FAULT → O.contents out.new ≡ gained (O.contents out.old) text.now }
     ensures fault { result ≡ WRITE_FAULT → Rose (O.faults out.old) (O.faults out.new) }

@@ -1,0 +1,23 @@
+use Rattle.std.proofs.Common.{map}
+use Rattle.std.specs.Prelude.{string_bytes}
+use Rattle.agent_bytes.specs.Faults.{Rose}
+use Rattle.agent_run.proofs.Causes.{answered_listed, complete_of, too_large_of, written_listed}
+use Rattle.agent_run.proofs.running.agent.Goals as goal
+
+pub returns-in-Ok-clause-statuses : goal.returns-in-Ok-clause-statuses
+returns-in-Ok-clause-statuses g c = written_listed c.put.result c.put.ensures.status
+
+pub returns-in-Err-clause-statuses : goal.returns-in-Err-clause-statuses
+returns-in-Err-clause-statuses g c = answered_listed c.refuse.result c.in-Err.refusal c.refuse.ensures.status
+
+pub returns-in-Err-clause-too_large : goal.returns-in-Err-clause-too_large
+returns-in-Err-clause-too_large g c =
+    too_large_of (g.F.Files.files c.args.files.now) (map string_bytes c.args.words.now) (g.F.Files.faults c.args.files.now) (g.F.Files.faults c.prepare.new.files)
+        (g.O.Sink.contents c.args.out.now) (g.O.Sink.contents c.refuse.new.out) c.refuse.result c.in-Err.refusal
+        c.refuse.ensures.status c.in-Err.ensures.cause c.refuse.ensures.line
+
+pub returns-in-Err-clause-complete : goal.returns-in-Err-clause-complete
+returns-in-Err-clause-complete g c =
+    complete_of (g.F.Files.files c.args.files.now) (map string_bytes c.args.words.now) (g.F.Files.faults c.args.files.now) (g.F.Files.faults c.prepare.new.files)
+        (Rose (g.O.Sink.faults c.args.out.now) (g.O.Sink.faults c.refuse.new.out)) c.refuse.result c.in-Err.refusal
+        c.refuse.ensures.status c.in-Err.ensures.cause c.refuse.ensures.fault

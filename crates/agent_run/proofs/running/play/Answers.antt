@@ -1,0 +1,25 @@
+use Rattle.std.proofs.Common.{◌≡◌, ◌++◌, List, ap, sym, ◌∙◌}
+use Rattle.std.proofs.Math.Path.{subst}
+use Rattle.term_model.specs.declared.agent_state.NamedObject.{NamedObject}
+use Rattle.term_model.specs.declared.entry.Entry.{Entry}
+use Rattle.term_model.specs.History.{replay}
+use Rattle.term_model.specs.Played.{Play}
+use Rattle.term_model.specs.Texts.{journal_text, outs}
+use Rattle.term_model.specs.WellFormedMib.{IsWellFormedMib}
+use Rattle.term_model.proofs.ObjectLaws.{replay_objects}
+use Rattle.agent_run.specs.Running.{separator}
+use Rattle.agent_run.proofs.running.play.Goals as goal
+
+pub returns : goal.returns
+returns c =
+    let schema = c.args.schema in
+    let play = c.in_ok-played.ensures in
+    let journal = c.in_ok-played.played.journal in
+    record {
+      journal = journal;
+      of_script = ap (λ (p : Play). p.journal) play.played;
+      frames = play.frames;
+      legal = play.legal;
+      obeys = λ before after whole. subst (λ (objects : List NamedObject). IsWellFormedMib schema objects) (sym (replay_objects schema before)) c.requires.opening;
+      printed = c.in_ok-text.ensures ∙ ap (λ agent. journal_text journal ++ (separator ++ outs agent)) (sym play.replayed);
+    }
