@@ -482,6 +482,7 @@ fn a_call_of_the_outside_that_fails_ends_the_run_with_its_status(
             FILE_FAULT,
             "{failing}"
         );
+        assert_eq!(rt; files.faults(), 1, "{failing}");
         assert_eq!(rt; out.written(), text.as_bytes(), "{failing}");
     }
     for failing in [0u64, 1, 2, 3] {
@@ -495,6 +496,7 @@ fn a_call_of_the_outside_that_fails_ends_the_run_with_its_status(
             WRITE_FAULT,
             "{failing}"
         );
+        assert_eq!(rt; out.faults(), 1, "{failing}");
         let written = (failing * 100) as usize;
         assert_eq!(rt;
             out.written(),
