@@ -1,8 +1,9 @@
-pub mod RisingLaws
-mod StandardFacts
 pub mod FrameLaws
 pub mod HistoryLaws
+mod ObeyingFacts
 pub mod ObjectLaws
+pub mod RisingLaws
 pub mod ScriptLaws
+mod StandardFacts
 pub mod StepLaws
 pub mod TextLaws
