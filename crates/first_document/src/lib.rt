@@ -4,11 +4,15 @@
 
 pub mod document;
 pub mod document_refusal;
+mod identifiers;
+mod label_sets;
 pub mod laws;
 mod marks;
+mod numbers;
 pub mod parts;
 pub mod reading;
 mod records;
+mod root_values;
 
 pub use document::read_document;
 pub use document_refusal::DocumentRefusal;
