@@ -20,7 +20,7 @@ use Rattle.first_document.specs.FirstDocument.{AreArcs, AreDistinct, HasType, Is
 use Rattle.first_document.specs.Gathering.{GivesEach, HasArcs, Identifiers, IsGivable, IsIndex, IsKnown, attribute_under, found_under, given_texts, identifier_under, part_record, property_under, record_ids, record_labels, size_of, use_labels}
 use Rattle.first_document.specs.Records.{arcs_of, attribute_record, by_rising_identifier, given_attribute, identifier_of, labelled, number_of, property_record, root_attributes}
 use Rattle.first_document.proofs.Labelled.{among_labels, found, id_of, index_of, label_of, map-map, some_map, unwrap_map}
-use Rattle.first_document.proofs.WellFormed.{All-unmap}
+use Rattle.first_document.proofs.Loops.{All-unmap}
 
 abbrev pub attributes_of : DocumentParts → List AttributeContents
 attributes_of parts = map attribute_contents parts.attributes.items

@@ -26,14 +26,8 @@ use Rattle.first_document.specs.Contents.{AttributeContents, DocumentContents}
 use Rattle.first_document.specs.FirstDocument.{IsConsistent, IsNumberBelow, given_labels, used_labels, attribute_labels}
 use Rattle.first_document.specs.Records.{attribute_record, class_record, given_attribute, given_values, identifier_of, number_of, property_record, records_of, root_attributes, root_record}
 use Rattle.first_document.proofs.Labelled.{Found, found, id_of, map-map}
+use Rattle.first_document.proofs.Loops.{All-unmap}
 use Rattle.first_document.proofs.RisingAttributes.{Contains-map, Fine, here, rising_fine, rising_has, rising_sorted}
-
--- ---- lists
-
-pub All-unmap : {X Y : Type 0} (P : Y → Type 0) (f : X → Y) (xs : List X) → All P (map f xs) → All (λ x. P (f x)) xs
-All-unmap P f [] each = All-nil (λ x. P (f x))
-All-unmap P f (x ∷ xs) each =
-    All-cons (λ x. P (f x)) x xs (All-head P (f x) (map f xs) each) (All-unmap P f xs (All-tail P (f x) (map f xs) each))
 
 -- ---- the octets of a value
 

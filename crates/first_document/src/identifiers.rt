@@ -53,7 +53,8 @@ pub(crate) fn attribute_records(
 {
     let mut records = Vec::new(alloc);
     for attribute in attributes {
-        records.push(attribute_record(alloc, attribute)?)?;
+        let made = attribute_record(alloc, attribute)?;
+        records.push(made)?;
     }
     Ok(records)
 }

@@ -38,7 +38,8 @@ fn add_label(
     ensures outside { result ≡ Err DocumentRefusal.Outside → contains (slice_cmp nat_cmp) labels.old label.now.text ≡ true }
 {
     let text = text_of(alloc, label)?;
-    if labels.insert(text)? {
+    let is_new = labels.insert(text)?;
+    if is_new {
         Ok(())
     } else {
         Err(DocumentRefusal::Outside)
@@ -71,7 +72,8 @@ fn give(
     ensures outside { result ≡ Err DocumentRefusal.Outside → contains (slice_cmp nat_cmp) labels.old given.now.label.text ≡ false }
 {
     let text = text_of(alloc, &given.label)?;
-    if labels.remove(&text) {
+    let was_there = labels.remove(&text);
+    if was_there {
         Ok(())
     } else {
         Err(DocumentRefusal::Outside)

@@ -71,7 +71,8 @@ fn properties(
 {
     let mut items = Vec::new(alloc);
     for one in uses {
-        items.push(property(alloc, identifiers, one)?)?;
+        let made = property(alloc, identifiers, one)?;
+        items.push(made)?;
     }
     Ok(Properties { items })
 }

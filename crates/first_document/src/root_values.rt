@@ -63,10 +63,8 @@ fn attributes_of(alloc: Global, values: BTreeMap<Oid, i64>) -> Result<Attrs, All
 {
     let mut items = Vec::new(alloc);
     for (id, number) in values {
-        items.push(Attribute {
-            id,
-            value: Value::integer(number),
-        })?;
+        let value = Value::integer(number);
+        items.push(Attribute { id, value })?;
     }
     Ok(Attrs { items })
 }
