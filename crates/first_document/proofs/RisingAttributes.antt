@@ -1,5 +1,5 @@
 -- Attributes in the order of their identifiers.
-use Rattle.std.proofs.Common.{◌≡◌, ℕ, ℤ, zero, suc, ◌+◌, ◌<◌, List, [], ◌∷◌, ◌++◌, All, Contains, length, map, refl, sym, ap, ◌∙◌, subst, arith, inl, inr, rules}
+use Rattle.std.proofs.Common.{◌≡◌, ℕ, ℤ, zero, suc, ◌+◌, ◌<◌, List, [], ◌∷◌, ◌++◌, All, Contains, pos, get_or, take, length, map, refl, sym, ap, ◌∙◌, subst, arith, inl, inr, rules}
 use Rattle.std.specs.Prelude.{◌⊎◌, fold}
 use Rattle.std.specs.declared.cmp.Ordering.{Ordering}
 use Rattle.std.specs.declared.cmp.Ordering.TheVariants.{Less, Equal, Greater}
@@ -20,8 +20,10 @@ use Rattle.term_values.specs.Typed.{TypedValue}
 use Rattle.term_values.specs.Typed.TypedValue.{Int}
 use Rattle.term_model.specs.declared.object.Attribute.{Attribute}
 use Rattle.term_model.specs.WellFormedMib.{identifiers}
-use Rattle.first_document.specs.Gathering.{entry_attribute}
-use Rattle.first_document.specs.Records.{by_rising_identifier, placed}
+use Rattle.first_document.specs.declared.parts.GivenValue.{GivenValue}
+use Rattle.first_document.specs.Gathering.{Identifiers, attribute_under, entry_attribute, identifier_under}
+use Rattle.first_document.specs.Records.{by_rising_identifier, number_of, placed}
+use Rattle.first_document.proofs.Loops.{map_read}
 
 -- ---- against the entries of a map
 
@@ -175,3 +177,16 @@ fold_fine P Q (new ∷ news) old each more =
 
 pub rising_fine : (P : List ℕ → Type 0) (Q : TypedValue → Type 0) (news : List Attribute) → All (Fine P Q) news → All (Fine P Q) (by_rising_identifier news)
 rising_fine P Q news each = fold_fine P Q news [] (All-nil (Fine P Q)) each
+
+-- one more given value, behind the first one
+pub value_more : (identifiers : Identifiers) (named : GivenValue) (all : List GivenValue) (i : ℕ) (x : GivenValue) (before after : List (List ℕ × ℤ)) → i < length all → x ≡ get_or all i x
+    → map entry_attribute before ≡ by_rising_identifier (map (attribute_under identifiers) (named ∷ take i all))
+    → after ≡ insert_entry (slice_cmp nat_cmp) before (identifier_under identifiers x.label.text) (pos (number_of x.number))
+    → map entry_attribute after ≡ by_rising_identifier (map (attribute_under identifiers) (named ∷ take (i + 1) all))
+value_more identifiers named all i x before after within is had added =
+    let under = attribute_under identifiers in
+    ap (map entry_attribute) added
+    ∙ placed_entry before (identifier_under identifiers x.label.text) (pos (number_of x.number))
+    ∙ ap (λ l. placed l (under x)) had
+    ∙ sym (rising_push (map under (named ∷ take i all)) (under x))
+    ∙ ap (λ l. by_rising_identifier (under named ∷ l)) (sym (map_read under all i x within is))
