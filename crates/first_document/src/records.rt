@@ -84,8 +84,11 @@ pub(crate) fn records_of(alloc: Global, parts: &DocumentParts) -> Result<Set, Do
     ensures outside { result ≡ Err DocumentRefusal.Outside → IsConsistent (document_contents parts.now) → ⊥ }
 {
     let is_typed = are_of_type(&parts.module, &parts.attributes);
+    if !is_typed {
+        return Err(DocumentRefusal::Outside);
+    }
     let is_of_class = is_same_text(&parts.root.class, &parts.class.label);
-    if !is_typed | !is_of_class {
+    if !is_of_class {
         return Err(DocumentRefusal::Outside);
     }
     let attributes = attribute_records(alloc, &parts.attributes)?;
