@@ -20,7 +20,7 @@ pub record AttributeContents : Type 0 where
 
 pub record ClassContents : Type 0 where
   pub label : Token
-  pub «package» : Token
+  pub package_label : Token
   pub uses : List AttributeUse
   pub arcs : List Token
 
@@ -39,7 +39,7 @@ abbrev pub attribute_contents : AttributePart → AttributeContents
 attribute_contents x = record { label = x.label; module_name = x.module_name; type_name = x.type_name; matches = x.matches; arcs = x.arcs.items }
 
 abbrev pub class_contents : ClassPart → ClassContents
-class_contents x = record { label = x.label; «package» = x.package; uses = x.uses.items; arcs = x.arcs.items }
+class_contents x = record { label = x.label; package_label = x.package; uses = x.uses.items; arcs = x.arcs.items }
 
 abbrev pub root_contents : RootPart → RootContents
 root_contents x = record { class = x.class; named_by = x.named_by; others = x.others.items }

@@ -37,7 +37,7 @@ attribute_labels document = map (λ (attribute : AttributeContents). attribute.l
 
 -- the labels of all templates
 abbrev pub all_labels : DocumentContents → List (List ℕ)
-all_labels document = document.class.label.text ∷ document.class.package.text ∷ attribute_labels document
+all_labels document = document.class.label.text ∷ document.class.package_label.text ∷ attribute_labels document
 
 abbrev pub attribute_arcs : DocumentContents → List (List Token)
 attribute_arcs document = map (λ (attribute : AttributeContents). attribute.arcs) document.attributes

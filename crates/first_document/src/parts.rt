@@ -4,7 +4,7 @@
 use text_lex::Token;
 
 /// A module of one type, `M DEFINITIONS ::= BEGIN T ::= INTEGER END` (X.680, sections 13, 16 and 19).
-#[derive(Debug, Drop)]
+#[derive(Drop)]
 pub struct ModulePart {
     /// The module's name, any word.
     pub name: Token,
@@ -14,7 +14,7 @@ pub struct ModulePart {
 
 /// An attribute, `label ATTRIBUTE WITH ATTRIBUTE SYNTAX M.T; [MATCHES FOR EQUALITY, ORDERING;]
 /// REGISTERED AS {n n ..};` (X.722, section 8.7).
-#[derive(Debug, Drop)]
+#[derive(Drop)]
 pub struct AttributePart {
     /// The attribute's label.
     pub label: Token,
@@ -29,7 +29,7 @@ pub struct AttributePart {
 }
 
 /// The use of an attribute in a package, `label (GET or GET-REPLACE)` (X.722, section 8.4).
-#[derive(Debug, Drop)]
+#[derive(Drop)]
 pub struct AttributeUse {
     /// The attribute's label.
     pub label: Token,
@@ -39,7 +39,7 @@ pub struct AttributeUse {
 
 /// The class with its package, `label MANAGED OBJECT CLASS CHARACTERIZED BY label PACKAGE ATTRIBUTES
 /// use, ..;;; REGISTERED AS {n n ..};` (X.722, sections 8.3 and 8.4).
-#[derive(Debug, Drop)]
+#[derive(Drop)]
 pub struct ClassPart {
     /// The class's label.
     pub label: Token,
@@ -52,7 +52,7 @@ pub struct ClassPart {
 }
 
 /// The value that the instance gives an attribute, `label = n` (docs/PROFILE.md, section 6).
-#[derive(Debug, Drop)]
+#[derive(Drop)]
 pub struct GivenValue {
     /// The attribute's label.
     pub label: Token,
@@ -62,7 +62,7 @@ pub struct GivenValue {
 
 /// The root's instance, `INSTANCES ROOT label AT {label = n} WITH label = n, ..; END`
 /// (docs/PROFILE.md, section 6).
-#[derive(Debug, Drop)]
+#[derive(Drop)]
 pub struct RootPart {
     /// The label of its class.
     pub class: Token,
@@ -73,7 +73,7 @@ pub struct RootPart {
 }
 
 /// A document in the first form.
-#[derive(Debug, Drop)]
+#[derive(Drop)]
 pub struct DocumentParts {
     /// The module.
     pub module: ModulePart,
