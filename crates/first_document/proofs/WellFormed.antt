@@ -1,5 +1,5 @@
 -- The root of a document that keeps the conditions obeys its template.
-use Rattle.std.proofs.Common.{◌≡◌, ℕ, ◌+◌, ◌<◌, ◌≤◌, ◌^◌, Bool, true, false, pos, List, [], ◌∷◌, ◌++◌, All, Contains, length, map, refl, sym, ap, ◌∙◌, subst, arith, if◌then◌else◌, nat_lt}
+use Rattle.std.proofs.Common.{◌≡◌, ℕ, ◌+◌, ◌<◌, ◌≤◌, ◌^◌, Bool, true, false, pos, List, [], ◌∷◌, ◌++◌, All, Contains, get_or, length, map, refl, sym, ap, ◌∙◌, subst, arith, if◌then◌else◌, nat_lt}
 use Rattle.std.specs.Int.{w64}
 use Rattle.std.specs.Option.{option_map_or}
 use Rattle.std.specs.Prelude.{FitsSigned}
@@ -102,7 +102,7 @@ root_fine document consistent =
     let gs = given_values document.root in
     let used = All-unmap (Contains (used_labels document)) (λ (one : GivenValue). one.label.text) gs consistent.given in
     rising_fine (IsOfClass document) IsSmall (map (given_attribute document.attributes) gs)
-    (All-map P (given_attribute document.attributes) gs (λ k d within. given_fine document consistent _ (used k d within) (consistent.values k d within)))
+    (All-map P (given_attribute document.attributes) gs (λ k d within. given_fine document consistent (get_or gs k d) (used k d within) (consistent.values k d within)))
 
 -- ---- the root
 
