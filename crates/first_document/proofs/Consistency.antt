@@ -169,14 +169,14 @@ consistent parts records id identifiers e class index types named arcs class_arc
       arcs =
           All-cons AreArcs parts.class.arcs.items (attribute_arcs document) class_arcs
           (All-map AreArcs (λ (attribute : AttributeContents). attribute.arcs) (attributes_of parts)
-              (All-map (λ (attribute : AttributeContents). AreArcs attribute.arcs) attribute_contents parts.attributes.items arcs));
+          (All-map (λ (attribute : AttributeContents). AreArcs attribute.arcs) attribute_contents parts.attributes.items arcs));
       identifiers =
           subst (λ l. AreDistinct (arcs_of parts.class.arcs.items ∷ l)) (ids_are parts records e)
           (subst (λ i. AreDistinct (i ∷ record_ids records)) class ids);
       used =
           All-map (Contains (attribute_labels document)) (λ (one : AttributeUse). one.label.text) parts.class.uses.items
           (All-weaker (IsKnown identifiers) (λ (one : AttributeUse). Contains (attribute_labels document) one.label.text)
-              (λ one at. known_label parts identifiers index one.label.text at) parts.class.uses.items known);
+          (λ one at. known_label parts identifiers index one.label.text at) parts.class.uses.items known);
       used_once = used;
       class_named = named;
       given = given.given_used;

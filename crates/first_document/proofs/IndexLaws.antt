@@ -34,11 +34,11 @@ id_push : (xs : List AttrRec) (x : AttrRec) (q : List ℕ) → first_id (xs ++ x
 id_push [] x q = one_id (is_same_octets x.label q) x
 id_push (y ∷ ys) x q =
     by (is_same_octets y.label q) (id_push ys x q)
-    where
-      by : (b : Bool) → first_id (ys ++ x ∷ []) q ≡ option_or (first_id ys q) (cond (is_same_octets x.label q) (Some x.id) None) → option_map id_of (cond b (Some y) (find (λ (one : AttrRec). is_same_octets one.label q) (ys ++ x ∷ [])))
-          ≡ option_or (option_map id_of (cond b (Some y) (find (λ (one : AttrRec). is_same_octets one.label q) ys))) (cond (is_same_octets x.label q) (Some x.id) None)
-      by true later = refl
-      by false later = later
+  where
+    by : (b : Bool) → first_id (ys ++ x ∷ []) q ≡ option_or (first_id ys q) (cond (is_same_octets x.label q) (Some x.id) None) → option_map id_of (cond b (Some y) (find (λ (one : AttrRec). is_same_octets one.label q) (ys ++ x ∷ [])))
+        ≡ option_or (option_map id_of (cond b (Some y) (find (λ (one : AttrRec). is_same_octets one.label q) ys))) (cond (is_same_octets x.label q) (Some x.id) None)
+    by true later = refl
+    by false later = later
 
 or_none : (o : Option (List ℕ)) → o ≡ option_or o None
 or_none None = refl
@@ -105,7 +105,7 @@ lacks identifiers xs q index none at =
 pub is_lacking : (identifiers : Identifiers) (xs : List AttrRec) (q : List ℕ) → IsIndex identifiers xs → (Contains (record_labels xs) q → ⊥) → found_under identifiers q ≡ None
 is_lacking identifiers xs q index other =
     by (found_under identifiers q) refl
-    where
-      by : (o : Option (List ℕ)) → found_under identifiers q ≡ o → o ≡ None
-      by None e = refl
-      by (Some x) e = absurd (other ((member_Decides (record_labels xs) q).0 (sym (some_labelled identifiers xs q index) ∙ ap is_some e)))
+  where
+    by : (o : Option (List ℕ)) → found_under identifiers q ≡ o → o ≡ None
+    by None e = refl
+    by (Some x) e = absurd (other ((member_Decides (record_labels xs) q).0 (sym (some_labelled identifiers xs q index) ∙ ap is_some e)))

@@ -105,11 +105,12 @@ nothing_has members empty = λ q. ap (list_any (is_at (slice_cmp nat_cmp q))) em
 -- what `insert` says of a key that was not there, and of one that was
 pub insert_adds : (before after : BTreeSet (List ℕ)) (key label : List ℕ) (is_new : Bool) → key ≡ label → is_new ≡ not (contains (slice_cmp nat_cmp) before key) → is_new ≡ true
     → ((q : List ℕ) → contains (slice_cmp nat_cmp) after q ≡ cond (is_eq (slice_cmp nat_cmp key q)) true (contains (slice_cmp nat_cmp) before q)) → Adds before after label
-insert_adds before after key label is_new same added new updates =
-    (sym (ap (λ k. contains (slice_cmp nat_cmp) before k) same) ∙ not_true is_new (contains (slice_cmp nat_cmp) before key) added new,
-      λ q.
-          either (contains (slice_cmp nat_cmp) after q) (is_same_octets q label) (contains (slice_cmp nat_cmp) before q)
-          (updates q ∙ ap (λ b. cond b true (contains (slice_cmp nat_cmp) before q)) (same_by_order key q ∙ ap (λ k. is_same_octets q k) same)))
+insert_adds before after key label is_new same added new updates = (
+  sym (ap (λ k. contains (slice_cmp nat_cmp) before k) same) ∙ not_true is_new (contains (slice_cmp nat_cmp) before key) added new,
+  λ q.
+      either (contains (slice_cmp nat_cmp) after q) (is_same_octets q label) (contains (slice_cmp nat_cmp) before q)
+      (updates q ∙ ap (λ b. cond b true (contains (slice_cmp nat_cmp) before q)) (same_by_order key q ∙ ap (λ k. is_same_octets q k) same)),
+)
 
 pub insert_found : (before : BTreeSet (List ℕ)) (key label : List ℕ) (is_new : Bool) → key ≡ label → is_new ≡ not (contains (slice_cmp nat_cmp) before key) → is_new ≡ false
     → contains (slice_cmp nat_cmp) before label ≡ true
@@ -118,11 +119,12 @@ insert_found before key label is_new same added old =
 
 pub remove_removes : (before after : BTreeSet (List ℕ)) (key label : List ℕ) (was : Bool) → key ≡ label → was ≡ contains (slice_cmp nat_cmp) before key → was ≡ true
     → ((q : List ℕ) → contains (slice_cmp nat_cmp) after q ≡ cond (is_eq (slice_cmp nat_cmp key q)) false (contains (slice_cmp nat_cmp) before q)) → Removes before after label
-remove_removes before after key label was same test there updates =
-    (sym (ap (λ k. contains (slice_cmp nat_cmp) before k) same) ∙ sym test ∙ there,
-      λ q.
-          without (contains (slice_cmp nat_cmp) after q) (is_same_octets q label) (contains (slice_cmp nat_cmp) before q)
-          (updates q ∙ ap (λ b. cond b false (contains (slice_cmp nat_cmp) before q)) (same_by_order key q ∙ ap (λ k. is_same_octets q k) same)))
+remove_removes before after key label was same test there updates = (
+  sym (ap (λ k. contains (slice_cmp nat_cmp) before k) same) ∙ sym test ∙ there,
+  λ q.
+      without (contains (slice_cmp nat_cmp) after q) (is_same_octets q label) (contains (slice_cmp nat_cmp) before q)
+      (updates q ∙ ap (λ b. cond b false (contains (slice_cmp nat_cmp) before q)) (same_by_order key q ∙ ap (λ k. is_same_octets q k) same)),
+)
 
 pub has_more : (before after : BTreeSet (List ℕ)) (xs : List (List ℕ)) (y : List ℕ) → HasExactly before xs → Adds before after y → HasExactly after (xs ++ y ∷ [])
 has_more before after xs y has added = λ q. added.1 q ∙ ap (λ b. b || is_same_octets q y) (has q) ∙ sym (member_push q y xs)

@@ -31,23 +31,23 @@ found [] q at = absurd (nowhere q at)
 found (first ∷ others) q at =
     let r = by (is_same_octets first.label.text q) refl (found others q) in
     record { attribute = r.0; among = r.1; is = r.2 }
-    where
-      by : (b : Bool) → is_same_octets first.label.text q ≡ b → (Contains (map label_of others) q → Found others q) → (a : AttributeContents) × Contains (first ∷ others) a × (cond b (Some first) (labelled others q) ≡ Some a)
-      by true e more = (first, here first others, refl)
-      by false e more =
-          let other : first.label.text ≡ q → ⊥ = λ same. cc (sym e ∙ (bytes_eq-Decides first.label.text q).1 same) in
-          let later = more (Contains-tail first.label.text (map label_of others) q other at) in
-          (later.attribute, there first later.attribute others later.among, later.is)
+  where
+    by : (b : Bool) → is_same_octets first.label.text q ≡ b → (Contains (map label_of others) q → Found others q) → (a : AttributeContents) × Contains (first ∷ others) a × (cond b (Some first) (labelled others q) ≡ Some a)
+    by true e more = (first, here first others, refl)
+    by false e more =
+        let other : first.label.text ≡ q → ⊥ = λ same. cc (sym e ∙ (bytes_eq-Decides first.label.text q).1 same) in
+        let later = more (Contains-tail first.label.text (map label_of others) q other at) in
+        (later.attribute, there first later.attribute others later.among, later.is)
 
 -- no attribute is found under another label
 pub among_labels : (attributes : List AttributeContents) (q : List ℕ) → is_some (labelled attributes q) ≡ true → Contains (map label_of attributes) q
 among_labels [] q h = absurd (cc h)
 among_labels (first ∷ others) q h =
     by (is_same_octets first.label.text q) refl (among_labels others q) h
-    where
-      by : (b : Bool) → is_same_octets first.label.text q ≡ b → (is_some (labelled others q) ≡ true → Contains (map label_of others) q) → is_some (cond b (Some first) (labelled others q)) ≡ true → Contains (first.label.text ∷ map label_of others) q
-      by true e more h = subst (λ z. Contains (first.label.text ∷ map label_of others) z) ((bytes_eq-Decides first.label.text q).0 e) (here first.label.text (map label_of others))
-      by false e more h = there first.label.text q (map label_of others) (more h)
+  where
+    by : (b : Bool) → is_same_octets first.label.text q ≡ b → (is_some (labelled others q) ≡ true → Contains (map label_of others) q) → is_some (cond b (Some first) (labelled others q)) ≡ true → Contains (first.label.text ∷ map label_of others) q
+    by true e more h = subst (λ z. Contains (first.label.text ∷ map label_of others) z) ((bytes_eq-Decides first.label.text q).0 e) (here first.label.text (map label_of others))
+    by false e more h = there first.label.text q (map label_of others) (more h)
 
 -- ---- the index of the records
 

@@ -64,15 +64,16 @@ unfolding IsStrictlySortedBy
 sorted_insert [] k h = search rules
 sorted_insert (x ∷ xs) k h =
     by (slice_cmp nat_cmp k x) refl (sorted_insert xs k h.1)
-    where
-      by : (o : Ordering) → slice_cmp nat_cmp k x ≡ o → IsStrictlySortedBy (slice_cmp nat_cmp) (insert_key (slice_cmp nat_cmp) xs k) → IsStrictlySortedBy (slice_cmp nat_cmp) (match_ordering o (k ∷ x ∷ xs) (x ∷ xs) (x ∷ insert_key (slice_cmp nat_cmp) xs k))
-      by Less e rest = ((e, below_itself k x xs e h.0), h)
-      by Equal e rest = h
-      by Greater e rest =
-          let back : slice_cmp nat_cmp x k ≡ Less = nat_list_cmp_total.antisymm x k ∙ ap ordering_reverse e in
-          (recursion_from_All (λ y. slice_cmp nat_cmp x y ≡ Less) (insert_key (slice_cmp nat_cmp) xs k)
+  where
+    by : (o : Ordering) → slice_cmp nat_cmp k x ≡ o → IsStrictlySortedBy (slice_cmp nat_cmp) (insert_key (slice_cmp nat_cmp) xs k) → IsStrictlySortedBy (slice_cmp nat_cmp) (match_ordering o (k ∷ x ∷ xs) (x ∷ xs) (x ∷ insert_key (slice_cmp nat_cmp) xs k))
+    by Less e rest = ((e, below_itself k x xs e h.0), h)
+    by Equal e rest = h
+    by Greater e rest =
+        let back : slice_cmp nat_cmp x k ≡ Less = nat_list_cmp_total.antisymm x k ∙ ap ordering_reverse e in (
+          recursion_from_All (λ y. slice_cmp nat_cmp x y ≡ Less) (insert_key (slice_cmp nat_cmp) xs k)
               (All-insert_key (slice_cmp nat_cmp) k (λ y. slice_cmp nat_cmp x y ≡ Less) xs (All-from_recursion (λ y. slice_cmp nat_cmp x y ≡ Less) xs h.0) back),
-            rest)
+          rest,
+        )
 
 fold_sorted : (news old : List Attribute) → IsStrictlySortedBy (slice_cmp nat_cmp) (identifiers old) → IsStrictlySortedBy (slice_cmp nat_cmp) (identifiers (fold placed old news))
 fold_sorted [] old h = h
@@ -113,25 +114,25 @@ inserted : (ks : List (List ℕ)) (k : List ℕ) → Contains (insert_key (slice
 inserted [] k = here k []
 inserted (x ∷ xs) k =
     by (slice_cmp nat_cmp k x) refl (inserted xs k)
-    where
-      by : (o : Ordering) → slice_cmp nat_cmp k x ≡ o → Contains (insert_key (slice_cmp nat_cmp) xs k) k → Contains (match_ordering o (k ∷ x ∷ xs) (x ∷ xs) (x ∷ insert_key (slice_cmp nat_cmp) xs k)) k
-      by Less e later = here k (x ∷ xs)
-      by Equal e later = subst (λ z. Contains (x ∷ xs) z) (sym (exact_bytes k x e)) (here x xs)
-      by Greater e later = there x k (insert_key (slice_cmp nat_cmp) xs k) later
+  where
+    by : (o : Ordering) → slice_cmp nat_cmp k x ≡ o → Contains (insert_key (slice_cmp nat_cmp) xs k) k → Contains (match_ordering o (k ∷ x ∷ xs) (x ∷ xs) (x ∷ insert_key (slice_cmp nat_cmp) xs k)) k
+    by Less e later = here k (x ∷ xs)
+    by Equal e later = subst (λ z. Contains (x ∷ xs) z) (sym (exact_bytes k x e)) (here x xs)
+    by Greater e later = there x k (insert_key (slice_cmp nat_cmp) xs k) later
 
 kept : (ks : List (List ℕ)) (k q : List ℕ) → Contains ks q → Contains (insert_key (slice_cmp nat_cmp) ks k) q
 kept [] k q at = absurd (nowhere q at)
 kept (x ∷ xs) k q at =
     by (slice_cmp nat_cmp k x) (kept xs k q)
-    where
-      by : (o : Ordering) → (Contains xs q → Contains (insert_key (slice_cmp nat_cmp) xs k) q) → Contains (match_ordering o (k ∷ x ∷ xs) (x ∷ xs) (x ∷ insert_key (slice_cmp nat_cmp) xs k)) q
-      by Less more = there k q (x ∷ xs) at
-      by Equal more = at
-      by Greater more =
-          elim (first_or_later x q xs at) [
-            | inl same ↦ subst (λ z. Contains (x ∷ insert_key (slice_cmp nat_cmp) xs k) z) same (here x (insert_key (slice_cmp nat_cmp) xs k))
-            | inr later ↦ there x q (insert_key (slice_cmp nat_cmp) xs k) (more later)
-          ]
+  where
+    by : (o : Ordering) → (Contains xs q → Contains (insert_key (slice_cmp nat_cmp) xs k) q) → Contains (match_ordering o (k ∷ x ∷ xs) (x ∷ xs) (x ∷ insert_key (slice_cmp nat_cmp) xs k)) q
+    by Less more = there k q (x ∷ xs) at
+    by Equal more = at
+    by Greater more =
+        elim (first_or_later x q xs at) [
+          | inl same ↦ subst (λ z. Contains (x ∷ insert_key (slice_cmp nat_cmp) xs k) z) same (here x (insert_key (slice_cmp nat_cmp) xs k))
+          | inr later ↦ there x q (insert_key (slice_cmp nat_cmp) xs k) (more later)
+        ]
 
 fold_keeps : (news old : List Attribute) (q : List ℕ) → Contains (identifiers old) q → Contains (identifiers (fold placed old news)) q
 fold_keeps [] old q at = at
@@ -143,8 +144,8 @@ fold_has [] old q at = absurd (nowhere q at)
 fold_has (new ∷ news) old q at =
     elim (first_or_later new.id q (identifiers news) at) [
       | inl same ↦
-        fold_keeps news (placed old new) q
-        (subst (λ l. Contains l q) (sym (placed_id old new)) (subst (λ z. Contains (insert_key (slice_cmp nat_cmp) (identifiers old) new.id) z) same (inserted (identifiers old) new.id)))
+          fold_keeps news (placed old new) q
+          (subst (λ l. Contains l q) (sym (placed_id old new)) (subst (λ z. Contains (insert_key (slice_cmp nat_cmp) (identifiers old) new.id) z) same (inserted (identifiers old) new.id)))
       | inr later ↦ fold_has news (placed old new) q later
     ]
 
@@ -161,14 +162,14 @@ placed_fine : (P : List ℕ → Type 0) (Q : TypedValue → Type 0) (xs : List A
 placed_fine P Q [] x each new = All-cons (Fine P Q) x [] new each
 placed_fine P Q (first ∷ others) x each new =
     by (slice_cmp nat_cmp x.id first.id) (placed_fine P Q others x (All-tail (Fine P Q) first others each) new)
-    where
-      by : (o : Ordering) → All (Fine P Q) (placed others x) → All (Fine P Q) (match_ordering o (x ∷ first ∷ others) (record first { value = x.value } ∷ others) (first ∷ placed others x))
-      by Less later = All-cons (Fine P Q) x (first ∷ others) new each
-      by Equal later =
-          All-cons (Fine P Q) (record first { value = x.value }) others
-          (record { id = (All-head (Fine P Q) first others each).id; value = new.value })
-          (All-tail (Fine P Q) first others each)
-      by Greater later = All-cons (Fine P Q) first (placed others x) (All-head (Fine P Q) first others each) later
+  where
+    by : (o : Ordering) → All (Fine P Q) (placed others x) → All (Fine P Q) (match_ordering o (x ∷ first ∷ others) (record first { value = x.value } ∷ others) (first ∷ placed others x))
+    by Less later = All-cons (Fine P Q) x (first ∷ others) new each
+    by Equal later =
+        All-cons (Fine P Q) (record first { value = x.value }) others
+        (record { id = (All-head (Fine P Q) first others each).id; value = new.value })
+        (All-tail (Fine P Q) first others each)
+    by Greater later = All-cons (Fine P Q) first (placed others x) (All-head (Fine P Q) first others each) later
 
 fold_fine : (P : List ℕ → Type 0) (Q : TypedValue → Type 0) (news old : List Attribute) → All (Fine P Q) old → All (Fine P Q) news → All (Fine P Q) (fold placed old news)
 fold_fine P Q [] old each none = each

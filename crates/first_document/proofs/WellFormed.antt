@@ -35,10 +35,10 @@ short_length : (n : ℕ) → n < 128 → length (length_octets n) ≡ 1
 unfolding length_octets
 short_length n small =
     by (nat_lt n 128) ((Decides-ltb n 128).1 small)
-    where
-      by : (b : Bool) → b ≡ true → length (if b then n ∷ [] else (128 + count_unsigned n) ∷ octets (count_unsigned n) n) ≡ 1
-      by true e = refl
-      by false e = absurd (cc e)
+  where
+    by : (b : Bool) → b ≡ true → length (if b then n ∷ [] else (128 + count_unsigned n) ∷ octets (count_unsigned n) n) ≡ 1
+    by true e = refl
+    by false e = absurd (cc e)
 
 one_octet : length (identifier_octets false INTEGER) ≡ 1
 unfolding identifier_octets
@@ -123,7 +123,7 @@ root_obeys document consistent =
       each =
           subst (All (Contains (identifiers attributes))) (sym (class_ids document))
           (All-map (Contains (identifiers attributes)) (identifier_of document.attributes) (used_labels document)
-              (All-weaker (Contains (given_labels document)) (λ q. Contains (identifiers attributes) (identifier_of document.attributes q)) given_there (used_labels document) consistent.given_each));
+          (All-weaker (Contains (given_labels document)) (λ q. Contains (identifiers attributes) (identifier_of document.attributes q)) given_there (used_labels document) consistent.given_each));
       values =
           λ k d within.
           let one = fine k d within in

@@ -60,10 +60,7 @@ pub(crate) fn attribute_records(
 }
 
 /// The identifiers of attributes by label. `Outside`: two labels are one.
-fn identifiers_by_label(
-    alloc: Global,
-    records: &[AttrRec],
-) -> Result<Identifiers, DocumentRefusal>
+fn identifiers_by_label(alloc: Global, records: &[AttrRec]) -> Result<Identifiers, DocumentRefusal>
     ensures found { IfOk result (λ identifiers. IsIndex identifiers records.now) }
     ensures distinct { OnOk result (AreDistinct (record_labels records.now)) }
     ensures outside { result ≡ Err DocumentRefusal.Outside → AreDistinct (record_labels records.now) → ⊥ }
@@ -91,11 +88,7 @@ fn are_free(identifiers: &Identifiers, class_label: &Bytes, package_label: &Byte
 }
 
 /// `Outside`: two identifiers are one.
-fn check_identifiers(
-    alloc: Global,
-    class: &Oid,
-    records: &[AttrRec],
-) -> Result<(), DocumentRefusal>
+fn check_identifiers(alloc: Global, class: &Oid, records: &[AttrRec]) -> Result<(), DocumentRefusal>
     ensures distinct { OnOk result (AreDistinct (class.now ∷ record_ids records.now)) }
     ensures outside { result ≡ Err DocumentRefusal.Outside → AreDistinct (class.now ∷ record_ids records.now) → ⊥ }
 {

@@ -20,4 +20,6 @@ pub use parts::DocumentParts;
 pub use reading::read_parts;
 
 #[cfg(test)]
+mod record_tests;
+#[cfg(test)]
 mod tests;

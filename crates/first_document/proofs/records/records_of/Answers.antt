@@ -105,18 +105,18 @@ returns-clause-found c =
     let known = subst (All (IsKnown identifiers)) c.deref-5.ensures.value c.in_ok-properties.ensures.known in
     let used = subst (λ l. AreDistinct (use_labels l)) c.deref-6.ensures.value c.in_ok-labels.ensures.distinct in
     let given =
-        subst (λ l. GivesEach (use_labels l) (given_texts (all_given parts))) c.deref-6.ensures.value
-        (c.in_ok-check_given.ensures.found (use_labels c.deref-6.result.now) c.in_ok-labels.ensures.found) in
+    subst (λ l. GivesEach (use_labels l) (given_texts (all_given parts))) c.deref-6.ensures.value
+    (c.in_ok-check_given.ensures.found (use_labels c.deref-6.result.now) c.in_ok-labels.ensures.found) in
     let root = c.in_ok-root.ensures in
     let small = subst (λ l. size_of l ≤ most_object) root.given root.small in
     let class : ClassRec = record { id = id; label = c.in_ok-label.label; properties = c.in_ok-properties.properties } in
     let properties = c.in_ok-properties.ensures.found ∙ ap (map (property_under identifiers)) c.deref-5.ensures.value ∙ properties_are parts identifiers index in
     let classes =
-        c.in_ok-push.ensures.items ∙ ap (λ l. l ++ class ∷ []) c.new-classes.ensures.items
-        ∙ ap (λ x. x ∷ []) (class_is parts class class_id c.in_ok-label.ensures properties) in
+    c.in_ok-push.ensures.items ∙ ap (λ l. l ++ class ∷ []) c.new-classes.ensures.items
+    ∙ ap (λ x. x ∷ []) (class_is parts class class_id c.in_ok-label.ensures properties) in
     let instances =
-        c.in_ok-push-2.ensures.items ∙ ap (λ l. l ++ c.in_ok-root.root ∷ []) c.new-instances.ensures.items
-        ∙ ap (λ x. x ∷ []) (root_is parts identifiers index c.in_ok-root.root (root.class ∙ class_id) root.name root.given) in
+    c.in_ok-push-2.ensures.items ∙ ap (λ l. l ++ c.in_ok-root.root ∷ []) c.new-instances.ensures.items
+    ∙ ap (λ x. x ∷ []) (root_is parts identifiers index c.in_ok-root.root (root.class ∙ class_id) root.name root.given) in
     let schema : Set = record { classes = c.push.new.self.items; attributes = records; instances = c.push-2.new.self.items; system = c.in_ok-system.system } in (
       consistent parts records id identifiers made class_id index types named arcs class_arcs labels ids known used given root.givable small,
       schema_is parts schema classes (made ∙ records_are parts) instances (system_is parts identifiers index c.in_ok-system.system c.in_ok-system.ensures.found),

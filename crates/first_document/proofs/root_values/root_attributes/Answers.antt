@@ -20,7 +20,7 @@ loop-given-init c =
       made =
           ap (map entry_attribute)
           (c.in_ok-add_value.ensures.added
-              ∙ ap (λ es. insert_entry (slice_cmp nat_cmp) es (identifier_under identifiers named.label.text) (pos (number_of named.number))) c.new-values.ensures.empty);
+          ∙ ap (λ es. insert_entry (slice_cmp nat_cmp) es (identifier_under identifiers named.label.text) (pos (number_of named.number))) c.new-values.ensures.empty);
     }
 
 pub returns-in_err-add_value-2-clause-outside : goal.returns-in_err-add_value-2-clause-outside
