@@ -1,6 +1,14 @@
 -- The lemmas of this crate.
+pub mod Consistency
 pub mod Ends
-pub mod Repeats
-pub mod Templates
+pub mod IndexLaws
+pub mod LabelLaws
+pub mod Labelled
+pub mod Loops
+pub mod Numerals
 pub mod OneTree
+pub mod Repeats
+pub mod RisingAttributes
 pub mod StandardFacts
+pub mod Templates
+pub mod WellFormed

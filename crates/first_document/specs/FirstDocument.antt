@@ -77,9 +77,13 @@ pub record IsConsistent (document : DocumentContents) : Type 0 where
   -- the root, as its attributes in SET OF Attribute
   pub small : length (object_octets (opened_object (root_record document)).object) ≤ most_object
 
+-- the tokens spell these parts, and nothing stands behind them
+abbrev pub SpellsDocument : List Token → DocumentParts → Type 0
+SpellsDocument tokens parts = Spells tokens no_names document_form 0 (length tokens) (document_tree parts)
+
 -- the tokens are a document in the first form, and these are its records
 pub record IsFirstDocument (tokens : List Token) (schema : Set) : Type 0 where
   pub parts : DocumentParts
-  pub spelt : Spells tokens no_names document_form 0 (length tokens) (document_tree parts)
+  pub spelt : SpellsDocument tokens parts
   pub consistent : IsConsistent (document_contents parts)
   pub records : schema ≡ records_of (document_contents parts)

@@ -3,4 +3,5 @@ pub mod Contents
 pub mod DocumentForm
 pub mod DocumentTree
 pub mod FirstDocument
+pub mod Gathering
 pub mod Records

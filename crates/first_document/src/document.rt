@@ -4,7 +4,9 @@ ghost use Rattle.std.specs.Prelude.{◌≡◌, IfOk};
 ghost use Rattle.term_model.specs.declared.schema.Set.{Set};
 ghost use Rattle.term_model.specs.AgentState.{start};
 ghost use Rattle.term_model.specs.WellFormedMib.{IsWellFormedMib};
-ghost use Rattle.first_document.specs.FirstDocument.{IsFirstDocument};
+ghost use Rattle.first_document.specs.declared.parts.DocumentParts.{DocumentParts};
+ghost use Rattle.first_document.specs.Contents.{document_contents};
+ghost use Rattle.first_document.specs.FirstDocument.{IsFirstDocument, SpellsDocument};
 
 use crate::document_refusal::DocumentRefusal;
 use crate::parts::DocumentParts;
@@ -15,7 +17,11 @@ use term_model::Set;
 use text_lex::{SyntaxRefusal, Token};
 
 /// The parts of a document. `Outside`: the tokens do not spell one, or go on behind it.
-fn whole_parts(alloc: Global, tokens: &[Token]) -> Result<DocumentParts, DocumentRefusal> {
+fn whole_parts(alloc: Global, tokens: &[Token]) -> Result<DocumentParts, DocumentRefusal>
+    ensures spelt { IfOk result (SpellsDocument tokens.now) }
+    ensures only { IfOk result (λ parts. (other : DocumentParts) → SpellsDocument tokens.now other → document_contents other ≡ document_contents parts) }
+    ensures outside { result ≡ Err DocumentRefusal.Outside → (parts : DocumentParts) → SpellsDocument tokens.now parts → ⊥ }
+{
     match read_parts(alloc, tokens) {
         Ok((parts, end)) => {
             if end == tokens.len() {

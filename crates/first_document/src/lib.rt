@@ -4,16 +4,22 @@
 
 pub mod document;
 pub mod document_refusal;
+mod identifiers;
+mod label_sets;
 pub mod laws;
 mod marks;
+mod numbers;
 pub mod parts;
 pub mod reading;
 mod records;
+mod root_values;
 
 pub use document::read_document;
 pub use document_refusal::DocumentRefusal;
 pub use parts::DocumentParts;
 pub use reading::read_parts;
 
+#[cfg(test)]
+mod record_tests;
 #[cfg(test)]
 mod tests;

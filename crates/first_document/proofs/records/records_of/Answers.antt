@@ -1,0 +1,123 @@
+-- What the records say of the parts.
+use Rattle.std.proofs.Common.{◌≡◌, ◌≤◌, ◌∷◌, ◌++◌, [], List, All, map, sym, ap, ◌∙◌, subst, rules, arith}
+use Rattle.std.proofs.lemmas.Bool.{false≢true}
+use Rattle.std.proofs.lemmas.List.Elements.{All-head}
+use Rattle.term_model.specs.declared.schema.ClassRec.{ClassRec}
+use Rattle.term_model.specs.declared.schema.Set.{Set}
+use Rattle.term_model.specs.WellFormedMib.{most_object}
+use Rattle.first_document.specs.declared.parts.AttributePart.{AttributePart}
+use Rattle.first_document.specs.Contents.{attribute_contents}
+use Rattle.first_document.specs.FirstDocument.{AreArcs, AreDistinct, HasType}
+use Rattle.first_document.specs.Gathering.{GivesEach, HasArcs, IsGivable, IsIndex, IsKnown, given_texts, part_record, property_under, record_ids, record_labels, size_of, use_labels}
+use Rattle.first_document.specs.Records.{arcs_of}
+use Rattle.first_document.proofs.Consistency.{all_given, all_givable, all_known, all_registered, all_typed, class_is, class_registered, consistent, gives, ids_differ, index_is, labels_differ, properties_are, records_are, root_is, root_small, schema_is, system_is}
+use Rattle.first_document.proofs.records.records_of.Goals as goal
+
+pub returns-then-not-is_typed-clause-outside : goal.returns-then-not-is_typed-clause-outside
+returns-then-not-is_typed-clause-outside c =
+    λ e consistent.
+    let parts = c.args.parts.now in
+    let each = subst (All (λ (part : AttributePart). HasType parts.module (attribute_contents part))) (sym c.deref.ensures.value) (all_typed parts consistent) in
+    false≢true (sym c.if-not-is_typed.true ∙ c.are_of_type-is_typed.ensures.1 each)
+
+pub returns-then-not-is_of_class-clause-outside : goal.returns-then-not-is_of_class-clause-outside
+returns-then-not-is_of_class-clause-outside c =
+    λ e consistent. false≢true (sym c.if-not-is_of_class.true ∙ c.is_same_text-is_of_class.ensures.1 consistent.class_named)
+
+pub returns-in_err-attributes-clause-outside : goal.returns-in_err-attributes-clause-outside
+returns-in_err-attributes-clause-outside c =
+    λ e consistent.
+    c.in_err-attributes.ensures.outside (first_of (search rules, grind arith))
+    (subst (All HasArcs) (sym c.deref-2.ensures.value) (all_registered c.args.parts.now consistent))
+
+pub returns-in_err-id-clause-outside : goal.returns-in_err-id-clause-outside
+returns-in_err-id-clause-outside c =
+    λ e consistent.
+    c.in_err-id.ensures.outside (first_of (search rules, grind arith))
+    (subst AreArcs (sym c.deref-3.ensures.value) (class_registered c.args.parts.now consistent))
+
+pub returns-in_err-identifiers-clause-outside : goal.returns-in_err-identifiers-clause-outside
+returns-in_err-identifiers-clause-outside c =
+    λ e consistent.
+    let parts = c.args.parts.now in
+    let records = c.in_ok-attributes.attributes.items in
+    let made : records ≡ map part_record parts.attributes.items = c.in_ok-attributes.ensures.found ∙ ap (map part_record) c.deref-2.ensures.value in
+    let id = c.in_ok-id.id in
+    let class : id ≡ arcs_of parts.class.arcs.items = c.in_ok-id.ensures.found.1 ∙ ap arcs_of c.deref-3.ensures.value in
+    c.in_err-identifiers.ensures.outside (first_of (search rules, grind arith))
+    (subst (λ l. AreDistinct (parts.class.label.text ∷ parts.class.package.text ∷ record_labels l)) (sym c.deref-4.ensures.value) (labels_differ parts records made consistent))
+    (subst (λ l. AreDistinct (id ∷ record_ids l)) (sym c.deref-4.ensures.value) (ids_differ parts records id made class consistent))
+
+pub returns-in_err-properties-clause-outside : goal.returns-in_err-properties-clause-outside
+returns-in_err-properties-clause-outside c =
+    λ e consistent.
+    let parts = c.args.parts.now in
+    let records = c.in_ok-attributes.attributes.items in
+    let made : records ≡ map part_record parts.attributes.items = c.in_ok-attributes.ensures.found ∙ ap (map part_record) c.deref-2.ensures.value in
+    let identifiers = c.in_ok-identifiers.identifiers in
+    let index = index_is parts identifiers records made (subst (IsIndex identifiers) c.deref-4.ensures.value c.in_ok-identifiers.ensures.found) in
+    c.in_err-properties.ensures.outside (first_of (search rules, grind arith))
+    (subst (All (IsKnown identifiers)) (sym c.deref-5.ensures.value) (all_known parts identifiers index consistent))
+
+pub returns-in_err-check_given-clause-outside : goal.returns-in_err-check_given-clause-outside
+returns-in_err-check_given-clause-outside c =
+    λ e consistent.
+    let parts = c.args.parts.now in
+    c.in_err-check_given.ensures.outside (first_of (search rules, grind arith)) (use_labels c.deref-6.result.now) c.in_ok-labels.ensures.found
+    (subst (λ l. GivesEach (use_labels l) (given_texts (all_given parts))) (sym c.deref-6.ensures.value) (gives parts consistent))
+
+pub returns-in_err-root-clause-outside : goal.returns-in_err-root-clause-outside
+returns-in_err-root-clause-outside c =
+    λ e consistent.
+    let parts = c.args.parts.now in
+    let records = c.in_ok-attributes.attributes.items in
+    let made : records ≡ map part_record parts.attributes.items = c.in_ok-attributes.ensures.found ∙ ap (map part_record) c.deref-2.ensures.value in
+    let identifiers = c.in_ok-identifiers.identifiers in
+    let index = index_is parts identifiers records made (subst (IsIndex identifiers) c.deref-4.ensures.value c.in_ok-identifiers.ensures.found) in
+    c.in_err-root.ensures.outside (first_of (search rules, grind arith)) (all_givable parts identifiers index consistent) (root_small parts identifiers index consistent)
+
+pub returns-in_err-system-clause-outside : goal.returns-in_err-system-clause-outside
+returns-in_err-system-clause-outside c =
+    λ e consistent.
+    let parts = c.args.parts.now in
+    let records = c.in_ok-attributes.attributes.items in
+    let made : records ≡ map part_record parts.attributes.items = c.in_ok-attributes.ensures.found ∙ ap (map part_record) c.deref-2.ensures.value in
+    let identifiers = c.in_ok-identifiers.identifiers in
+    let index = index_is parts identifiers records made (subst (IsIndex identifiers) c.deref-4.ensures.value c.in_ok-identifiers.ensures.found) in
+    c.in_err-system.ensures.outside (first_of (search rules, grind arith))
+    (All-head (IsGivable identifiers) parts.root.named_by parts.root.others.items (all_givable parts identifiers index consistent))
+
+pub returns-clause-found : goal.returns-clause-found
+returns-clause-found c =
+    let parts = c.args.parts.now in
+    let records = c.in_ok-attributes.attributes.items in
+    let made : records ≡ map part_record parts.attributes.items = c.in_ok-attributes.ensures.found ∙ ap (map part_record) c.deref-2.ensures.value in
+    let identifiers = c.in_ok-identifiers.identifiers in
+    let index = index_is parts identifiers records made (subst (IsIndex identifiers) c.deref-4.ensures.value c.in_ok-identifiers.ensures.found) in
+    let id = c.in_ok-id.id in
+    let class_id : id ≡ arcs_of parts.class.arcs.items = c.in_ok-id.ensures.found.1 ∙ ap arcs_of c.deref-3.ensures.value in
+    let types = subst (All (λ (part : AttributePart). HasType parts.module (attribute_contents part))) c.deref.ensures.value (c.are_of_type-is_typed.ensures.0 c.if-not-is_typed.false) in
+    let named = c.is_same_text-is_of_class.ensures.0 c.if-not-is_of_class.false in
+    let arcs = subst (All HasArcs) c.deref-2.ensures.value c.in_ok-attributes.ensures.arcs in
+    let class_arcs = subst AreArcs c.deref-3.ensures.value c.in_ok-id.ensures.found.0 in
+    let labels = subst (λ l. AreDistinct (parts.class.label.text ∷ parts.class.package.text ∷ record_labels l)) c.deref-4.ensures.value c.in_ok-identifiers.ensures.labels in
+    let ids = subst (λ l. AreDistinct (id ∷ record_ids l)) c.deref-4.ensures.value c.in_ok-identifiers.ensures.identifiers in
+    let known = subst (All (IsKnown identifiers)) c.deref-5.ensures.value c.in_ok-properties.ensures.known in
+    let used = subst (λ l. AreDistinct (use_labels l)) c.deref-6.ensures.value c.in_ok-labels.ensures.distinct in
+    let given =
+    subst (λ l. GivesEach (use_labels l) (given_texts (all_given parts))) c.deref-6.ensures.value
+    (c.in_ok-check_given.ensures.found (use_labels c.deref-6.result.now) c.in_ok-labels.ensures.found) in
+    let root = c.in_ok-root.ensures in
+    let small = subst (λ l. size_of l ≤ most_object) root.given root.small in
+    let class : ClassRec = record { id = id; label = c.in_ok-label.label; properties = c.in_ok-properties.properties } in
+    let properties = c.in_ok-properties.ensures.found ∙ ap (map (property_under identifiers)) c.deref-5.ensures.value ∙ properties_are parts identifiers index in
+    let classes =
+    c.in_ok-push.ensures.items ∙ ap (λ l. l ++ class ∷ []) c.new-classes.ensures.items
+    ∙ ap (λ x. x ∷ []) (class_is parts class class_id c.in_ok-label.ensures properties) in
+    let instances =
+    c.in_ok-push-2.ensures.items ∙ ap (λ l. l ++ c.in_ok-root.root ∷ []) c.new-instances.ensures.items
+    ∙ ap (λ x. x ∷ []) (root_is parts identifiers index c.in_ok-root.root (root.class ∙ class_id) root.name root.given) in
+    let schema : Set = record { classes = c.push.new.self.items; attributes = records; instances = c.push-2.new.self.items; system = c.in_ok-system.system } in (
+      consistent parts records id identifiers made class_id index types named arcs class_arcs labels ids known used given root.givable small,
+      schema_is parts schema classes (made ∙ records_are parts) instances (system_is parts identifiers index c.in_ok-system.system c.in_ok-system.ensures.found),
+    )

@@ -1,0 +1,69 @@
+//! Numbers, and object identifiers, that tokens spell: X.722, section 8.7; X.660, clause 7; docs/PROFILE.md, section 6.
+
+ghost use Rattle.std.specs.Prelude.{◌≡◌, ◌<◌, ◌^◌, All, IfNone, IfOk, IfSome};
+ghost use Rattle.std.specs.Str.Parse.{IsNumeral, digits_value};
+ghost use Rattle.first_document.specs.FirstDocument.{AreArcs, IsNumberBelow};
+ghost use Rattle.first_document.specs.Records.{arcs_of, number_of};
+
+use crate::document_refusal::DocumentRefusal;
+use std::alloc::Global;
+use term_values::Oid;
+use text_lex::Token;
+
+/// Arcs are below this number.
+const ARCS: u64 = 1 << 32;
+
+/// The number that decimal digits spell; none where they are no number below 2 ^ 64.
+fn decimal(digits: &[u8]) -> Option<u64>
+    ensures found { IfSome result (λ n. IsNumeral 10 digits.now × (n ≡ digits_value 10 digits.now)) }
+    ensures none { IfNone result (IsNumeral 10 digits.now → digits_value 10 digits.now < 2 ^ 64 → ⊥) }
+{
+    if digits.is_empty() {
+        return None;
+    }
+    let mut number = 0u64;
+    for digit in digits {
+        if !digit.is_ascii_digit() {
+            return None;
+        }
+        let tens = number.checked_mul(10)?;
+        number = tens.checked_add(u64::from(*digit - b'0'))?;
+    }
+    Some(number)
+}
+
+/// The number of a token, where it is below the limit.
+pub(crate) fn number_below(token: &Token, limit: u64) -> Option<u64>
+    ensures found { IfSome result (λ n. IsNumberBelow limit token.now × (n ≡ number_of token.now)) }
+    ensures none { IfNone result (IsNumberBelow limit token.now → ⊥) }
+{
+    let number = decimal(token.text.as_slice())?;
+    if number < limit { Some(number) } else { None }
+}
+
+/// The numbers of arcs. `Outside`: one is no number, or is too great.
+fn read_arcs(alloc: Global, arcs: &[Token]) -> Result<Vec<u32>, DocumentRefusal>
+    ensures found { IfOk result (λ numbers. All (IsNumberBelow (2 ^ 32)) arcs.now × (numbers.items ≡ arcs_of arcs.now)) }
+    ensures outside { result ≡ Err DocumentRefusal.Outside → All (IsNumberBelow (2 ^ 32)) arcs.now → ⊥ }
+{
+    let mut numbers = Vec::new(alloc);
+    for arc in arcs {
+        match number_below(arc, ARCS) {
+            Some(number) => numbers.push(number as u32)?,
+            None => return Err(DocumentRefusal::Outside),
+        }
+    }
+    Ok(numbers)
+}
+
+/// The identifier that has these arcs. `Outside`: they are no identifier's.
+pub(crate) fn read_identifier(alloc: Global, arcs: &[Token]) -> Result<Oid, DocumentRefusal>
+    ensures found { IfOk result (λ oid. AreArcs arcs.now × (oid ≡ arcs_of arcs.now)) }
+    ensures outside { result ≡ Err DocumentRefusal.Outside → AreArcs arcs.now → ⊥ }
+{
+    let numbers = read_arcs(alloc, arcs)?;
+    match Oid::from_arcs(numbers) {
+        Some(oid) => Ok(oid),
+        None => Err(DocumentRefusal::Outside),
+    }
+}
