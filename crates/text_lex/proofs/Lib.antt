@@ -16,4 +16,5 @@ pub mod Once
 pub mod Pieces
 pub mod Reading
 pub mod Slices
+pub mod Values
 pub mod StandardFacts
