@@ -4,3 +4,6 @@ pub mod Apart
 pub mod Members
 pub mod WithClauses
 pub mod Alternatives
+pub mod Values
+pub mod MemberValues
+pub mod FurtherValues

@@ -13,6 +13,41 @@ use Rattle.text_lex.specs.Form.{Tree, Bare, Leaf, Pair, First, Second, Absent, P
 use Rattle.text_lex.specs.Parts.{optional_tree, list_tree, document_name_tree, label_reference_tree, qualified_name_tree, arc_tree, first_arc_tree, object_identifier_tree}
 use Rattle.text_lex.specs.PartLaws.{OneValue, OneValueBy, ListsAgree, OptionsAgree, IdentifiersAgree}
 
+-- equal trees have equal parts
+pub first_same : {a b : Tree} → First a ≡ First b → a ≡ b
+first_same e = cc
+
+pub second_same : {a b : Tree} → Second a ≡ Second b → a ≡ b
+second_same e = cc
+
+pub present_same : {a b : Tree} → Present a ≡ Present b → a ≡ b
+present_same e = cc
+
+pub leaf_same : {t u : Token} → Leaf t ≡ Leaf u → t ≡ u
+leaf_same e = cc
+
+pub pair_same : {a b c d : Tree} → Pair a b ≡ Pair c d → (a ≡ c) × (b ≡ d)
+pair_same e = (cc, cc)
+
+pub after_same : {a b c d : Tree} → After a b ≡ After c d → (a ≡ c) × (b ≡ d)
+after_same e = (cc, cc)
+
+pub numbered_same : {n m : ℕ} {a b : Tree} → Numbered n a ≡ Numbered m b → (n ≡ m) × (a ≡ b)
+numbered_same e = (cc, cc)
+
+-- and trees of two alternatives aren't equal
+pub first_not_second : {a b : Tree} → First a ≡ Second b → ⊥
+first_not_second e = cc
+
+pub second_not_first : {a b : Tree} → Second a ≡ First b → ⊥
+second_not_first e = cc
+
+pub absent_not_present : {a : Tree} → Absent ≡ Present a → ⊥
+absent_not_present e = cc
+
+pub present_not_absent : {a : Tree} → Present a ≡ Absent → ⊥
+present_not_absent e = cc
+
 -- how many parts a list's tree has
 abbrev pub parts_of : Tree → ℕ
 parts_of Bare = 0
@@ -40,7 +75,8 @@ lists_behind agree view once [] (y ∷ ys) before other same e = absurd (omega a
 lists_behind agree view once (x ∷ xs) [] before other same e = absurd (omega arith)
 lists_behind agree view once (x ∷ xs) (y ∷ ys) before other same e =
     let behind = lists_behind agree view once xs ys (After before (view x)) (After other (view y)) (omega arith) e in
-    (cc (behind.0), (once x y (cc (behind.0)), behind.1))
+    let last = after_same behind.0 in
+    (last.0, (once x y last.1, behind.1))
 
 -- lists of one tree
 pub lists_agree : {X : Type 0} (agree : X → X → Type 0) (view : X → Tree) → OneValueBy agree view → (xs ys : List X) → list_tree view Empty xs ≡ list_tree view Empty ys → ListsAgree agree xs ys
@@ -62,48 +98,54 @@ one_list view once xs ys e = equal_lists xs ys (lists_agree ◌≡◌ view once 
 -- optional parts of one tree
 pub options_agree : {X : Type 0} (agree : X → X → Type 0) (view : X → Tree) → OneValueBy agree view → OneValueBy (OptionsAgree agree) (optional_tree view)
 options_agree agree view once None None e = tt
-options_agree agree view once None (Some y) e = absurd (cc)
-options_agree agree view once (Some x) None e = absurd (cc)
-options_agree agree view once (Some x) (Some y) e = once x y (cc)
+options_agree agree view once None (Some y) e = absurd (absent_not_present e)
+options_agree agree view once (Some x) None e = absurd (present_not_absent e)
+options_agree agree view once (Some x) (Some y) e = once x y (present_same e)
 
 pub one_option : {X : Type 0} (view : X → Tree) → OneValue view → OneValue (optional_tree view)
 one_option view once None None e = refl
-one_option view once None (Some y) e = absurd (cc)
-one_option view once (Some x) None e = absurd (cc)
-one_option view once (Some x) (Some y) e = ap Some (once x y (cc))
+one_option view once None (Some y) e = absurd (absent_not_present e)
+one_option view once (Some x) None e = absurd (present_not_absent e)
+one_option view once (Some x) (Some y) e = ap Some (once x y (present_same e))
 
 pub one_token : OneValue Leaf
-one_token x y e = cc
+one_token x y e = leaf_same e
 
 pub one_document_name : OneValue document_name_tree
-one_document_name x y e = cc
+one_document_name x y e = leaf_same (pair_same e).0
 
 pub one_label_reference : OneValue label_reference_tree
 one_label_reference x y e =
-    let document = one_option document_name_tree one_document_name x.document y.document (cc) in
-    let label : x.label ≡ y.label = cc in
+    let parts = pair_same e in
+    let document = one_option document_name_tree one_document_name x.document y.document parts.0 in
+    let label = leaf_same parts.1 in
     λ i. record { document = document i; label = label i }
 
 pub one_qualified_name : OneValue qualified_name_tree
 one_qualified_name x y e =
-    let module_name : x.module_name ≡ y.module_name = cc in
-    let name : x.name ≡ y.name = cc in
+    let parts = pair_same e in
+    let module_name = leaf_same parts.0 in
+    let name = leaf_same (pair_same parts.1).1 in
     λ i. record { module_name = module_name i; name = name i }
 
 pub one_arc : OneValue arc_tree
-one_arc (Number number) (Number other) e = cc
-one_arc (Number number) (Named other name) e = absurd (cc)
-one_arc (Named name number) (Number other) e = absurd (cc)
+one_arc (Number number) (Number other) e = ap Number (leaf_same (first_same e))
+one_arc (Number number) (Named other name) e = absurd (first_not_second e)
+one_arc (Named name number) (Number other) e = absurd (second_not_first e)
 one_arc (Named name number) (Named other another) e =
-    let same : name ≡ other = cc in
-    let equal : number ≡ another = cc in
-    cc
+    let parts = pair_same (second_same e) in
+    let same = leaf_same parts.0 in
+    let equal = leaf_same (pair_same (pair_same parts.1).1).0 in
+    λ i. Named (same i) (equal i)
 
 pub one_first_arc : OneValue first_arc_tree
-one_first_arc (OfArc x) (OfArc y) e = ap OfArc (one_arc x y (cc))
-one_first_arc (OfArc x) (Name y) e = absurd (cc)
-one_first_arc (Name x) (OfArc y) e = absurd (cc)
-one_first_arc (Name x) (Name y) e = cc
+one_first_arc (OfArc x) (OfArc y) e = ap OfArc (one_arc x y (first_same e))
+one_first_arc (OfArc x) (Name y) e = absurd (first_not_second e)
+one_first_arc (Name x) (OfArc y) e = absurd (second_not_first e)
+one_first_arc (Name x) (Name y) e = ap Name (leaf_same (second_same e))
 
 pub one_object_identifier : OneValueBy IdentifiersAgree object_identifier_tree
-one_object_identifier x y e = (cc, one_first_arc x.first y.first (cc), one_list arc_tree one_arc x.others.items y.others.items (cc))
+one_object_identifier x y e =
+    let brace = pair_same e in
+    let first = pair_same brace.1 in
+    (leaf_same brace.0, one_first_arc x.first y.first first.0, one_list arc_tree one_arc x.others.items y.others.items (pair_same first.1).0)
