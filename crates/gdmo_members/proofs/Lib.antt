@@ -7,3 +7,5 @@ pub mod Alternatives
 pub mod Values
 pub mod MemberValues
 pub mod FurtherValues
+pub mod SameTrees
+pub mod FurtherSameTrees

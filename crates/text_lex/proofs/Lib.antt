@@ -18,3 +18,4 @@ pub mod Reading
 pub mod Slices
 pub mod Values
 pub mod StandardFacts
+pub mod GrammarFacts

@@ -11,7 +11,7 @@ use Rattle.text_lex.specs.declared.object_identifier.FirstArc.TheVariants.{OfArc
 use Rattle.text_lex.specs.declared.object_identifier.ObjectIdentifier.{ObjectIdentifier}
 use Rattle.text_lex.specs.Form.{Tree, Bare, Leaf, Pair, First, Second, Absent, Present, Empty, After, Numbered}
 use Rattle.text_lex.specs.Parts.{optional_tree, list_tree, document_name_tree, label_reference_tree, qualified_name_tree, arc_tree, first_arc_tree, object_identifier_tree}
-use Rattle.text_lex.specs.PartLaws.{OneValue, OneValueBy, ListsAgree, OptionsAgree, IdentifiersAgree}
+use Rattle.text_lex.specs.PartLaws.{OneValue, OneValueBy, OneTreeBy, ListsAgree, OptionsAgree, IdentifiersAgree}
 
 -- equal trees have equal parts
 pub first_same : {a b : Tree} → First a ≡ First b → a ≡ b
@@ -149,3 +149,25 @@ one_object_identifier x y e =
     let brace = pair_same e in
     let first = pair_same brace.1 in
     (leaf_same brace.0, one_first_arc x.first y.first first.0, one_list arc_tree one_arc x.others.items y.others.items (pair_same first.1).0)
+
+-- Values that agree have one tree: of lists and optional parts, given that it holds of their parts.
+pub lists_alike : {X : Type 0} (agree : X → X → Type 0) (view : X → Tree) → OneTreeBy agree view → (xs ys : List X) (before other : Tree) → before ≡ other → ListsAgree agree xs ys → list_tree view before xs ≡ list_tree view other ys
+lists_alike agree view same [] [] before other e a = e
+lists_alike agree view same [] (y ∷ ys) before other e a = absurd a
+lists_alike agree view same (x ∷ xs) [] before other e a = absurd a
+lists_alike agree view same (x ∷ xs) (y ∷ ys) before other e a =
+    let last = same x y a.0 in
+    lists_alike agree view same xs ys (After before (view x)) (After other (view y)) (λ i. After (e i) (last i)) a.1
+
+pub options_alike : {X : Type 0} (agree : X → X → Type 0) (view : X → Tree) → OneTreeBy agree view → OneTreeBy (OptionsAgree agree) (optional_tree view)
+options_alike agree view same None None a = refl
+options_alike agree view same None (Some y) a = absurd a
+options_alike agree view same (Some x) None a = absurd a
+options_alike agree view same (Some x) (Some y) a = ap Present (same x y a)
+
+pub identifiers_alike : OneTreeBy IdentifiersAgree object_identifier_tree
+identifiers_alike x y a =
+    let brace = a.0 in
+    let first = a.1 in
+    let others = a.2 in
+    λ i. Pair (Leaf (brace i)) (Pair (first_arc_tree (first i)) (Pair (list_tree arc_tree Empty (others i)) Bare))

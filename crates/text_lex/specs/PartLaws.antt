@@ -12,6 +12,10 @@ OneValue {X} view = (x y : X) → view x ≡ view y → x ≡ y
 abbrev pub OneValueBy : {X : Type 0} → (X → X → Type 0) → (X → Tree) → Type 0
 OneValueBy {X} agree view = (x y : X) → view x ≡ view y → agree x y
 
+-- and the other way round: values that agree have one tree
+abbrev pub OneTreeBy : {X : Type 0} → (X → X → Type 0) → (X → Tree) → Type 0
+OneTreeBy {X} agree view = (x y : X) → agree x y → view x ≡ view y
+
 -- as many parts, each of which agrees with the one at its place
 abbrev pub ListsAgree : {X : Type 0} → (X → X → Type 0) → List X → List X → Type 0
 ListsAgree agree [] [] = Unit {0}

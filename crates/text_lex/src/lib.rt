@@ -25,4 +25,8 @@ pub use syntax_refusal::SyntaxRefusal;
 pub use token::Token;
 
 #[cfg(test)]
+mod form_tests;
+#[cfg(test)]
+mod small_grammar;
+#[cfg(test)]
 mod tests;

@@ -2,7 +2,7 @@
 
 ghost use Rattle.text_lex.specs.Form.{Leaf};
 ghost use Rattle.text_lex.specs.Parts.{arc_tree, document_name_tree, first_arc_tree, label_reference_tree, object_identifier_tree, qualified_name_tree};
-ghost use Rattle.text_lex.specs.PartLaws.{IdentifiersAgree, OneValue, OneValueBy};
+ghost use Rattle.text_lex.specs.PartLaws.{IdentifiersAgree, OneTreeBy, OneValue, OneValueBy};
 
 /// No two values of a part have one tree. Two object identifiers of one tree agree in all but the memory
 /// of their arcs. Does nothing.
@@ -14,4 +14,9 @@ pub fn one_value()
     ensures arc { OneValue arc_tree }
     ensures first_arc { OneValue first_arc_tree }
     ensures object_identifier { OneValueBy IdentifiersAgree object_identifier_tree }
+{}
+
+/// Object identifiers that agree have one tree. Does nothing.
+pub fn one_tree()
+    ensures { OneTreeBy IdentifiersAgree object_identifier_tree }
 {}
