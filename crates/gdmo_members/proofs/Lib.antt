@@ -4,3 +4,8 @@ pub mod Apart
 pub mod Members
 pub mod WithClauses
 pub mod Alternatives
+pub mod Values
+pub mod MemberValues
+pub mod FurtherValues
+pub mod SameTrees
+pub mod FurtherSameTrees

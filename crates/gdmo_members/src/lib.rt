@@ -9,6 +9,7 @@ pub mod context;
 pub mod group;
 pub mod matching_rules;
 pub mod member;
+pub mod member_laws;
 pub mod notification;
 pub mod parameter;
 pub mod registration;

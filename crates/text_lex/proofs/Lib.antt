@@ -16,4 +16,6 @@ pub mod Once
 pub mod Pieces
 pub mod Reading
 pub mod Slices
+pub mod Values
 pub mod StandardFacts
+pub mod GrammarFacts

@@ -13,3 +13,4 @@ pub mod Pieces
 pub mod Lexed
 pub mod Slices
 pub mod Laws
+pub mod PartLaws

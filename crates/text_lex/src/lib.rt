@@ -11,6 +11,7 @@ pub mod lexing_laws;
 mod lexing_octets;
 mod lexing_pieces;
 pub mod object_identifier;
+pub mod part_laws;
 pub mod qualified_name;
 pub mod syntax_refusal;
 pub mod token;
@@ -23,5 +24,9 @@ pub use lexing::lex;
 pub use syntax_refusal::SyntaxRefusal;
 pub use token::Token;
 
+#[cfg(test)]
+mod form_tests;
+#[cfg(test)]
+mod small_grammar;
 #[cfg(test)]
 mod tests;
