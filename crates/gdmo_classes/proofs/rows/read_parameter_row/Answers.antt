@@ -1,0 +1,41 @@
+-- As many references as come.
+use Rattle.std.proofs.Common.{◌≡◌, ◌∙◌, ◌&&◌, ◌||◌, sym, ap, subst, refl, true, false, arith, codes, [], ◌-◌, ◌+◌, ◌*◌, ◌∷◌, Bool}
+use Rattle.text_lex.proofs.Sequences.{apart_closed, spelt_then, spelt_first, spelt_second, fault_first, fault_second, spelt_named, spelt_present, spelt_absent, spelt_wider, spelt_on, fails_by, fails_front, fails_rest, fails_named, fails_present, fails_wider, fails_on, spelt_order, not_closed, stops_or}
+use Rattle.text_lex.proofs.Heads.{skips, starts, stops_unless, advances}
+use Rattle.text_lex.proofs.Known.{at_word, at_one_of}
+use Rattle.text_lex.proofs.Exits.{exit_reads}
+use Rattle.text_lex.proofs.Turns.{spelt_led, fault_led, list_fault, many_ends, many_fault}
+use Rattle.text_lex.proofs.Clauses.{no_slots_stop, slot_stops, opens_but, stops_by, fails_clause, clause_taken, came_not, comes_here, comes_not, exit_clause, over, clauses_done, fails_led}
+use Rattle.text_lex.proofs.References.{spelt_label, spelt_template, fails_label, fails_template, other_keyword, other_stops, label_first}
+use Rattle.text_lex.proofs.Parts.{many_start, many_push, list_start, list_push, list_last, at_within, spelt_within, spelt_as, one_word, separates_closed}
+use Rattle.text_lex.specs.Form.{Empty, Leaf, Keep, Maybe, Then, AnyOrder, Listed, Many}
+use Rattle.text_lex.specs.Beginning.{no_tokens}
+use Rattle.text_lex.specs.TokenTests.{is_word_of, is_one_of, is_sign_of, is_string, is_label}
+use Rattle.text_lex.specs.Parts.{qualified_name}
+use Rattle.gdmo_members.proofs.Apart.{word_apart, sign_apart, semicolon_apart, comma_separates}
+use Rattle.gdmo_members.proofs.FirstTokens.{labels, labels_lead}
+use Rattle.gdmo_members.specs.Clauses.{attributes, parameters, groups, actions, notifications, packages, classes, name_bindings, comma, semicolon, reference, references, reference_row, behaviour_clause}
+use Rattle.gdmo_members.specs.Templates.{templates, attribute_use, member_use, property_slots, conditional_package, class_with_subclasses, modifier_before, create_modifiers, delete_modifier, package_clauses, class_clauses, name_binding_clauses}
+use Rattle.gdmo_members.specs.Trees.{clause_tree, vector_tree, behaviour_list_tree, registered_ending_tree}
+use Rattle.gdmo_members.specs.MemberTrees.{attribute_reference_tree, parameter_reference_tree, template_tree}
+use Rattle.gdmo_classes.proofs.OpenParts.{spelt_then_on, fails_front_on, fails_rest_on}
+use Rattle.gdmo_classes.proofs.OpenClauses.{open_clause_taken, fails_open_clause}
+use Rattle.gdmo_classes.proofs.PartEnds.{part_end_apart, part_separates, part_wider, word_meets, row_meets, modifiers_meet, reference_starts, start_wider, properties_meet, package_apart, class_apart, name_binding_apart}
+use Rattle.gdmo_classes.specs.ClassForms.{is_reference_start, is_word_or_string}
+use Rattle.text_lex.proofs.Heads.{at_wider}
+use Rattle.gdmo_classes.proofs.rows.read_parameter_row.Goals as goal
+
+pub turns-init : goal.turns-init
+turns-init c = many_start parameter_reference_tree c.new-row.result.items c.new-row.ensures.items
+
+pub returns-in_err-reference : goal.returns-in_err-reference
+returns-in_err-reference c = exit_reads _ c.from_residual.result c.from_residual.ensures.1 (fails_by (λ k r. fault_led c.turns.invariant (many_fault (start_wider (record { passed = sym c.is_reference_at.ensures ∙ c.turns-test.true })) (λ m here. at_wider is_word_or_string (at_word (codes "PARAMETER") true is_word_or_string (λ at. refl)) here) (word_apart (codes "PARAMETER") (reference parameters) refl (λ at. refl)) r)) c.in_err-reference.ensures)
+
+pub turns-preserved : goal.turns-preserved
+turns-preserved c = many_push parameter_reference_tree Empty c.turns.row.items c.push.new.self.items (λ m here. at_wider is_word_or_string (at_word (codes "PARAMETER") true is_word_or_string (λ at. refl)) here) (word_apart (codes "PARAMETER") (reference parameters) refl (λ at. refl)) (start_wider (record { passed = sym c.is_reference_at.ensures ∙ c.turns-test.true })) c.turns.invariant c.in_ok-reference.ensures c.in_ok-push.ensures.items
+
+pub turns-smaller : goal.turns-smaller
+turns-smaller c = let forward = advances labels labels_lead refl c.in_ok-reference.ensures.spelt in let within = at_within c.args.tokens.now c.turns.next is_reference_start (sym c.is_reference_at.ensures ∙ c.turns-test.true) in omega arith
+
+pub returns : goal.returns
+returns c = spelt_led c.turns.invariant (many_ends (stops_unless labels labels_lead is_reference_start (reference parameters) c.turns.next c.turns.next (omega arith) refl reference_starts (sym c.is_reference_at.ensures ∙ c.turns-test.false)))
