@@ -1,5 +1,5 @@
 -- Laws on the clauses of a name binding template, of which three are needed.
-use Rattle.std.proofs.Common.{◌≡◌, ℕ, Bool, true, false, ◌&&◌, is_some, List, Option, None, Some, option_map, refl, ◌∙◌, ap}
+use Rattle.std.proofs.Common.{◌≡◌, ℕ, Bool, true, false, ◌&&◌, is_some, List, None, Some, option_map, refl, ◌∙◌, ap}
 use Rattle.text_lex.specs.declared.token.Token.{Token}
 use Rattle.text_lex.specs.declared.syntax_refusal.SyntaxRefusal.TheVariants.{Syntax}
 use Rattle.text_lex.specs.Form.{Tree, Bare, Pair, Present, AnyOrder, Slots, option_tree}

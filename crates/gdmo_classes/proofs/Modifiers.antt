@@ -3,12 +3,10 @@ use Rattle.std.proofs.Common.{◌≡◌, ℕ, Bool, true, false, ◌||◌, List,
 use Rattle.text_lex.specs.declared.token.Token.{Token}
 use Rattle.text_lex.specs.Spelling.{At}
 use Rattle.text_lex.specs.TokenTests.{is_word_of, is_one_of}
-use Rattle.text_lex.proofs.Heads.{starts, at_wider, or_left, or_right}
+use Rattle.text_lex.proofs.Heads.{at_wider}
 use Rattle.text_lex.proofs.Known.{at_word, at_one_of, token_of}
 use Rattle.gdmo_members.specs.Clauses.{comma}
-use Rattle.gdmo_members.specs.Templates.{create_modifiers}
-use Rattle.gdmo_members.proofs.FirstTokens.{labels}
-use Rattle.gdmo_classes.specs.ClassForms.{is_further, is_keyword, is_modifier_end, further_modifier}
+use Rattle.gdmo_classes.specs.ClassForms.{is_further, is_keyword, is_modifier_end}
 
 -- the second modifier begins with a comma or its word
 pub further_starts : (text : List ℕ) (t : Token) → (comma t || (is_word_of text t || false)) ≡ true → is_further text t ≡ true

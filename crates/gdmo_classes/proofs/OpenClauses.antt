@@ -1,6 +1,6 @@
 -- Laws on clauses in any order that are no clause's end by themselves: a clause may go on with a token with
 -- which no clause begins.
-use Rattle.std.proofs.Common.{◌≡◌, ◌≢◌, ℕ, zero, suc, ◌≤◌, Bool, true, false, ◌||◌, List, [], ◌∷◌, Option, Some, ◌⊎◌, inl, inr, refl, sym, ◌∙◌, ap, subst, arith, slice_get}
+use Rattle.std.proofs.Common.{◌≡◌, ◌≢◌, ℕ, zero, suc, ◌≤◌, Bool, true, false, ◌||◌, List, ◌⊎◌, inl, inr, refl, ◌∙◌, ap, subst, arith, slice_get}
 use Rattle.text_lex.specs.declared.token.Token.{Token}
 use Rattle.text_lex.specs.declared.syntax_refusal.SyntaxRefusal.{SyntaxRefusal}
 use Rattle.text_lex.specs.Form.{Form, Tree, AnyOrder, Slots, Slot, NoSlots, form_at, is_open, filled}

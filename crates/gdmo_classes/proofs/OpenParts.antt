@@ -1,6 +1,6 @@
 -- Laws on sequences whose later parts may all be missing: where the first part might have gone on, so might
 -- the whole.
-use Rattle.std.proofs.Common.{◌≡◌, ℕ, ◌≤◌, Bool, true, false, List, ◌⊎◌, inl, inr, refl, sym, arith, slice_get}
+use Rattle.std.proofs.Common.{◌≡◌, ℕ, ◌≤◌, Bool, true, false, List, ◌⊎◌, inl, inr, sym, arith, slice_get}
 use Rattle.text_lex.specs.declared.token.Token.{Token}
 use Rattle.text_lex.specs.declared.syntax_refusal.SyntaxRefusal.{SyntaxRefusal}
 use Rattle.text_lex.specs.Form.{Form, Then, Tree, Pair}

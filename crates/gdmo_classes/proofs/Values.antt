@@ -1,8 +1,8 @@
 -- Laws on the value of a property: the words DERIVATION RULE tell a rule from the name of a value.
 use Rattle.std.proofs.Common.{◌≡◌, ℕ, ◌+◌, ◌≤◌, Bool, true, false, ◌&&◌, List, [], ◌∷◌, Some, refl, slice_get, codes}
 use Rattle.text_lex.specs.declared.token.Token.{Token}
-use Rattle.text_lex.specs.Form.{Form, Keep, Then, Marks}
-use Rattle.text_lex.specs.Spelling.{At, passes}
+use Rattle.text_lex.specs.Form.{Form, Then, Marks}
+use Rattle.text_lex.specs.Spelling.{passes}
 use Rattle.text_lex.specs.Beginning as B
 use Rattle.text_lex.specs.Beginning.{Begins}
 use Rattle.text_lex.specs.Outcome.{Stops}

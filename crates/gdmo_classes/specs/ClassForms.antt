@@ -1,6 +1,6 @@
 -- ClassForms: the parts of the forms of packages, classes and name bindings, and the form of a template of
 -- one of these (X.722, sections 8.3, 8.4 and 8.6), with the tokens with which their open parts go on.
-use Rattle.std.specs.Prelude.{ℕ, Bool, true, false, List, [], ◌∷◌, codes, not, ◌&&◌, ◌||◌}
+use Rattle.std.specs.Prelude.{ℕ, Bool, List, [], ◌∷◌, codes, not, ◌&&◌, ◌||◌}
 use Rattle.text_lex.specs.declared.token.Token.{Token}
 use Rattle.text_lex.specs.Form.{Form, Marks, Keep, Then, Or, Maybe, Listed, Named, Empty}
 use Rattle.text_lex.specs.TokenTests.{is_word_of, is_one_of, is_label, is_word, is_string}

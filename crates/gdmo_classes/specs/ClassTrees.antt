@@ -1,10 +1,10 @@
 -- ClassTrees: what a managed object class template says, which may stand in line in another one, and which
 -- of its clauses came (X.722, section 8.3).
-use Rattle.std.specs.Prelude.{ℕ, Bool, true, false, List, [], ◌∷◌, Option, None, Some, option_map, codes}
+use Rattle.std.specs.Prelude.{Bool, false, [], ◌∷◌, Option, option_map, codes}
 use Rattle.std.specs.declared.alloc.Global.{Global}
 use Rattle.std.specs.declared.vec.Vec.{Vec}
 use Rattle.text_lex.specs.declared.token.Token.{Token}
-use Rattle.text_lex.specs.Form.{Tree, Bare, Leaf, Pair, First, Second, Absent, Present, Empty, After, Slots, Slot, NoSlots}
+use Rattle.text_lex.specs.Form.{Tree, Bare, Pair, First, Second, Absent, Present, Empty, After, Slots, Slot, NoSlots}
 use Rattle.text_lex.specs.TokenTests.{is_one_of}
 use Rattle.text_lex.specs.Parts.{optional_tree, label_reference_tree}
 use Rattle.gdmo_members.specs.Trees.{clause_tree, vector_tree, registered_ending_tree}

@@ -1,9 +1,6 @@
 -- UseTrees: what a package says of its attributes, attribute groups, actions and notifications (X.722,
 -- section 8.4).
-use Rattle.std.specs.Prelude.{ℕ, Bool, true, false, List, [], ◌∷◌, Option, None, Some, option_map}
-use Rattle.std.specs.declared.alloc.Global.{Global}
-use Rattle.std.specs.declared.vec.Vec.{Vec}
-use Rattle.text_lex.specs.declared.token.Token.{Token}
+use Rattle.std.specs.Prelude.{false, option_map}
 use Rattle.text_lex.specs.declared.qualified_name.QualifiedName.{QualifiedName}
 use Rattle.text_lex.specs.Form.{Tree, Bare, Leaf, Pair, First, Second, Slots, Slot, NoSlots, slots_tree}
 use Rattle.text_lex.specs.Parts.{label_reference_tree, qualified_name_tree}

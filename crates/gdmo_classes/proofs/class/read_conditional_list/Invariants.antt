@@ -1,11 +1,9 @@
-use Rattle.std.proofs.Common.{◌-◌, length, codes}
+use Rattle.std.proofs.Common.{◌-◌, length}
 use Rattle.text_lex.specs.Form.{Listed, Empty}
-use Rattle.text_lex.specs.Parts.{either, list_tree}
-use Rattle.text_lex.specs.TokenTests.{is_word_of}
+use Rattle.text_lex.specs.Parts.{list_tree}
 use Rattle.text_lex.specs.Turns.{Leads}
-use Rattle.gdmo_members.specs.Clauses.{attributes, parameters, groups, actions, notifications, packages, comma, reference}
-use Rattle.gdmo_members.specs.Templates.{templates, attribute_use, member_use, conditional_package}
-use Rattle.gdmo_classes.specs.ClassForms.{is_part_end}
+use Rattle.gdmo_members.specs.Clauses.{comma}
+use Rattle.gdmo_members.specs.Templates.{templates, conditional_package}
 use Rattle.gdmo_classes.specs.PackageTrees.{conditional_tree}
 use Rattle.gdmo_classes.proofs.class.read_conditional_list.Given as goal
 
