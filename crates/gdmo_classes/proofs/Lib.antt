@@ -1,0 +1,8 @@
+-- The lemmas of this crate.
+pub mod OpenParts
+pub mod OpenClauses
+pub mod PartEnds
+pub mod Values
+pub mod Modifiers
+pub mod Boxed
+pub mod Bindings

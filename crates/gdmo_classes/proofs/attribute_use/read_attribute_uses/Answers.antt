@@ -1,0 +1,28 @@
+-- One part more, as long as a comma is behind it.
+use Rattle.std.proofs.Common.{refl, arith}
+use Rattle.text_lex.proofs.Sequences.{fails_by}
+use Rattle.text_lex.proofs.Heads.{advances}
+use Rattle.text_lex.proofs.Exits.{exit_reads}
+use Rattle.text_lex.proofs.Turns.{spelt_led, fault_led, list_fault}
+use Rattle.text_lex.proofs.Parts.{list_start, list_push, list_last, at_within}
+use Rattle.text_lex.specs.Form.{Empty}
+use Rattle.gdmo_members.proofs.FirstTokens.{labels, labels_lead}
+use Rattle.gdmo_members.specs.Clauses.{comma}
+use Rattle.gdmo_classes.proofs.PartEnds.{part_separates}
+use Rattle.gdmo_classes.specs.UseTrees.{attribute_use_tree}
+use Rattle.gdmo_classes.proofs.attribute_use.read_attribute_uses.Goals as goal
+
+pub turns-init : goal.turns-init
+turns-init c = list_start attribute_use_tree c.new-list.result.items c.new-list.ensures.items
+
+pub returns-in_err-part : goal.returns-in_err-part
+returns-in_err-part c = exit_reads _ c.from_residual.result c.from_residual.ensures.1 (fails_by (λ k r. fault_led c.turns.invariant (list_fault part_separates r)) c.in_err-part.ensures)
+
+pub turns-preserved : goal.turns-preserved
+turns-preserved c = list_push attribute_use_tree Empty c.turns.list.items c.push.new.self.items part_separates c.turns.invariant c.in_ok-part.ensures c.in_ok-push.ensures.items (record { passed = c.in-Some.ensures.0 }) c.in-Some.ensures.1
+
+pub turns-smaller : goal.turns-smaller
+turns-smaller c = let forward = advances labels labels_lead refl c.in_ok-part.ensures.spelt in let within = at_within c.args.tokens.now c.in_ok-part.behind comma c.in-Some.ensures.0 in let next = c.in-Some.ensures.1 in omega arith
+
+pub returns-in_default : goal.returns-in_default
+returns-in_default c = spelt_led c.turns.invariant (list_last attribute_use_tree Empty c.turns.list.items c.push.new.self.items part_separates c.in_ok-part.ensures c.in_ok-push.ensures.items c.in_default.ensures)

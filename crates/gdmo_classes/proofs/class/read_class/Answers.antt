@@ -1,0 +1,12 @@
+-- The template in the box.
+use Rattle.std.proofs.Common.{ap}
+use Rattle.text_lex.proofs.Exits.{exit_reads}
+use Rattle.text_lex.proofs.Parts.{spelt_as}
+use Rattle.gdmo_classes.specs.ClassTrees.{class_tree}
+use Rattle.gdmo_classes.proofs.class.read_class.Goals as goal
+
+pub returns-in_err-template : goal.returns-in_err-template
+returns-in_err-template c = exit_reads _ c.from_residual.result c.from_residual.ensures.1 c.in_err-template.ensures
+
+pub returns : goal.returns
+returns c = spelt_as (ap class_tree c.into_inner.ensures) c.in_ok-template.ensures

@@ -1,0 +1,18 @@
+-- The comma, where it stands, and the word.
+use Rattle.std.proofs.Common.{refl, codes, [], ◌∷◌}
+use Rattle.text_lex.proofs.Sequences.{spelt_then, fails_front, fails_rest}
+use Rattle.text_lex.proofs.Exits.{exit_reads}
+use Rattle.text_lex.specs.Form.{Keep}
+use Rattle.text_lex.specs.TokenTests.{is_one_of}
+use Rattle.gdmo_members.proofs.Apart.{sign_apart}
+use Rattle.gdmo_members.specs.Templates.{templates}
+use Rattle.gdmo_classes.proofs.creation.read_further_modifier.Goals as goal
+
+pub returns-in_err-comma : goal.returns-in_err-comma
+returns-in_err-comma c = exit_reads _ c.from_residual.result c.from_residual.ensures.1 (fails_front (sign_apart (codes ",") (Keep (is_one_of (c.args.word.now ∷ []))) refl (λ at. refl)) c.in_err-comma.ensures)
+
+pub returns-in_err-word : goal.returns-in_err-word
+returns-in_err-word c = exit_reads _ c.from_residual-in_err-word.result c.from_residual-in_err-word.ensures.1 (fails_rest c.in_ok-comma.ensures (sign_apart (codes ",") (Keep (is_one_of (c.args.word.now ∷ []))) refl (λ at. refl)) (c.in_err-word.ensures templates))
+
+pub returns : goal.returns
+returns c = (spelt_then c.in_ok-comma.ensures (sign_apart (codes ",") (Keep (is_one_of (c.args.word.now ∷ []))) refl (λ at. refl)) (c.in_ok-word.ensures templates))

@@ -1,0 +1,28 @@
+-- One part more, as long as a comma is behind it.
+use Rattle.std.proofs.Common.{refl, arith, codes}
+use Rattle.text_lex.proofs.Sequences.{fails_by}
+use Rattle.text_lex.proofs.Heads.{advances}
+use Rattle.text_lex.proofs.Exits.{exit_reads}
+use Rattle.text_lex.proofs.Turns.{spelt_led, fault_led, list_fault}
+use Rattle.text_lex.proofs.Parts.{list_start, list_push, list_last, at_within}
+use Rattle.text_lex.specs.Form.{Empty}
+use Rattle.gdmo_members.proofs.Apart.{comma_separates}
+use Rattle.gdmo_members.proofs.FirstTokens.{labels, labels_lead}
+use Rattle.gdmo_members.specs.Clauses.{comma}
+use Rattle.gdmo_classes.specs.PackageTrees.{package_reference_tree}
+use Rattle.gdmo_classes.proofs.package.read_package_list.Goals as goal
+
+pub turns-init : goal.turns-init
+turns-init c = list_start package_reference_tree c.new-list.result.items c.new-list.ensures.items
+
+pub returns-in_err-reference : goal.returns-in_err-reference
+returns-in_err-reference c = exit_reads _ c.from_residual.result c.from_residual.ensures.1 (fails_by (λ k r. fault_led c.turns.invariant (list_fault (comma_separates (codes "PACKAGE")) r)) c.in_err-reference.ensures)
+
+pub turns-preserved : goal.turns-preserved
+turns-preserved c = list_push package_reference_tree Empty c.turns.list.items c.push.new.self.items (comma_separates (codes "PACKAGE")) c.turns.invariant c.in_ok-reference.ensures c.in_ok-push.ensures.items (record { passed = c.in-Some.ensures.0 }) c.in-Some.ensures.1
+
+pub turns-smaller : goal.turns-smaller
+turns-smaller c = let forward = advances labels labels_lead refl c.in_ok-reference.ensures.spelt in let within = at_within c.args.tokens.now c.in_ok-reference.behind comma c.in-Some.ensures.0 in let next = c.in-Some.ensures.1 in omega arith
+
+pub returns-in_default : goal.returns-in_default
+returns-in_default c = spelt_led c.turns.invariant (list_last package_reference_tree Empty c.turns.list.items c.push.new.self.items (comma_separates (codes "PACKAGE")) c.in_ok-reference.ensures c.in_ok-push.ensures.items c.in_default.ensures)

@@ -1,0 +1,16 @@
+use Rattle.std.proofs.Common.{◌-◌, length, codes}
+use Rattle.text_lex.specs.Form.{Listed, Empty}
+use Rattle.text_lex.specs.Parts.{either, list_tree}
+use Rattle.text_lex.specs.TokenTests.{is_word_of}
+use Rattle.text_lex.specs.Turns.{Leads}
+use Rattle.gdmo_members.specs.Clauses.{packages, comma, reference}
+use Rattle.gdmo_members.specs.Templates.{templates}
+use Rattle.gdmo_classes.specs.PackageTrees.{package_reference_tree}
+use Rattle.gdmo_classes.proofs.package.read_package_list.Given as goal
+
+-- the parts from the next one on are left to be read
+abbrev pub invariant-turns : goal.invariant-turns
+invariant-turns l = Leads l.tokens templates (either comma (is_word_of (codes "PACKAGE"))) (Listed comma Empty (reference packages)) l.at (Listed comma (list_tree package_reference_tree Empty l.list.items) (reference packages)) l.next
+
+abbrev pub decreases-turns : goal.decreases-turns
+decreases-turns l = length l.tokens - l.next

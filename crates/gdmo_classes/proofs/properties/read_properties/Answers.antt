@@ -1,0 +1,13 @@
+-- One clause after the other, until none comes.
+use Rattle.std.proofs.Common.{refl}
+use Rattle.text_lex.proofs.Exits.{exit_reads}
+use Rattle.text_lex.proofs.Clauses.{over, clauses_done, fails_led}
+use Rattle.gdmo_classes.specs.ClassForms.{is_keyword}
+use Rattle.gdmo_classes.specs.UseTrees.{properties_slots}
+use Rattle.gdmo_classes.proofs.properties.read_properties.Goals as goal
+
+pub returns-in_err-behind : goal.returns-in_err-behind
+returns-in_err-behind c = exit_reads _ c.from_residual.result c.from_residual.ensures.1 (fails_led c.turns.invariant c.in_err-behind.ensures)
+
+pub returns : goal.returns
+returns c = clauses_done (properties_slots c.turns.properties) (properties_slots c.read_property.new.properties) c.turns.invariant (over is_keyword (properties_slots c.turns.properties) (properties_slots c.read_property.new.properties) c.turns.next c.in_ok-behind.field-0 c.in_default.is c.in_ok-behind.ensures) refl refl

@@ -1,0 +1,16 @@
+use Rattle.std.proofs.Common.{◌-◌, length}
+use Rattle.text_lex.specs.Form.{Many, Empty}
+use Rattle.text_lex.specs.Parts.{list_tree}
+use Rattle.text_lex.specs.Turns.{Leads}
+use Rattle.gdmo_members.specs.Clauses.{attributes, reference}
+use Rattle.gdmo_members.specs.Templates.{templates}
+use Rattle.gdmo_members.specs.MemberTrees.{attribute_reference_tree}
+use Rattle.gdmo_classes.specs.ClassForms.{is_word_or_string}
+use Rattle.gdmo_classes.proofs.rows.read_attribute_row.Given as goal
+
+-- the references from the next one on are left to be read
+abbrev pub invariant-turns : goal.invariant-turns
+invariant-turns l = Leads l.tokens templates is_word_or_string (Many Empty (reference attributes)) l.at (Many (list_tree attribute_reference_tree Empty l.row.items) (reference attributes)) l.next
+
+abbrev pub decreases-turns : goal.decreases-turns
+decreases-turns l = length l.tokens - l.next

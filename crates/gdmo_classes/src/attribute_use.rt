@@ -1,0 +1,84 @@
+//! The attributes of a package, each with its properties and its parameters (X.722, section 8.4).
+
+ghost use Rattle.std.specs.Prelude.{◌≡◌, ℕ};
+ghost use Rattle.text_lex.specs.Form.{Listed, Empty};
+ghost use Rattle.text_lex.specs.Outcome.{Reads, closed};
+ghost use Rattle.gdmo_members.specs.Clauses.{comma};
+ghost use Rattle.gdmo_members.specs.Templates.{templates, attribute_use};
+ghost use Rattle.gdmo_members.specs.Trees.{clause_tree, vector_tree};
+ghost use Rattle.gdmo_classes.specs.ClassForms.{is_word_or_string, is_part_end, attributes_clause};
+ghost use Rattle.gdmo_classes.specs.UseTrees.{attribute_use_tree};
+
+use super::properties::{Properties, read_properties};
+use super::rows::read_parameter_row;
+use gdmo_members::attribute::{AttributeReference, read_attribute_reference};
+use gdmo_members::parameter::ParameterReference;
+use std::alloc::Global;
+use text_lex::token_reading::{place_behind, skip_sign, skip_words};
+use text_lex::{SyntaxRefusal, Token};
+
+/// An attribute of a package.
+#[derive(Drop)]
+pub struct AttributeUse {
+    /// What names the attribute.
+    pub attribute: AttributeReference,
+    /// Its properties.
+    pub properties: Properties,
+    /// Its further parameters.
+    pub parameters: Vec<ParameterReference>,
+}
+
+/// Reads an attribute, its properties and its parameters.
+fn read_attribute_use(
+    alloc: Global,
+    tokens: &[Token],
+    at: usize,
+) -> Result<(AttributeUse, usize), SyntaxRefusal>
+    ensures { Reads tokens.now templates is_word_or_string attribute_use at attribute_use_tree result }
+{
+    let (attribute, next) = read_attribute_reference(alloc, tokens, at)?;
+    let (properties, next) = read_properties(alloc, tokens, next)?;
+    let (parameters, next) = read_parameter_row(alloc, tokens, next)?;
+    Ok((
+        AttributeUse {
+            attribute,
+            properties,
+            parameters,
+        },
+        next,
+    ))
+}
+
+/// Reads attributes with commas between them.
+fn read_attribute_uses(
+    alloc: Global,
+    tokens: &[Token],
+    at: usize,
+) -> Result<(Vec<AttributeUse>, usize), SyntaxRefusal>
+    ensures { Reads tokens.now templates is_part_end (Listed comma Empty attribute_use) at (vector_tree attribute_use_tree) result }
+{
+    let mut list = Vec::new(alloc);
+    let mut next = at;
+    'turns: loop {
+        let (part, behind) = read_attribute_use(alloc, tokens, next)?;
+        list.push(part)?;
+        let Some(place) = place_behind(tokens, behind, ",") else {
+            return Ok((list, behind));
+        };
+        next = place;
+    }
+}
+
+/// Reads the clause `ATTRIBUTES ref property ..;`.
+pub fn read_attributes_clause(
+    alloc: Global,
+    tokens: &[Token],
+    at: usize,
+) -> Result<(Vec<AttributeUse>, usize), SyntaxRefusal>
+    ensures { Reads tokens.now templates closed attributes_clause at (clause_tree (vector_tree attribute_use_tree)) result }
+{
+    let next = skip_words(tokens, at, &["ATTRIBUTES"])?;
+    let (list, next) = read_attribute_uses(alloc, tokens, next)?;
+    let next = skip_sign(tokens, next, ";")?;
+    Ok((list, next))
+}

@@ -1,0 +1,275 @@
+//! The name binding template (X.722, section 8.6).
+
+ghost use Rattle.std.specs.Prelude.{◌≡◌, ℕ};
+ghost use Rattle.text_lex.specs.Form.{AnyOrder, Named, Maybe};
+ghost use Rattle.text_lex.specs.Outcome.{Reads, closed};
+ghost use Rattle.text_lex.specs.Parts.{optional_tree};
+ghost use Rattle.text_lex.specs.Turns.{TakesClause};
+ghost use Rattle.gdmo_members.specs.Clauses.{name_bindings};
+ghost use Rattle.gdmo_members.specs.Templates.{templates, class_with_subclasses, name_binding_clauses};
+ghost use Rattle.gdmo_members.specs.Trees.{clause_tree};
+ghost use Rattle.gdmo_members.specs.MemberTrees.{attribute_reference_tree};
+ghost use Rattle.gdmo_classes.specs.ClassForms.{is_part_end, subclasses, subordinate_clause, superior_clause, naming_clause};
+ghost use Rattle.gdmo_classes.specs.BindingTrees.{subclasses_tree, class_scope_tree, name_binding_tree, name_binding_slots, name_binding_clauses_tree, is_name_binding_clause};
+
+use super::class::{ClassReference, read_class_reference};
+use super::creation::{Creation, Deletion, read_create_clause, read_delete_clause};
+use gdmo_members::attribute::{AttributeReference, read_attribute_reference};
+use gdmo_members::behaviour::{BehaviourReference, read_behaviour_clause};
+use gdmo_members::registration::read_registered_ending;
+use std::alloc::Global;
+use text_lex::object_identifier::ObjectIdentifier;
+use text_lex::token_reading::{read_label, read_one_of, skip_sign, skip_words};
+use text_lex::token_tests::is_word_at;
+use text_lex::{SyntaxRefusal, Token};
+
+/// A class of a name binding, alone or with its subclasses.
+#[derive(Drop)]
+pub struct ClassScope {
+    /// What names the class.
+    pub class: ClassReference,
+    /// The word SUBCLASSES of `AND SUBCLASSES`.
+    pub subclasses: Option<Token>,
+}
+
+/// A name binding template.
+#[derive(Drop)]
+pub struct NameBindingTemplate {
+    /// The number of its document, which the reader leaves 0.
+    pub document: u32,
+    /// The binding's label.
+    pub label: Token,
+    /// The class of the objects that are named, `SUBORDINATE OBJECT CLASS ref ..;`.
+    pub subordinate: ClassScope,
+    /// The class of the objects below which they stand, `NAMED BY SUPERIOR OBJECT CLASS ref ..;`.
+    pub superior: ClassScope,
+    /// The attribute that names them, `WITH ATTRIBUTE ref;`.
+    pub attribute: AttributeReference,
+    /// Its behaviours, `BEHAVIOUR ref, ..;`.
+    pub behaviour: Option<Vec<BehaviourReference>>,
+    /// How they are created, `CREATE ..;`.
+    pub create: Option<Creation>,
+    /// How they are deleted, `DELETE ..;`.
+    pub delete: Option<Deletion>,
+    /// The identifier under which it is registered.
+    pub registration: ObjectIdentifier,
+}
+
+/// The clauses of a name binding template that came so far.
+#[derive(Drop)]
+struct NameBindingDraft {
+    subordinate: Option<ClassScope>,
+    superior: Option<ClassScope>,
+    attribute: Option<AttributeReference>,
+    behaviour: Option<Vec<BehaviourReference>>,
+    create: Option<Creation>,
+    delete: Option<Deletion>,
+}
+
+/// The clauses of a name binding template.
+#[derive(Drop)]
+struct NameBindingClauses {
+    subordinate: ClassScope,
+    superior: ClassScope,
+    attribute: AttributeReference,
+    behaviour: Option<Vec<BehaviourReference>>,
+    create: Option<Creation>,
+    delete: Option<Deletion>,
+}
+
+/// Reads `AND SUBCLASSES` where it comes.
+fn read_subclasses(
+    alloc: Global,
+    tokens: &[Token],
+    at: usize,
+) -> Result<(Option<Token>, usize), SyntaxRefusal>
+    ensures { Reads tokens.now templates is_part_end (Maybe subclasses) at (optional_tree subclasses_tree) result }
+{
+    if !is_word_at(tokens, at, "AND") {
+        return Ok((None, at));
+    }
+    let next = skip_words(tokens, at, &["AND"])?;
+    let (word, next) = read_one_of(alloc, tokens, next, &["SUBCLASSES"])?;
+    Ok((Some(word), next))
+}
+
+/// Reads a class, and `AND SUBCLASSES` where it comes.
+fn read_class_scope(
+    alloc: Global,
+    tokens: &[Token],
+    at: usize,
+) -> Result<(ClassScope, usize), SyntaxRefusal>
+    ensures { Reads tokens.now templates is_part_end class_with_subclasses at class_scope_tree result }
+{
+    let (class, next) = read_class_reference(alloc, tokens, at)?;
+    let (subclasses, next) = read_subclasses(alloc, tokens, next)?;
+    Ok((ClassScope { class, subclasses }, next))
+}
+
+/// Reads the clause `SUBORDINATE OBJECT CLASS ref ..;`.
+fn read_subordinate_clause(
+    alloc: Global,
+    tokens: &[Token],
+    at: usize,
+) -> Result<(ClassScope, usize), SyntaxRefusal>
+    ensures { Reads tokens.now templates closed subordinate_clause at (clause_tree class_scope_tree) result }
+{
+    let next = skip_words(tokens, at, &["SUBORDINATE", "OBJECT", "CLASS"])?;
+    let (scope, next) = read_class_scope(alloc, tokens, next)?;
+    let next = skip_sign(tokens, next, ";")?;
+    Ok((scope, next))
+}
+
+/// Reads the clause `NAMED BY SUPERIOR OBJECT CLASS ref ..;`.
+fn read_superior_clause(
+    alloc: Global,
+    tokens: &[Token],
+    at: usize,
+) -> Result<(ClassScope, usize), SyntaxRefusal>
+    ensures { Reads tokens.now templates closed superior_clause at (clause_tree class_scope_tree) result }
+{
+    let next = skip_words(tokens, at, &["NAMED", "BY", "SUPERIOR", "OBJECT", "CLASS"])?;
+    let (scope, next) = read_class_scope(alloc, tokens, next)?;
+    let next = skip_sign(tokens, next, ";")?;
+    Ok((scope, next))
+}
+
+/// Reads the clause `WITH ATTRIBUTE ref;`.
+fn read_naming_clause(
+    alloc: Global,
+    tokens: &[Token],
+    at: usize,
+) -> Result<(AttributeReference, usize), SyntaxRefusal>
+    ensures { Reads tokens.now templates closed naming_clause at (clause_tree attribute_reference_tree) result }
+{
+    let next = skip_words(tokens, at, &["WITH", "ATTRIBUTE"])?;
+    let (attribute, next) = read_attribute_reference(alloc, tokens, next)?;
+    let next = skip_sign(tokens, next, ";")?;
+    Ok((attribute, next))
+}
+
+/// Reads a name binding template.
+pub fn read_name_binding(
+    alloc: Global,
+    tokens: &[Token],
+    at: usize,
+) -> Result<(NameBindingTemplate, usize), SyntaxRefusal>
+    ensures { Reads tokens.now templates closed (Named name_bindings) at name_binding_tree result }
+{
+    let (label, next) = read_label(alloc, tokens, at)?;
+    let next = skip_words(tokens, next, &["NAME", "BINDING"])?;
+    let (clauses, next) = read_name_binding_clauses(alloc, tokens, next)?;
+    let (registration, next) = read_registered_ending(alloc, tokens, next)?;
+    Ok((
+        NameBindingTemplate {
+            document: 0,
+            label,
+            subordinate: clauses.subordinate,
+            superior: clauses.superior,
+            attribute: clauses.attribute,
+            behaviour: clauses.behaviour,
+            create: clauses.create,
+            delete: clauses.delete,
+            registration,
+        },
+        next,
+    ))
+}
+
+/// Reads the clauses of a name binding template, in any order.
+fn read_name_binding_clauses(
+    alloc: Global,
+    tokens: &[Token],
+    at: usize,
+) -> Result<(NameBindingClauses, usize), SyntaxRefusal>
+    ensures { Reads tokens.now templates is_name_binding_clause (AnyOrder name_binding_clauses) at name_binding_clauses_tree result }
+{
+    let mut draft = NameBindingDraft {
+        subordinate: None,
+        superior: None,
+        attribute: None,
+        behaviour: None,
+        create: None,
+        delete: None,
+    };
+    let mut next = at;
+    'turns: while let Some(behind) = read_name_binding_clause(alloc, tokens, next, &mut draft)? {
+        next = behind;
+    }
+    let NameBindingDraft {
+        subordinate,
+        superior,
+        attribute,
+        behaviour,
+        create,
+        delete,
+    } = draft;
+    let Some(subordinate) = subordinate else {
+        return Err(SyntaxRefusal::Syntax { token: next as u64 });
+    };
+    let Some(superior) = superior else {
+        return Err(SyntaxRefusal::Syntax { token: next as u64 });
+    };
+    let Some(attribute) = attribute else {
+        return Err(SyntaxRefusal::Syntax { token: next as u64 });
+    };
+    Ok((
+        NameBindingClauses {
+            subordinate,
+            superior,
+            attribute,
+            behaviour,
+            create,
+            delete,
+        },
+        next,
+    ))
+}
+
+/// Reads the next clause of a name binding template, where one comes that didn't come before.
+fn read_name_binding_clause(
+    alloc: Global,
+    tokens: &[Token],
+    at: usize,
+    draft: &mut NameBindingDraft,
+) -> Result<Option<usize>, SyntaxRefusal>
+    ensures { TakesClause tokens.now templates is_name_binding_clause (name_binding_slots draft.old) (name_binding_slots draft.new) at result }
+{
+    let has_subordinate = draft.subordinate.is_none() & is_word_at(tokens, at, "SUBORDINATE");
+    if has_subordinate {
+        let (subordinate, next) = read_subordinate_clause(alloc, tokens, at)?;
+        draft.subordinate = Some(subordinate);
+        return Ok(Some(next));
+    }
+    let has_superior = draft.superior.is_none() & is_word_at(tokens, at, "NAMED");
+    if has_superior {
+        let (superior, next) = read_superior_clause(alloc, tokens, at)?;
+        draft.superior = Some(superior);
+        return Ok(Some(next));
+    }
+    let has_attribute = draft.attribute.is_none() & is_word_at(tokens, at, "WITH");
+    if has_attribute {
+        let (attribute, next) = read_naming_clause(alloc, tokens, at)?;
+        draft.attribute = Some(attribute);
+        return Ok(Some(next));
+    }
+    let has_behaviour = draft.behaviour.is_none() & is_word_at(tokens, at, "BEHAVIOUR");
+    if has_behaviour {
+        let (behaviour, next) = read_behaviour_clause(alloc, tokens, at)?;
+        draft.behaviour = Some(behaviour);
+        return Ok(Some(next));
+    }
+    let has_create = draft.create.is_none() & is_word_at(tokens, at, "CREATE");
+    if has_create {
+        let (create, next) = read_create_clause(alloc, tokens, at)?;
+        draft.create = Some(create);
+        return Ok(Some(next));
+    }
+    let has_delete = draft.delete.is_none() & is_word_at(tokens, at, "DELETE");
+    if has_delete {
+        let (delete, next) = read_delete_clause(alloc, tokens, at)?;
+        draft.delete = Some(delete);
+        return Ok(Some(next));
+    }
+    Ok(None)
+}
