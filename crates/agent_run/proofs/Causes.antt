@@ -90,7 +90,7 @@ of_run files words Holds run of =
     let scripts = one_script words run.script_name run.document_name n.script_name n.document_name run.words_are n.words_are in
     let documents = one_document words run.script_name run.document_name n.script_name n.document_name run.words_are n.words_are in
     subst (λ b. Holds run.script b) (one_content files run.document_name n.document_name run.document of.document documents run.document_told n.document_told)
-        (subst (λ b. Holds b of.document) (one_content files run.script_name n.script_name run.script of.script scripts run.script_told n.script_told) of.holds)
+    (subst (λ b. Holds b of.document) (one_content files run.script_name n.script_name run.script of.script scripts run.script_told n.script_told) of.holds)
 
 no_fault : (files : Told) (words : List (List ℕ)) (number : ℕ) (kind : LexKind) → IsRunnable files words → OfNamed files words (λ script document. HasFault number kind document) → ⊥
 no_fault files words number kind run of =

@@ -12,7 +12,8 @@ ghost use Rattle.term_model.specs.Bind.{title_in};
 ghost use Rattle.term_model.specs.WellFormedMib.{IsWellFormedMib};
 
 use crate::refusal::{
-    BAD_DOCUMENT, DONE, FILE_FAULT, FILE_TOO_LARGE, NOT_BUILT, OUT_OF_MEMORY, Refusal, Unbuilt, WRITE_FAULT,
+    BAD_DOCUMENT, DONE, FILE_FAULT, FILE_TOO_LARGE, NOT_BUILT, OUT_OF_MEMORY, Refusal, Unbuilt,
+    WRITE_FAULT,
 };
 use crate::words::read_words;
 use agent_bytes::{FileRefusal, Files, Sink, write_all};

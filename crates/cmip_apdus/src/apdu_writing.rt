@@ -9,9 +9,9 @@ ghost use Rattle.term_model.specs.Operation.{sent_parameter};
 ghost use Rattle.term_values.specs.Der.{encoded};
 
 use crate::apdu_reading::{INVOKE, M_GET};
-use op_object::object_reading::{GLOBAL_FORM, write_instance};
 use ber_tree::tree_writing::{write_integer_contents, write_octets};
 use ber_tree::value_writing::{write_integer, write_oid, write_value};
+use op_object::object_reading::{GLOBAL_FORM, write_instance};
 use std::alloc::{AllocError, Global};
 use term_model::{CmisError, Rdn, Reply};
 use term_values::{Oid, Tag};
@@ -54,11 +54,7 @@ fn framed(alloc: Global, tag: Tag, contents: &[u8]) -> Result<Vec<u8>, AllocErro
 }
 
 /// The frame that answers the BIND of an association with this number.
-pub fn bind_answer_frame(
-    alloc: Global,
-    code: u8,
-    association: u64,
-) -> Result<Vec<u8>, AllocError>
+pub fn bind_answer_frame(alloc: Global, code: u8, association: u64) -> Result<Vec<u8>, AllocError>
     requires { association < 2 ^ 63 }
     ensures { IfOk result (λ octets. octets.items ≡ frame (bind_answer code association)) }
 {

@@ -6,9 +6,9 @@ ghost use Rattle.hex.specs.Hex.{encode_upper};
 ghost use Rattle.term_model.specs.Bind.{title_in};
 ghost use Rattle.first_script.specs.ScriptForm.{IsFirstLine, IsHeld, IsOpening, IsScript, IsSending, IsSends, IsUnbroken, IsWrittenBind, IsWrittenGet, most_octets};
 
+use crate::script_refusal::ScriptRefusal;
 use cmip_apdus::apdu_reading::{asked_in, title_in};
 use cmip_apdus::apdu_writing::{write_bind, write_get};
-use crate::script_refusal::ScriptRefusal;
 use hex::FromHexError;
 use std::alloc::{AllocError, Global};
 use term_model::{IdRef, Named, Request};

@@ -99,11 +99,7 @@ fn write_closed(number: u64, cause: &Why, into: &mut Vec<u8>) -> Result<(), Allo
 }
 
 /// Appends the line of an entry.
-pub fn write_entry(
-    alloc: Global,
-    entry: &Entry,
-    into: &mut Vec<u8>,
-) -> Result<(), AllocError>
+pub fn write_entry(alloc: Global, entry: &Entry, into: &mut Vec<u8>) -> Result<(), AllocError>
     ensures { OnOk result (into.new.items ≡ into.old.items ++ line entry.now) }
 {
     match entry {
@@ -130,11 +126,7 @@ pub fn write_entry(
 }
 
 /// Appends a line for each entry.
-pub fn write_journal(
-    alloc: Global,
-    journal: &Entries,
-    into: &mut Vec<u8>,
-) -> Result<(), AllocError>
+pub fn write_journal(alloc: Global, journal: &Entries, into: &mut Vec<u8>) -> Result<(), AllocError>
     ensures { OnOk result (into.new.items ≡ into.old.items ++ journal_text journal.now) }
 {
     for entry in &journal.items {
@@ -165,11 +157,7 @@ fn write_out_line(
 }
 
 /// Appends a line for each association, and one for the number of objects.
-pub fn write_outs(
-    alloc: Global,
-    agent: &AgentState,
-    into: &mut Vec<u8>,
-) -> Result<(), AllocError>
+pub fn write_outs(alloc: Global, agent: &AgentState, into: &mut Vec<u8>) -> Result<(), AllocError>
     ensures { OnOk result (into.new.items ≡ into.old.items ++ outs agent.now) }
 {
     for (place, association) in agent.associations.items.iter().enumerate() {
@@ -179,11 +167,7 @@ pub fn write_outs(
 }
 
 /// What `run` prints of a journal and the agent after it.
-pub fn run_text(
-    alloc: Global,
-    journal: &Entries,
-    agent: &AgentState,
-) -> Result<Vec<u8>, AllocError>
+pub fn run_text(alloc: Global, journal: &Entries, agent: &AgentState) -> Result<Vec<u8>, AllocError>
     ensures { IfOk result (λ text. text.items ≡ journal_text journal.now ++ ((45 ∷ 45 ∷ line_feed) ++ outs agent.now)) }
 {
     let mut text = Vec::new(alloc);

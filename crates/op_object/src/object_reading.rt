@@ -41,11 +41,7 @@ const ATTRIBUTE_LIST: Tag = Tag {
 const EPOCH_TEXT: &[u8] = b"19700101000000Z";
 
 /// Appends the written encoding of a value.
-pub fn write_typed(
-    alloc: Global,
-    value: &Value,
-    into: &mut Vec<u8>,
-) -> Result<(), AllocError>
+pub fn write_typed(alloc: Global, value: &Value, into: &mut Vec<u8>) -> Result<(), AllocError>
     ensures { OnOk result (into.new.items ≡ into.old.items ++ der value.now) }
 {
     match value.form {
@@ -127,11 +123,7 @@ fn write_rdn(alloc: Global, rdn: &Rdn, into: &mut Vec<u8>) -> Result<(), AllocEr
 }
 
 /// Appends an ObjectInstance in localDistinguishedName.
-pub fn write_instance(
-    alloc: Global,
-    name: &[Rdn],
-    into: &mut Vec<u8>,
-) -> Result<(), AllocError>
+pub fn write_instance(alloc: Global, name: &[Rdn], into: &mut Vec<u8>) -> Result<(), AllocError>
     ensures { OnOk result (into.new.items ≡ into.old.items ++ instance_octets name.now) }
 {
     let mut rdns = Vec::new(alloc);

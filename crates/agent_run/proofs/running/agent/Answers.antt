@@ -13,11 +13,11 @@ returns-in-Err-clause-statuses g c = answered_listed c.refuse.result c.in-Err.re
 pub returns-in-Err-clause-too_large : goal.returns-in-Err-clause-too_large
 returns-in-Err-clause-too_large g c =
     too_large_of (g.F.Files.files c.args.files.now) (map string_bytes c.args.words.now) (g.F.Files.faults c.args.files.now) (g.F.Files.faults c.prepare.new.files)
-        (g.O.Sink.contents c.args.out.now) (g.O.Sink.contents c.refuse.new.out) c.refuse.result c.in-Err.refusal
-        c.refuse.ensures.status c.in-Err.ensures.cause c.refuse.ensures.line
+    (g.O.Sink.contents c.args.out.now) (g.O.Sink.contents c.refuse.new.out) c.refuse.result c.in-Err.refusal
+    c.refuse.ensures.status c.in-Err.ensures.cause c.refuse.ensures.line
 
 pub returns-in-Err-clause-complete : goal.returns-in-Err-clause-complete
 returns-in-Err-clause-complete g c =
     complete_of (g.F.Files.files c.args.files.now) (map string_bytes c.args.words.now) (g.F.Files.faults c.args.files.now) (g.F.Files.faults c.prepare.new.files)
-        (Rose (g.O.Sink.faults c.args.out.now) (g.O.Sink.faults c.refuse.new.out)) c.refuse.result c.in-Err.refusal
-        c.refuse.ensures.status c.in-Err.ensures.cause c.refuse.ensures.fault
+    (Rose (g.O.Sink.faults c.args.out.now) (g.O.Sink.faults c.refuse.new.out)) c.refuse.result c.in-Err.refusal
+    c.refuse.ensures.status c.in-Err.ensures.cause c.refuse.ensures.fault
