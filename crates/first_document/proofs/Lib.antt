@@ -7,6 +7,7 @@ pub mod Labelled
 pub mod Loops
 pub mod Numerals
 pub mod OneTree
+pub mod RecordFacts
 pub mod Repeats
 pub mod RisingAttributes
 pub mod StandardFacts

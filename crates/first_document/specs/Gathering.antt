@@ -7,7 +7,9 @@ use Rattle.std.specs.List.{list_any}
 use Rattle.std.specs.Option.{option_map, unwrap_or}
 use Rattle.std.specs.Ordering.{nat_cmp}
 use Rattle.text_lex.specs.TokenTests.{is_word_of}
+use Rattle.term_values.specs.Fits.{der}
 use Rattle.term_values.specs.Typed.TypedValue.{Int}
+use Rattle.term_model.specs.declared.name.Rdn.{Rdn}
 use Rattle.term_model.specs.declared.object.Attribute.{Attribute}
 use Rattle.term_model.specs.declared.object.Object.{Object}
 use Rattle.term_model.specs.declared.schema.AttrRec.{AttrRec}
@@ -17,9 +19,10 @@ use Rattle.term_model.specs.ObjectOperation.{object_octets}
 use Rattle.first_document.specs.declared.parts.AttributePart.{AttributePart}
 use Rattle.first_document.specs.declared.parts.AttributeUse.{AttributeUse}
 use Rattle.first_document.specs.declared.parts.GivenValue.{GivenValue}
+use Rattle.first_document.specs.declared.parts.RootPart.{RootPart}
 use Rattle.first_document.specs.Contents.{attribute_contents}
 use Rattle.first_document.specs.FirstDocument.{AreArcs, AreDistinct, IsNumberBelow}
-use Rattle.first_document.specs.Records.{attribute_record, number_of}
+use Rattle.first_document.specs.Records.{attribute_record, by_rising_identifier, number_of}
 
 abbrev pub use_labels : List AttributeUse → List (List ℕ)
 use_labels uses = map (λ (one : AttributeUse). one.label.text) uses
@@ -40,12 +43,14 @@ HasExactly members list = (q : List ℕ) → contains (slice_cmp nat_cmp) member
 -- the set with one more member
 abbrev pub Adds : BTreeSet (List ℕ) → BTreeSet (List ℕ) → List ℕ → Type 0
 Adds before after new = (contains (slice_cmp nat_cmp) before new ≡ false)
-    × ((q : List ℕ) → contains (slice_cmp nat_cmp) after q ≡ (contains (slice_cmp nat_cmp) before q || is_same_octets q new))
+    × ((q : List ℕ) → contains (slice_cmp nat_cmp) after q
+    ≡ (contains (slice_cmp nat_cmp) before q || is_same_octets q new))
 
 -- the set without one of its members
 abbrev pub Removes : BTreeSet (List ℕ) → BTreeSet (List ℕ) → List ℕ → Type 0
 Removes before after old = (contains (slice_cmp nat_cmp) before old ≡ true)
-    × ((q : List ℕ) → contains (slice_cmp nat_cmp) after q ≡ (contains (slice_cmp nat_cmp) before q && not (is_same_octets q old)))
+    × ((q : List ℕ) → contains (slice_cmp nat_cmp) after q
+    ≡ (contains (slice_cmp nat_cmp) before q && not (is_same_octets q old)))
 
 -- each of the used labels is given once, and no other one is
 pub record GivesEach (used given : List (List ℕ)) : Type 0 where
@@ -92,7 +97,23 @@ pub record IsGivable (identifiers : Identifiers) (one : GivenValue) : Type 0 whe
   pub below : IsNumberBelow (2 ^ 63) one.number
 
 abbrev pub attribute_under : Identifiers → GivenValue → Attribute
-attribute_under identifiers one = record { id = identifier_under identifiers one.label.text; value = Int (pos (number_of one.number)) }
+attribute_under identifiers one = record {
+  id = identifier_under identifiers one.label.text;
+  value = Int (pos (number_of one.number));
+}
+
+-- the name that a value gives
+abbrev pub name_under : Identifiers → GivenValue → Rdn
+name_under identifiers one =
+    record { attribute = identifier_under identifiers one.label.text; value = der (Int (pos (number_of one.number))) }
+
+-- the values of AT and WITH
+abbrev pub all_given : RootPart → List GivenValue
+all_given root = root.named_by ∷ root.others.items
+
+-- the attributes of the root by rising identifier
+abbrev pub attributes_by : Identifiers → RootPart → List Attribute
+attributes_by identifiers root = by_rising_identifier (map (attribute_under identifiers) (all_given root))
 
 -- an object whose attributes these are
 abbrev pub object_of : List Attribute → Object

@@ -19,8 +19,10 @@ use text_lex::{SyntaxRefusal, Token};
 /// The parts of a document. `Outside`: the tokens do not spell one, or go on behind it.
 fn whole_parts(alloc: Global, tokens: &[Token]) -> Result<DocumentParts, DocumentRefusal>
     ensures spelt { IfOk result (SpellsDocument tokens.now) }
-    ensures only { IfOk result (λ parts. (other : DocumentParts) → SpellsDocument tokens.now other → document_contents other ≡ document_contents parts) }
-    ensures outside { result ≡ Err DocumentRefusal.Outside → (parts : DocumentParts) → SpellsDocument tokens.now parts → ⊥ }
+    ensures only { IfOk result (λ parts. (other : DocumentParts) → SpellsDocument tokens.now other
+        → document_contents other ≡ document_contents parts) }
+    ensures outside { result ≡ Err DocumentRefusal.Outside
+        → (parts : DocumentParts) → SpellsDocument tokens.now parts → ⊥ }
 {
     match read_parts(alloc, tokens) {
         Ok((parts, end)) => {

@@ -1,8 +1,7 @@
 //! The records of attributes, and their identifiers by label: X.722, section 8.7; docs/PROFILE.md, section 6.
 
 ghost use Rattle.std.specs.Prelude.{◌≡◌, ◌≢◌, ◌↔◌, ◌∷◌, All, IfOk, IsTrue, None, OnOk, Some, map};
-ghost use Rattle.first_document.specs.Contents.{attribute_contents};
-ghost use Rattle.first_document.specs.FirstDocument.{AreArcs, AreDistinct};
+ghost use Rattle.first_document.specs.FirstDocument.{AreDistinct};
 ghost use Rattle.first_document.specs.Gathering.{HasArcs, IsIndex, found_under, part_record, record_ids, record_labels};
 
 use crate::document_refusal::DocumentRefusal;

@@ -1,11 +1,11 @@
 //! Labels of attributes that are used and given: X.722, section 8.4; docs/PROFILE.md, section 6.
 
-ghost use Rattle.std.specs.Prelude.{◌≡◌, ◌↔◌, ℕ, List, ◌∷◌, false, true, IfOk, IsTrue, OnOk};
+ghost use Rattle.std.specs.Prelude.{◌≡◌, ◌↔◌, ℕ, List, false, true, IfOk, IsTrue, OnOk};
 ghost use Rattle.std.specs.BTreeSet.{contains};
 ghost use Rattle.std.specs.Cmp.Lexicographic.{slice_cmp};
 ghost use Rattle.std.specs.Ordering.{nat_cmp};
 ghost use Rattle.first_document.specs.FirstDocument.{AreDistinct};
-ghost use Rattle.first_document.specs.Gathering.{Adds, GivesEach, HasExactly, Removes, given_texts, use_labels};
+ghost use Rattle.first_document.specs.Gathering.{Adds, GivesEach, HasExactly, Removes, all_given, given_texts, use_labels};
 
 use crate::document_refusal::DocumentRefusal;
 use crate::parts::{AttributeUse, GivenValue, RootPart};
@@ -35,7 +35,8 @@ fn add_label(
     labels: &mut BTreeSet<Bytes>,
 ) -> Result<(), DocumentRefusal>
     ensures added { OnOk result (Adds labels.old labels.new label.now.text) }
-    ensures outside { result ≡ Err DocumentRefusal.Outside → contains (slice_cmp nat_cmp) labels.old label.now.text ≡ true }
+    ensures outside { result ≡ Err DocumentRefusal.Outside
+        → contains (slice_cmp nat_cmp) labels.old label.now.text ≡ true }
 {
     let text = text_of(alloc, label)?;
     let is_new = labels.insert(text)?;
@@ -69,7 +70,8 @@ fn give(
     labels: &mut BTreeSet<Bytes>,
 ) -> Result<(), DocumentRefusal>
     ensures removed { OnOk result (Removes labels.old labels.new given.now.label.text) }
-    ensures outside { result ≡ Err DocumentRefusal.Outside → contains (slice_cmp nat_cmp) labels.old given.now.label.text ≡ false }
+    ensures outside { result ≡ Err DocumentRefusal.Outside
+        → contains (slice_cmp nat_cmp) labels.old given.now.label.text ≡ false }
 {
     let text = text_of(alloc, &given.label)?;
     let was_there = labels.remove(&text);
@@ -87,9 +89,9 @@ pub(crate) fn check_given(
     root: &RootPart,
 ) -> Result<(), DocumentRefusal>
     ensures found { OnOk result ((used : List (List ℕ)) → HasExactly labels used
-        → GivesEach used (given_texts (root.now.named_by ∷ root.now.others.items))) }
+        → GivesEach used (given_texts (all_given root.now))) }
     ensures outside { result ≡ Err DocumentRefusal.Outside → (used : List (List ℕ)) → HasExactly labels used
-        → GivesEach used (given_texts (root.now.named_by ∷ root.now.others.items)) → ⊥ }
+        → GivesEach used (given_texts (all_given root.now)) → ⊥ }
 {
     let mut labels = labels;
     give(alloc, &root.named_by, &mut labels)?;

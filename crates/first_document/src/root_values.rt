@@ -4,12 +4,10 @@ ghost use Rattle.std.specs.Prelude.{◌≡◌, ◌≤◌, ◌^◌, [], ◌∷◌
 ghost use Rattle.std.specs.BTreeMap.{insert_entry};
 ghost use Rattle.std.specs.Cmp.Lexicographic.{slice_cmp};
 ghost use Rattle.std.specs.Ordering.{nat_cmp};
-ghost use Rattle.term_values.specs.Fits.{der};
-ghost use Rattle.term_values.specs.Typed.TypedValue.{Int};
 ghost use Rattle.term_model.specs.WellFormedMib.{most_object};
 ghost use Rattle.first_document.specs.FirstDocument.{IsNumberBelow};
-ghost use Rattle.first_document.specs.Gathering.{IsGivable, attribute_under, entry_attribute, identifier_under, size_of};
-ghost use Rattle.first_document.specs.Records.{by_rising_identifier, number_of};
+ghost use Rattle.first_document.specs.Gathering.{IsGivable, all_given, attributes_by, entry_attribute, identifier_under, name_under, size_of};
+ghost use Rattle.first_document.specs.Records.{number_of};
 
 use crate::document_refusal::DocumentRefusal;
 use crate::identifiers::{Identifiers, labelled};
@@ -30,7 +28,8 @@ const MOST_OBJECT: usize = 16_384;
 
 /// A given value. `Outside`: it is not below 2 ^ 63.
 fn given_number(given: &GivenValue) -> Result<i64, DocumentRefusal>
-    ensures found { IfOk result (λ number. IsNumberBelow (2 ^ 63) given.now.number × (number ≡ pos (number_of given.now.number))) }
+    ensures found { IfOk result (λ number. IsNumberBelow (2 ^ 63) given.now.number
+        × (number ≡ pos (number_of given.now.number))) }
     ensures outside { result ≡ Err DocumentRefusal.Outside → IsNumberBelow (2 ^ 63) given.now.number → ⊥ }
 {
     match number_below(&given.number, VALUES) {
@@ -75,11 +74,9 @@ fn root_attributes(
     identifiers: &Identifiers,
     root: &RootPart,
 ) -> Result<Attrs, DocumentRefusal>
-    ensures givable { OnOk result (All (IsGivable identifiers.now) (root.now.named_by ∷ root.now.others.items)) }
-    ensures found { IfOk result (λ attrs. attrs
-        ≡ by_rising_identifier (map (attribute_under identifiers.now) (root.now.named_by ∷ root.now.others.items))) }
-    ensures outside { result ≡ Err DocumentRefusal.Outside
-        → All (IsGivable identifiers.now) (root.now.named_by ∷ root.now.others.items) → ⊥ }
+    ensures givable { OnOk result (All (IsGivable identifiers.now) (all_given root.now)) }
+    ensures found { IfOk result (λ attrs. attrs ≡ attributes_by identifiers.now root.now) }
+    ensures outside { result ≡ Err DocumentRefusal.Outside → All (IsGivable identifiers.now) (all_given root.now) → ⊥ }
 {
     let mut values: BTreeMap<Oid, i64> = BTreeMap::new(alloc);
     add_value(alloc, identifiers, &root.named_by, &mut values)?;
@@ -112,15 +109,14 @@ pub(crate) fn root_record(
     class: &Oid,
     root: &RootPart,
 ) -> Result<InstRec, DocumentRefusal>
-    ensures givable { OnOk result (All (IsGivable identifiers.now) (root.now.named_by ∷ root.now.others.items)) }
+    ensures givable { OnOk result (All (IsGivable identifiers.now) (all_given root.now)) }
     ensures class { IfOk result (λ made. made.class ≡ class.now) }
     ensures name { IfOk result (λ made. made.name ≡ []) }
-    ensures given { IfOk result (λ made. made.given
-        ≡ by_rising_identifier (map (attribute_under identifiers.now) (root.now.named_by ∷ root.now.others.items))) }
+    ensures given { IfOk result (λ made. made.given ≡ attributes_by identifiers.now root.now) }
     ensures small { IfOk result (λ made. size_of made.given ≤ most_object) }
     ensures outside { result ≡ Err DocumentRefusal.Outside
-        → All (IsGivable identifiers.now) (root.now.named_by ∷ root.now.others.items)
-        → size_of (by_rising_identifier (map (attribute_under identifiers.now) (root.now.named_by ∷ root.now.others.items))) ≤ most_object → ⊥ }
+        → All (IsGivable identifiers.now) (all_given root.now)
+        → size_of (attributes_by identifiers.now root.now) ≤ most_object → ⊥ }
 {
     let given = root_attributes(alloc, identifiers, root)?;
     check_size(alloc, &given)?;
@@ -139,8 +135,7 @@ pub(crate) fn system_name(
     identifiers: &Identifiers,
     given: &GivenValue,
 ) -> Result<Name, DocumentRefusal>
-    ensures found { IfOk result (λ name. name
-        ≡ record { attribute = identifier_under identifiers.now given.now.label.text; value = der (Int (pos (number_of given.now.number))) } ∷ []) }
+    ensures found { IfOk result (λ name. name ≡ name_under identifiers.now given.now ∷ []) }
     ensures outside { result ≡ Err DocumentRefusal.Outside → IsGivable identifiers.now given.now → ⊥ }
 {
     let attribute = labelled(alloc, identifiers, &given.label)?;
