@@ -103,7 +103,9 @@ fn read_conditional_list(
     }
 }
 
-/// Reads the clause `CONDITIONAL PACKAGES ref PRESENT IF string, ..;`.
+/// Reads the clause `CONDITIONAL PACKAGES ref PRESENT IF string, ..;`. It isn't inlined, so that its locals
+/// take no room while a class in line is read.
+#[inline(never)]
 fn read_conditional_clause(
     alloc: Global,
     tokens: &[Token],
@@ -117,7 +119,9 @@ fn read_conditional_clause(
     Ok((list, next))
 }
 
-/// Reads the clause `CHARACTERIZED BY ref, ..;`.
+/// Reads the clause `CHARACTERIZED BY ref, ..;`. It isn't inlined, so that its locals take no room while a
+/// class in line is read.
+#[inline(never)]
 fn read_packages_clause(
     alloc: Global,
     tokens: &[Token],
