@@ -5,13 +5,13 @@
 --   item    = ["name" :] label | box
 --   box     = label BOX size ;
 --   size    = WIDE number | WIDE FREE
-use Rattle.std.proofs.Common.{◌≡◌, ℕ, Bool, true, false, List, [], ◌∷◌, None, refl, codes}
+use Rattle.std.proofs.Common.{ℕ, true, false, List, [], ◌∷◌, None, refl, codes}
 use Rattle.text_lex.specs.declared.token.Token.{Token}
 use Rattle.text_lex.specs.declared.token.TheConstants.{WORD, NUMBER, SIGN}
-use Rattle.text_lex.specs.Form.{Form, Marks, Keep, Then, Or, Maybe, Listed, Many, AnyOrder, Named, Slots, Slot, NoSlots, Tree, Bare, Leaf, Pair, First, Second, Absent, Present, Empty, After, Numbered}
+use Rattle.text_lex.specs.Form.{Form, Marks, Keep, Then, Or, Maybe, Listed, Many, AnyOrder, Named, Slots, Slot, NoSlots, Bare, Leaf, Pair, First, Second, Absent, Present, Empty, After, Numbered}
 use Rattle.text_lex.specs.TokenTests.{is_sign_of, is_label, is_number}
 use Rattle.text_lex.specs.Parts.{words, sign, label_reference}
-use Rattle.text_lex.specs.Spelling.{At, Spells, no_marks, marks, keep, both, first, second, absent, present, last, more, no_more, another, enough, clause, named}
+use Rattle.text_lex.specs.Spelling.{Spells, no_marks, marks, keep, both, first, second, absent, present, last, more, no_more, another, enough, clause, named}
 use Rattle.text_lex.specs.Beginning as B
 use Rattle.text_lex.specs.Beginning.{Begins}
 use Rattle.text_lex.proofs.Known.{token_of}
@@ -54,16 +54,16 @@ whole = word_at 0 (codes "a") ∷ word_at 2 (codes "SHELF")
 
 -- the clauses stand in their own order in the tree, whichever came first
 whole_example : Spells whole boxes shelf 0 17
-  (Pair (Leaf (word_at 0 (codes "a"))) (Pair Bare (Pair
+    (Pair (Leaf (word_at 0 (codes "a"))) (Pair Bare (Pair
     (Pair (Present (Pair Bare (Pair (After (After Empty (First (Pair Absent (Leaf (word_at 23 (codes "b")))))) (Second (Numbered 0 (Pair (Leaf (word_at 26 (codes "c"))) (Pair Bare (Pair (Second Bare) Bare)))))) Bare)))
     (Pair (Present (Pair Bare (Pair (After Empty (Leaf (word_at 14 (codes "x")))) Bare))) Bare))
     (Pair (Present (Pair Bare (Leaf (token_of NUMBER 47 (codes "7"))))) Bare))))
 whole_example = both (keep refl refl refl) (both (marks (record { passed = refl }) no_marks) (both
     (clause 1 refl (both (marks (record { passed = refl }) no_marks) (both (another (keep refl refl refl) no_more) (marks (record { passed = refl }) no_marks)))
     (clause 0 refl (both (marks (record { passed = refl }) no_marks) (both
-      (more (first (both absent (keep refl refl refl))) (record { passed = refl })
-      (last (second (named (both (keep refl refl refl) (both (marks (record { passed = refl }) no_marks) (both (second (marks (record { passed = refl }) (marks (record { passed = refl }) no_marks))) (marks (record { passed = refl }) no_marks))))))))
-      (marks (record { passed = refl }) no_marks)))
+    (more (first (both absent (keep refl refl refl))) (record { passed = refl })
+    (last (second (named (both (keep refl refl refl) (both (marks (record { passed = refl }) no_marks) (both (second (marks (record { passed = refl }) (marks (record { passed = refl }) no_marks))) (marks (record { passed = refl }) no_marks))))))))
+    (marks (record { passed = refl }) no_marks)))
     (enough refl refl)))
     (both (present (both (marks (record { passed = refl }) no_marks) (keep refl refl refl))) (marks (record { passed = refl }) no_marks))))
 
@@ -74,7 +74,7 @@ faulty = word_at 0 (codes "a") ∷ word_at 2 (codes "SHELF") ∷ word_at 8 (code
 faulty_example : Begins faulty boxes shelf 0 6
 faulty_example = B.rest (keep refl refl refl) (B.rest (marks (record { passed = refl }) no_marks) (B.front
     (B.one_clause 0 refl (B.rest (marks (record { passed = refl }) no_marks) (B.front
-      (B.item (B.second (B.named (B.rest (keep refl refl refl) (B.rest (marks (record { passed = refl }) no_marks) (B.front (B.second (B.mark (record { passed = refl }) B.no_tokens)))))))))))))
+    (B.item (B.second (B.named (B.rest (keep refl refl refl) (B.rest (marks (record { passed = refl }) no_marks) (B.front (B.second (B.mark (record { passed = refl }) B.no_tokens)))))))))))))
 
 -- a SHELF MARKS; ;: the clause of the items is missing, and the fault is at the second semicolon
 abbrev missing : List Token
