@@ -1,6 +1,6 @@
 -- Laws on clauses in any order.
 use Rattle.std.specs.Result.{IsErrAnd}
-use Rattle.std.proofs.Common.{◌≡◌, ◌≢◌, ℕ, zero, suc, ◌+◌, ◌≤◌, ◌<◌, Bool, true, false, not, ◌&&◌, ◌||◌, List, [], ◌∷◌, Option, None, Some, is_none, is_some, option_map, Result, Ok, Err, ◌⊎◌, inl, inr, refl, sym, ◌∙◌, ap, subst, arith, slice_get}
+use Rattle.std.proofs.Common.{◌≡◌, ◌≢◌, ℕ, zero, suc, ◌+◌, ◌≤◌, Bool, true, false, not, ◌&&◌, ◌||◌, List, ◌∷◌, Option, None, Some, is_none, is_some, option_map, Result, Ok, Err, ◌⊎◌, inl, inr, refl, sym, ◌∙◌, ap, subst, arith, slice_get}
 use Rattle.text_lex.specs.declared.token.Token.{Token}
 use Rattle.text_lex.specs.Form.{Form, Tree, Marks, Then, AnyOrder, Slots, Slot, NoSlots, form_at, is_open, filled, is_complete, slots_tree, option_tree, Present}
 use Rattle.text_lex.specs.Spelling as S
@@ -11,9 +11,9 @@ pub use Rattle.text_lex.specs.Turns.{AllStop, IsTaken, IsOver, TakesClause}
 use Rattle.text_lex.specs.declared.syntax_refusal.SyntaxRefusal.{SyntaxRefusal}
 use Rattle.text_lex.specs.declared.syntax_refusal.SyntaxRefusal.TheVariants.{Syntax}
 use Rattle.text_lex.specs.Outcome.{closed, Stops, IsFault, IsSpelt, Fails}
-use Rattle.text_lex.proofs.Places.{spells_begins, spells_order, spells_from, begins_from, at_from}
-use Rattle.text_lex.proofs.Heads.{Firsts, skips, starts, Heads, stops_here, or_left, or_right, at_wider, advances}
-use Rattle.text_lex.proofs.Sequences.{not_closed, apart_closed, fault_front, spelt_order, stops_later, stops_wider, fails_by, fails_at}
+use Rattle.text_lex.proofs.Places.{spells_from, begins_from}
+use Rattle.text_lex.proofs.Heads.{Firsts, skips, starts, Heads, stops_here, at_wider, advances}
+use Rattle.text_lex.proofs.Sequences.{not_closed, apart_closed, fault_front, spelt_order, stops_later, fails_by, fails_at}
 use Rattle.text_lex.proofs.Tokens.{marks_fault, marks_rest_fault}
 use Rattle.text_lex.proofs.Parts.{at_within, spelt_as}
 use Rattle.text_lex.proofs.Turns.{Leads, spelt_led, fault_led}

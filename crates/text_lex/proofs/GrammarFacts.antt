@@ -5,13 +5,13 @@
 --   item    = ["name" :] label | box
 --   box     = label BOX size ;
 --   size    = WIDE number | WIDE FREE
-use Rattle.std.proofs.Common.{◌≡◌, ℕ, Bool, true, false, List, [], ◌∷◌, None, refl, codes}
+use Rattle.std.proofs.Common.{ℕ, true, false, List, [], ◌∷◌, None, refl, codes}
 use Rattle.text_lex.specs.declared.token.Token.{Token}
 use Rattle.text_lex.specs.declared.token.TheConstants.{WORD, NUMBER, SIGN}
-use Rattle.text_lex.specs.Form.{Form, Marks, Keep, Then, Or, Maybe, Listed, Many, AnyOrder, Named, Slots, Slot, NoSlots, Tree, Bare, Leaf, Pair, First, Second, Absent, Present, Empty, After, Numbered}
+use Rattle.text_lex.specs.Form.{Form, Marks, Keep, Then, Or, Maybe, Listed, Many, AnyOrder, Named, Slots, Slot, NoSlots, Bare, Leaf, Pair, First, Second, Absent, Present, Empty, After, Numbered}
 use Rattle.text_lex.specs.TokenTests.{is_sign_of, is_label, is_number}
 use Rattle.text_lex.specs.Parts.{words, sign, label_reference}
-use Rattle.text_lex.specs.Spelling.{At, Spells, no_marks, marks, keep, both, first, second, absent, present, last, more, no_more, another, enough, clause, named}
+use Rattle.text_lex.specs.Spelling.{Spells, no_marks, marks, keep, both, first, second, absent, present, last, more, no_more, another, enough, clause, named}
 use Rattle.text_lex.specs.Beginning as B
 use Rattle.text_lex.specs.Beginning.{Begins}
 use Rattle.text_lex.proofs.Known.{token_of}

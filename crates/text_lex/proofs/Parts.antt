@@ -2,20 +2,20 @@
 use Rattle.std.proofs.Common.{◌≡◌, ℕ, ◌+◌, ◌≤◌, ◌<◌, Bool, true, false, not, ◌&&◌, ◌||◌, List, [], ◌∷◌, ◌++◌, Option, None, Some, ◌⊎◌, inl, inr, refl, sym, ◌∙◌, ap, subst, arith, slice_get, length, codes}
 use Rattle.std.proofs.lemmas.Option.{slice_get_within}
 use Rattle.text_lex.specs.declared.token.Token.{Token}
-use Rattle.text_lex.specs.Form.{Form, Tree, Marks, Keep, Then, Or, Maybe, Listed, Many, Named, Bare, Leaf, Pair, First, Second, Absent, Empty, After}
+use Rattle.text_lex.specs.Form.{Form, Tree, Keep, Listed, Many, Leaf, First, Second, After}
 use Rattle.text_lex.specs.Spelling as S
 use Rattle.text_lex.specs.Spelling.{At, passes, Spells}
 use Rattle.text_lex.specs.Beginning as B
 use Rattle.text_lex.specs.Beginning.{Begins}
-use Rattle.text_lex.specs.Outcome.{closed, Stops, IsFault, IsSpelt, Fails}
-use Rattle.text_lex.specs.TokenTests.{is_word_of, is_sign_of, is_label, is_name, is_number, is_string, is_arc_start}
-use Rattle.text_lex.specs.Parts.{either, list_tree, document_name, label_reference, named_number, arc, first_arc, sign}
-use Rattle.text_lex.proofs.Places.{spells_begins, spells_order, at_from}
-use Rattle.text_lex.proofs.Heads.{unknown, heads_unknown, stops_unless, starts, skips, Firsts, Heads, spells_first, at_wider, or_left, or_right}
-use Rattle.text_lex.proofs.Sequences.{Apart, apart_by, apart_closed, not_closed, passes_false, stops_wider, stops_later, spelt_wider, fault_wider, fault_front, fault_rest, spelt_then, spelt_absent, spelt_first, spelt_second, fault_first, fault_second, stops_or, stops_named, spelt_order}
-use Rattle.text_lex.proofs.Tokens.{keep_spelt, keep_fault, marks_fault}
-use Rattle.text_lex.proofs.Turns.{Leads, leads_start, leads_on, many_leads, many_fault, many_ends, list_leads, list_ends, list_fault, Separates}
-use Rattle.text_lex.proofs.Known.{first_so, second_so, at_name, at_label, at_number}
+use Rattle.text_lex.specs.Outcome.{closed, Stops, IsFault, IsSpelt}
+use Rattle.text_lex.specs.TokenTests.{is_sign_of, is_name, is_number, is_arc_start}
+use Rattle.text_lex.specs.Parts.{either, list_tree, arc, first_arc, sign}
+use Rattle.text_lex.proofs.Places.{at_from}
+use Rattle.text_lex.proofs.Heads.{unknown, heads_unknown, starts, skips, Firsts, Heads, spells_first, at_wider, or_left, or_right}
+use Rattle.text_lex.proofs.Sequences.{Apart, apart_by, apart_closed, not_closed, passes_false, stops_wider, stops_later, spelt_wider, fault_wider, fault_front, fault_rest, spelt_first, spelt_second, fault_first, stops_or, spelt_order}
+use Rattle.text_lex.proofs.Tokens.{keep_fault, marks_fault}
+use Rattle.text_lex.proofs.Turns.{Leads, leads_start, leads_on, many_leads, list_leads, list_ends, Separates}
+use Rattle.text_lex.proofs.Known.{first_so, second_so, at_name, at_number}
 
 -- a list of one part more
 pub list_tree-append : {X : Type 0} (view : X → Tree) (before : Tree) (xs : List X) (x : X) → list_tree view before (xs ++ x ∷ []) ≡ After (list_tree view before xs) (view x)

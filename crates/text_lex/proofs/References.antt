@@ -1,10 +1,9 @@
 -- Laws on references: a label, or in its place a template in line. The token behind the label decides.
-use Rattle.std.proofs.Common.{◌≡◌, ℕ, ◌+◌, ◌≤◌, ◌<◌, Bool, true, false, not, ◌&&◌, List, [], ◌∷◌, Option, None, Some, ◌⊎◌, inl, inr, refl, sym, ◌∙◌, ap, subst, arith, slice_get}
+use Rattle.std.proofs.Common.{◌≡◌, ℕ, ◌+◌, ◌≤◌, Bool, true, false, ◌&&◌, List, ◌∷◌, Option, None, Some, refl, sym, ◌∙◌, ap, subst, arith, slice_get}
 use Rattle.text_lex.specs.declared.token.Token.{Token}
 use Rattle.text_lex.specs.declared.syntax_refusal.SyntaxRefusal.{SyntaxRefusal}
-use Rattle.text_lex.specs.Form.{Form, Tree, Marks, Keep, Then, Or, Maybe, Named, Bare, Leaf, Pair, First, Second, Absent}
-use Rattle.text_lex.specs.Spelling as S
-use Rattle.text_lex.specs.Spelling.{At, passes, Spells}
+use Rattle.text_lex.specs.Form.{Form, Tree, Marks, Keep, Then, Or, Named, Leaf, Pair, First, Second, Absent}
+use Rattle.text_lex.specs.Spelling.{passes}
 use Rattle.text_lex.specs.Beginning as B
 use Rattle.text_lex.specs.Beginning.{Begins}
 use Rattle.text_lex.specs.Outcome.{closed, Stops, IsFault, IsSpelt, Fails}
@@ -12,7 +11,7 @@ use Rattle.text_lex.specs.TokenTests.{is_label, is_string, is_word_of}
 use Rattle.text_lex.specs.Parts.{document_name, label_reference}
 use Rattle.text_lex.proofs.Places.{spells_begins}
 use Rattle.text_lex.proofs.Heads.{unknown, heads_unknown, stops_unless}
-use Rattle.text_lex.proofs.Sequences.{apart_closed, not_closed, passes_false, stops_wider, stops_later, spelt_wider, fault_wider, fault_front, fault_rest, spelt_then, spelt_absent, spelt_first, spelt_second, fault_first, fault_second, stops_named, fails_by}
+use Rattle.text_lex.proofs.Sequences.{apart_closed, passes_false, stops_wider, stops_later, spelt_wider, fault_wider, fault_front, fault_rest, spelt_then, spelt_absent, spelt_first, spelt_second, fault_first, fault_second, stops_named, fails_by}
 use Rattle.text_lex.proofs.Tokens.{keep_spelt, keep_fault, marks_fault}
 use Rattle.text_lex.proofs.Known.{first_so, second_so, at_label, at_word, token_of}
 use Rattle.text_lex.proofs.Parts.{spelt_short, token_there}

@@ -1,17 +1,17 @@
 -- Laws on sequences, choices, optional parts and named forms: from what is read of the parts to
 -- what is read of the whole.
-use Rattle.std.proofs.Common.{◌≡◌, ℕ, ◌+◌, ◌≤◌, ◌<◌, Bool, true, false, List, [], ◌∷◌, Option, None, Some, ◌⊎◌, inl, inr, refl, sym, ◌∙◌, ap, subst, arith, slice_get}
+use Rattle.std.proofs.Common.{◌≡◌, ℕ, ◌≤◌, Bool, true, false, List, Option, None, Some, ◌⊎◌, inl, inr, refl, ap, subst, arith, slice_get}
 use Rattle.text_lex.specs.declared.token.Token.{Token}
 use Rattle.text_lex.specs.declared.syntax_refusal.SyntaxRefusal.{SyntaxRefusal}
 use Rattle.text_lex.specs.declared.syntax_refusal.SyntaxRefusal.TheVariants.{Syntax, Memory}
-use Rattle.text_lex.specs.Form.{Form, Tree, Marks, Keep, Then, Or, Maybe, Listed, Many, AnyOrder, Named, Bare, Leaf, Pair, First, Second, Absent, Present, Numbered}
+use Rattle.text_lex.specs.Form.{Form, Tree, Then, Or, Maybe, Named, Pair, First, Second, Absent, Present, Numbered}
 use Rattle.text_lex.specs.Spelling as S
 use Rattle.text_lex.specs.Spelling.{At, passes, Spells}
 use Rattle.text_lex.specs.Beginning as B
 use Rattle.text_lex.specs.Beginning.{Begins}
 use Rattle.text_lex.specs.Outcome.{closed, Stops, IsFault, IsSpelt, Fails}
-use Rattle.text_lex.proofs.Places.{spells_begins, spells_order, spells_from, begins_from, at_token, at_from}
-use Rattle.text_lex.proofs.Heads.{Firsts, skips, starts, Heads, stops_here, at_not, at_wider}
+use Rattle.text_lex.proofs.Places.{spells_begins, spells_order, spells_from, begins_from}
+use Rattle.text_lex.proofs.Heads.{Firsts, skips, starts, Heads, stops_here}
 
 -- no token passes the test of a closed form
 passes_closed : {A : Type 0} (token : Option Token) → passes closed token ≡ true → A

@@ -1,15 +1,15 @@
 -- Laws on single tokens and on tokens in a row.
-use Rattle.std.proofs.Common.{◌≡◌, ℕ, ◌+◌, ◌≤◌, ◌<◌, Bool, true, false, List, [], ◌∷◌, Option, None, Some, ◌⊎◌, inl, inr, refl, sym, ◌∙◌, ap, subst, arith, slice_get}
+use Rattle.std.proofs.Common.{◌≡◌, ℕ, ◌+◌, ◌≤◌, Bool, true, false, List, [], ◌∷◌, Some, ◌⊎◌, inl, refl, sym, ◌∙◌, ap, subst, arith, slice_get}
 use Rattle.text_lex.specs.declared.token.Token.{Token}
 use Rattle.text_lex.specs.Form.{Form, Tree, Marks, Keep, Bare, Leaf}
 use Rattle.text_lex.specs.Spelling as S
 use Rattle.text_lex.specs.Spelling.{At, passes, Spells}
 use Rattle.text_lex.specs.Beginning as B
 use Rattle.text_lex.specs.Beginning.{Begins}
-use Rattle.text_lex.specs.Outcome.{closed, Stops, IsFault, IsSpelt, Fails}
-use Rattle.text_lex.proofs.Places.{spells_begins, spells_order, spells_from, begins_from, at_token, at_from}
+use Rattle.text_lex.specs.Outcome.{closed, IsFault, IsSpelt}
+use Rattle.text_lex.proofs.Places.{at_token}
 use Rattle.text_lex.proofs.Heads.{at_not}
-use Rattle.text_lex.proofs.Sequences.{not_closed, spelt_order}
+use Rattle.text_lex.proofs.Sequences.{spelt_order}
 
 -- no tokens spell the empty row, and none begin it
 pub no_marks_spelt : {tokens : List Token} {grammar : ℕ → Form} {i : ℕ} → IsSpelt tokens grammar closed (Marks []) i Bare i

@@ -1,18 +1,16 @@
 -- Laws on lists, repeats and clauses in any order: one turn leads from the form to what is left of it.
-use Rattle.std.proofs.Common.{◌≡◌, ◌≢◌, ℕ, zero, suc, ◌+◌, ◌≤◌, ◌<◌, Bool, true, false, List, [], ◌∷◌, Option, None, Some, ◌⊎◌, inl, inr, refl, sym, ◌∙◌, ap, subst, arith, slice_get, length, map, drop, get_or, add-one}
+use Rattle.std.proofs.Common.{◌≡◌, ℕ, ◌+◌, ◌≤◌, ◌<◌, Bool, false, List, [], ◌∷◌, ◌⊎◌, inl, inr, refl, sym, ◌∙◌, ap, subst, arith, slice_get, length, map, drop, get_or, add-one}
 use Rattle.std.proofs.Math.Seq.{drop-cons}
 use Rattle.std.proofs.Math.ListN.{drop_of_length-le}
 use Rattle.text_lex.specs.declared.token.Token.{Token}
-use Rattle.text_lex.specs.declared.syntax_refusal.SyntaxRefusal.{SyntaxRefusal}
-use Rattle.text_lex.specs.declared.syntax_refusal.SyntaxRefusal.TheVariants.{Syntax}
-use Rattle.text_lex.specs.Form.{Form, Tree, Bare, Marks, Listed, Many, AnyOrder, Slots, Slot, NoSlots, After, form_at, is_open, filled, is_complete, slots_tree}
+use Rattle.text_lex.specs.Form.{Form, Tree, Bare, Marks, Listed, Many, After}
 use Rattle.text_lex.specs.Spelling as S
 use Rattle.text_lex.specs.Spelling.{At, passes, Spells}
 use Rattle.text_lex.specs.Beginning as B
 use Rattle.text_lex.specs.Beginning.{Begins}
 pub use Rattle.text_lex.specs.Turns.{Leads}
-use Rattle.text_lex.specs.Outcome.{closed, Stops, IsFault, IsSpelt, Fails}
-use Rattle.text_lex.proofs.Places.{spells_begins, spells_order, spells_from, begins_from, at_token, at_from}
+use Rattle.text_lex.specs.Outcome.{closed, Stops, IsFault, IsSpelt}
+use Rattle.text_lex.proofs.Places.{spells_begins, spells_from, begins_from, at_from}
 use Rattle.text_lex.proofs.Tokens.{no_marks_spelt}
 use Rattle.text_lex.proofs.Sequences.{Apart, not_closed, spelt_order}
 

@@ -1,14 +1,9 @@
 -- No two values have one tree: of optional parts and lists, given that it holds of their parts, and of
 -- the parts of this crate.
-use Rattle.std.proofs.Common.{◌≡◌, ℕ, ◌+◌, zero, suc, List, [], ◌∷◌, Option, None, Some, refl, sym, ◌∙◌, ap, arith, length}
+use Rattle.std.proofs.Common.{◌≡◌, ℕ, ◌+◌, suc, List, [], ◌∷◌, None, Some, refl, ◌∙◌, ap, arith, length}
 use Rattle.text_lex.specs.declared.token.Token.{Token}
-use Rattle.text_lex.specs.declared.label_reference.LabelReference.{LabelReference}
-use Rattle.text_lex.specs.declared.qualified_name.QualifiedName.{QualifiedName}
-use Rattle.text_lex.specs.declared.object_identifier.Arc.{Arc}
 use Rattle.text_lex.specs.declared.object_identifier.Arc.TheVariants.{Number, Named}
-use Rattle.text_lex.specs.declared.object_identifier.FirstArc.{FirstArc}
 use Rattle.text_lex.specs.declared.object_identifier.FirstArc.TheVariants.{OfArc, Name}
-use Rattle.text_lex.specs.declared.object_identifier.ObjectIdentifier.{ObjectIdentifier}
 use Rattle.text_lex.specs.Form.{Tree, Bare, Leaf, Pair, First, Second, Absent, Present, Empty, After, Numbered}
 use Rattle.text_lex.specs.Parts.{optional_tree, list_tree, document_name_tree, label_reference_tree, qualified_name_tree, arc_tree, first_arc_tree, object_identifier_tree}
 use Rattle.text_lex.specs.PartLaws.{OneValue, OneValueBy, OneTreeBy, ListsAgree, OptionsAgree, IdentifiersAgree}

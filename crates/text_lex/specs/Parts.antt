@@ -1,6 +1,6 @@
 -- Parts that several grammars have: a label with the name of a document before it, `Module.Type`, and an
 -- object identifier (X.722, section 8.2; X.680, sections 14 and 31), with the trees of their values.
-use Rattle.std.specs.Prelude.{ℕ, Bool, List, [], ◌∷◌, Option, None, Some, option_map, codes, ◌||◌}
+use Rattle.std.specs.Prelude.{ℕ, Bool, List, [], ◌∷◌, Option, option_map, codes, ◌||◌}
 use Rattle.text_lex.specs.declared.token.Token.{Token}
 use Rattle.text_lex.specs.declared.label_reference.LabelReference.{LabelReference}
 use Rattle.text_lex.specs.declared.qualified_name.QualifiedName.{QualifiedName}
@@ -9,8 +9,8 @@ use Rattle.text_lex.specs.declared.object_identifier.Arc.TheVariants.{Number, Na
 use Rattle.text_lex.specs.declared.object_identifier.FirstArc.{FirstArc}
 use Rattle.text_lex.specs.declared.object_identifier.FirstArc.TheVariants.{OfArc, Name}
 use Rattle.text_lex.specs.declared.object_identifier.ObjectIdentifier.{ObjectIdentifier}
-use Rattle.text_lex.specs.Form.{Form, Tree, Marks, Keep, Then, Or, Maybe, Many, Bare, Leaf, Pair, First, Second, Absent, Present, Empty, After, option_tree}
-use Rattle.text_lex.specs.TokenTests.{is_word_of, is_sign_of, is_label, is_name, is_word, is_number, is_string}
+use Rattle.text_lex.specs.Form.{Form, Tree, Marks, Keep, Then, Or, Maybe, Many, Bare, Leaf, Pair, First, Second, Empty, After, option_tree}
+use Rattle.text_lex.specs.TokenTests.{is_word_of, is_sign_of, is_label, is_name, is_number, is_string}
 
 -- keywords in a row
 abbrev pub words : List (List ℕ) → List (Token → Bool)

@@ -1,6 +1,6 @@
 -- Tests of one token: which words, signs, labels and names there are (X.722, section 8.2; X.680,
 -- section 12; docs/PROFILE.md, the section on words).
-use Rattle.std.specs.Prelude.{ℕ, Bool, true, false, List, [], ◌∷◌, ◌&&◌, ◌||◌, not, ◌==◌, nat_le, codes}
+use Rattle.std.specs.Prelude.{ℕ, Bool, List, [], ◌∷◌, ◌&&◌, ◌||◌, not, ◌==◌, nat_le, codes}
 use Rattle.std.specs.List.{list_any}
 use Rattle.std.specs.Cmp.Lexicographic.{pointwise}
 use Rattle.text_lex.specs.declared.token.Token.{Token}

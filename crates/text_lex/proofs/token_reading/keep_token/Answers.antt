@@ -1,5 +1,5 @@
 -- The token is there and is wanted, or one of the two fails.
-use Rattle.std.proofs.Common.{◌≡◌, ◌∙◌, ap, sym}
+use Rattle.std.proofs.Common.{◌∙◌, ap, sym}
 use Rattle.text_lex.specs.Spelling.{passes}
 use Rattle.text_lex.proofs.Sequences.{fails_at}
 use Rattle.text_lex.proofs.Tokens.{kept, keep_fault}
