@@ -143,3 +143,44 @@ fn a_document_that_breaks_a_condition_is_refused(rt: HostRuntime) -> Result<(), 
     assert_eq!(rt; seen, 15);
     Ok(())
 }
+
+/// A document of a root with 1,365 attributes, of which the last one is given this value and each other one 1. The identifiers
+/// 2.999.7.128 to 2.999.7.1492 have five octets, so each Attribute has 12 octets where its value has one, and the SET OF
+/// Attribute has 4 octets before them: 16,384 in all.
+fn large(rt: &HostRuntime, last: &str) -> Result<String, Fail> {
+    let alloc = rt.alloc();
+    let mut text = String::from_str(alloc, "Net DEFINITIONS ::= BEGIN Id ::= INTEGER END\n")?;
+    let mut uses = String::from_str(alloc, "first GET")?;
+    let mut values = String::from_str(alloc, "AT {first = 1} WITH ")?;
+    text.push_str("first ATTRIBUTE WITH ATTRIBUTE SYNTAX Net.Id; REGISTERED AS {2 999 7 128};\n")?;
+    for arc in 129u32..1493 {
+        let label = format!(in alloc; "a{arc}")?;
+        let template = format!(in alloc;
+            "{label} ATTRIBUTE WITH ATTRIBUTE SYNTAX Net.Id; REGISTERED AS {{2 999 7 {arc}}};\n"
+        )?;
+        text.push_str(template.as_str())?;
+        uses.push_str(", ")?;
+        uses.push_str(label.as_str())?;
+        uses.push_str(" GET")?;
+        values.push_str(label.as_str())?;
+        values.push_str(if arc < 1492 { " = 1, " } else { " = " })?;
+    }
+    text.push_str("element MANAGED OBJECT CLASS CHARACTERIZED BY all PACKAGE ATTRIBUTES ")?;
+    text.push_str(uses.as_str())?;
+    text.push_str(";;; REGISTERED AS {2 999 3 1};\nINSTANCES ROOT element ")?;
+    text.push_str(values.as_str())?;
+    text.push_str(last)?;
+    text.push_str("; END\n")?;
+    Ok(text)
+}
+
+#[test]
+fn a_root_one_octet_past_the_limit_is_refused(rt: HostRuntime) -> Result<(), Fail> {
+    let greatest = large(&rt, "127")?;
+    let schema = records(&rt, greatest.as_str())?;
+    assert_eq!(rt; schema.attributes.items.len(), 1365);
+    let past = large(&rt, "128")?;
+    let refusal = read(&rt, past.as_str())?.err();
+    assert_eq!(rt; refusal, Some(DocumentRefusal::Outside));
+    Ok(())
+}
