@@ -1,15 +1,14 @@
 -- No two values have one tree: attribute and parameter templates, each in the other.
-use Rattle.std.proofs.Common.{◌≡◌, ℕ, ◌+◌, suc, Option, ◌∙◌, ap, arith}
+use Rattle.std.proofs.Common.{◌≡◌, ℕ, ◌+◌, suc, ◌∙◌, ap, arith}
 use Rattle.text_lex.specs.Form.{Tree, Empty, After}
 use Rattle.text_lex.specs.PartLaws.{OneValue, OneValueBy, OptionsAgree}
 use Rattle.text_lex.specs.Parts.{qualified_name_tree}
 use Rattle.text_lex.proofs.Values.{parts_of, pair_same, first_same, second_same, present_same, after_same, first_not_second, second_not_first, absent_not_present, present_not_absent, options_agree, one_label_reference, one_qualified_name}
-use Rattle.gdmo_members.specs.declared.attribute.AttributeTemplate.{AttributeTemplate, Row_of-ParameterReference, end_of-ParameterReference, more_of-ParameterReference, Held-AttributeTemplate-parameters, None', Some'}
+use Rattle.gdmo_members.specs.declared.attribute.AttributeTemplate.{Row_of-ParameterReference, end_of-ParameterReference, more_of-ParameterReference, Held-AttributeTemplate-parameters, None', Some'}
 use Rattle.gdmo_members.specs.declared.attribute.AttributeSyntax.{AttributeSyntax}
 use Rattle.gdmo_members.specs.declared.attribute.AttributeSyntax.TheVariants.{TypeReference as AType, Derived}
 use Rattle.gdmo_members.specs.declared.attribute.AttributeReference.{AttributeReference}
 use Rattle.gdmo_members.specs.declared.attribute.AttributeReference.TheVariants.{Label as ALabel, Template' as ATemplate}
-use Rattle.gdmo_members.specs.declared.parameter.ParameterTemplate.{ParameterTemplate}
 use Rattle.gdmo_members.specs.declared.parameter.ParameterSyntax.{ParameterSyntax}
 use Rattle.gdmo_members.specs.declared.parameter.ParameterSyntax.TheVariants.{TypeReference as PType, Attribute as OfAttribute}
 use Rattle.gdmo_members.specs.declared.parameter.ParameterReference.{ParameterReference}
@@ -50,9 +49,9 @@ mutual
   references_agree (ALabel x) (ATemplate _ _ _ _ _ _ _ _) e = absurd (first_not_second e)
   references_agree (ATemplate _ _ _ _ _ _ _ _) (ALabel y) e = absurd (second_not_first e)
   references_agree (ATemplate _ document label syntax rules behaviour parameters registration) (ATemplate _ document' label' syntax' rules' behaviour' parameters' registration') e =
-    let parts = template_same (second_same e) in
-    let clauses = four_same parts.2 in
-    (parts.0, parts.1, syntaxes_agree syntax syntax' (present_same clauses.0), rules_agree rules rules' clauses.1, behaviours_agree behaviour behaviour' clauses.2, held_agree parameters parameters' clauses.3, endings_agree registration registration' parts.3)
+      let parts = template_same (second_same e) in
+      let clauses = four_same parts.2 in
+      (parts.0, parts.1, syntaxes_agree syntax syntax' (present_same clauses.0), rules_agree rules rules' clauses.1, behaviours_agree behaviour behaviour' clauses.2, held_agree parameters parameters' clauses.3, endings_agree registration registration' parts.3)
 
   pub parameter_syntaxes_agree : (x y : ParameterSyntax) → parameter_syntax_tree x ≡ parameter_syntax_tree y → ParameterSyntaxesAgree x y
   parameter_syntaxes_agree (PType x) (PType y) e = one_clause_name x y (first_same e)
@@ -65,29 +64,29 @@ mutual
   parameter_references_agree (PLabel x) (PTemplate _ _ _ _ _ _ _) e = absurd (first_not_second e)
   parameter_references_agree (PTemplate _ _ _ _ _ _ _) (PLabel y) e = absurd (second_not_first e)
   parameter_references_agree (PTemplate _ document label context syntax behaviour registration) (PTemplate _ document' label' context' syntax' behaviour' registration') e =
-    let parts = template_same (second_same e) in
-    let clauses = three_same parts.2 in
-    (parts.0, parts.1, one_context context context' (present_same clauses.0), parameter_syntaxes_agree syntax syntax' (present_same clauses.1), behaviours_agree behaviour behaviour' clauses.2, endings_agree registration registration' parts.3)
+      let parts = template_same (second_same e) in
+      let clauses = three_same parts.2 in
+      (parts.0, parts.1, one_context context context' (present_same clauses.0), parameter_syntaxes_agree syntax syntax' (present_same clauses.1), behaviours_agree behaviour behaviour' clauses.2, endings_agree registration registration' parts.3)
 
   rows_behind : {n m : _} (x : Row_of-ParameterReference n) (y : Row_of-ParameterReference m) (before other : Tree) → row_size x ≡ row_size y → row_tree before x ≡ row_tree other y → (before ≡ other) × RowsAgree x y
   rows_behind end_of-ParameterReference end_of-ParameterReference before other same e = (e, tt)
   rows_behind end_of-ParameterReference (more_of-ParameterReference y ys) before other same e = absurd (omega arith)
   rows_behind (more_of-ParameterReference x xs) end_of-ParameterReference before other same e = absurd (omega arith)
   rows_behind (more_of-ParameterReference x xs) (more_of-ParameterReference y ys) before other same e =
-    let behind = rows_behind xs ys (After before (parameter_reference_tree x)) (After other (parameter_reference_tree y)) (omega arith) e in
-    let last = after_same behind.0 in
-    (last.0, (parameter_references_agree x y last.1, behind.1))
+      let behind = rows_behind xs ys (After before (parameter_reference_tree x)) (After other (parameter_reference_tree y)) (omega arith) e in
+      let last = after_same behind.0 in
+      (last.0, (parameter_references_agree x y last.1, behind.1))
 
   pub held_agree : (x y : Held-AttributeTemplate-parameters) → held_tree x ≡ held_tree y → HeldAgree x y
   held_agree None' None' e = tt
   held_agree None' (Some' _ _) e = absurd (absent_not_present e)
   held_agree (Some' _ _) None' e = absurd (present_not_absent e)
   held_agree (Some' _ row) (Some' _ row') e =
-    let same = (pair_same (pair_same (present_same e)).1).0 in
-    let left = parts_of_row Empty row in
-    let right = parts_of_row Empty row' in
-    let parts = ap parts_of same in
-    (rows_behind row row' Empty Empty (omega arith) same).1
+      let same = (pair_same (pair_same (present_same e)).1).0 in
+      let left = parts_of_row Empty row in
+      let right = parts_of_row Empty row' in
+      let parts = ap parts_of same in
+      (rows_behind row row' Empty Empty (omega arith) same).1
 
 pub parameters_agree : OneValueBy (OptionsAgree (VectorsAgree ParameterReferencesAgree)) parameters_tree
 parameters_agree = options_agree (VectorsAgree ParameterReferencesAgree) (clause_tree (vector_tree parameter_reference_tree)) (clauses_agree (VectorsAgree ParameterReferencesAgree) (vector_tree parameter_reference_tree) (vectors_agree ParameterReferencesAgree parameter_reference_tree parameter_references_agree))

@@ -1,17 +1,14 @@
 -- Values that agree have one tree: the parts of templates, and attribute and parameter templates.
-use Rattle.std.proofs.Common.{◌≡◌, Option, refl, ap}
-use Rattle.std.specs.declared.alloc.Global.{Global}
-use Rattle.std.specs.declared.vec.Vec.{Vec}
+use Rattle.std.proofs.Common.{◌≡◌, refl, ap}
 use Rattle.text_lex.specs.Form.{Tree, Bare, Leaf, Pair, First, Second, Present, Empty, After}
 use Rattle.text_lex.specs.Parts.{optional_tree, list_tree, label_reference_tree, qualified_name_tree}
 use Rattle.text_lex.specs.PartLaws.{OneTreeBy, OptionsAgree, IdentifiersAgree}
 use Rattle.text_lex.proofs.Values.{lists_alike, options_alike, identifiers_alike}
-use Rattle.gdmo_members.specs.declared.attribute.AttributeTemplate.{AttributeTemplate, Row_of-ParameterReference, end_of-ParameterReference, more_of-ParameterReference, Held-AttributeTemplate-parameters, None', Some'}
+use Rattle.gdmo_members.specs.declared.attribute.AttributeTemplate.{Row_of-ParameterReference, end_of-ParameterReference, more_of-ParameterReference, Held-AttributeTemplate-parameters, None', Some'}
 use Rattle.gdmo_members.specs.declared.attribute.AttributeSyntax.{AttributeSyntax}
 use Rattle.gdmo_members.specs.declared.attribute.AttributeSyntax.TheVariants.{TypeReference as AType, Derived}
 use Rattle.gdmo_members.specs.declared.attribute.AttributeReference.{AttributeReference}
 use Rattle.gdmo_members.specs.declared.attribute.AttributeReference.TheVariants.{Label as ALabel, Template' as ATemplate}
-use Rattle.gdmo_members.specs.declared.parameter.ParameterTemplate.{ParameterTemplate}
 use Rattle.gdmo_members.specs.declared.parameter.ParameterSyntax.{ParameterSyntax}
 use Rattle.gdmo_members.specs.declared.parameter.ParameterSyntax.TheVariants.{TypeReference as PType, Attribute as OfAttribute}
 use Rattle.gdmo_members.specs.declared.parameter.ParameterReference.{ParameterReference}
@@ -66,14 +63,14 @@ mutual
   references_alike (ALabel x) (ATemplate _ _ _ _ _ _ _ _) a = absurd a
   references_alike (ATemplate _ _ _ _ _ _ _ _) (ALabel y) a = absurd a
   references_alike (ATemplate _ document label syntax rules behaviour parameters registration) (ATemplate _ document' label' syntax' rules' behaviour' parameters' registration') a =
-    let numbers = a.0 in
-    let labels = a.1 in
-    let syntaxes = syntaxes_alike syntax syntax' a.2 in
-    let matching = rules_alike rules rules' a.3 in
-    let behaviours = behaviours_alike behaviour behaviour' a.4 in
-    let held = held_alike parameters parameters' a.5 in
-    let endings = endings_alike registration registration' a.6 in
-    λ i. Second (template_tree (numbers i) (labels i) (Pair (Present (syntaxes i)) (Pair (matching i) (Pair (behaviours i) (Pair (held i) Bare)))) (endings i))
+      let numbers = a.0 in
+      let labels = a.1 in
+      let syntaxes = syntaxes_alike syntax syntax' a.2 in
+      let matching = rules_alike rules rules' a.3 in
+      let behaviours = behaviours_alike behaviour behaviour' a.4 in
+      let held = held_alike parameters parameters' a.5 in
+      let endings = endings_alike registration registration' a.6 in
+      λ i. Second (template_tree (numbers i) (labels i) (Pair (Present (syntaxes i)) (Pair (matching i) (Pair (behaviours i) (Pair (held i) Bare)))) (endings i))
 
   pub parameter_syntaxes_alike : (x y : ParameterSyntax) → ParameterSyntaxesAgree x y → parameter_syntax_tree x ≡ parameter_syntax_tree y
   parameter_syntaxes_alike (PType x) (PType y) a = λ i. First (clause_tree qualified_name_tree (a i))
@@ -86,21 +83,21 @@ mutual
   parameter_references_alike (PLabel x) (PTemplate _ _ _ _ _ _ _) a = absurd a
   parameter_references_alike (PTemplate _ _ _ _ _ _ _) (PLabel y) a = absurd a
   parameter_references_alike (PTemplate _ document label context syntax behaviour registration) (PTemplate _ document' label' context' syntax' behaviour' registration') a =
-    let numbers = a.0 in
-    let labels = a.1 in
-    let contexts = contexts_alike context context' a.2 in
-    let syntaxes = parameter_syntaxes_alike syntax syntax' a.3 in
-    let behaviours = behaviours_alike behaviour behaviour' a.4 in
-    let endings = endings_alike registration registration' a.5 in
-    λ i. Second (template_tree (numbers i) (labels i) (Pair (Present (Pair Bare (Pair (contexts i) Bare))) (Pair (Present (syntaxes i)) (Pair (behaviours i) Bare))) (endings i))
+      let numbers = a.0 in
+      let labels = a.1 in
+      let contexts = contexts_alike context context' a.2 in
+      let syntaxes = parameter_syntaxes_alike syntax syntax' a.3 in
+      let behaviours = behaviours_alike behaviour behaviour' a.4 in
+      let endings = endings_alike registration registration' a.5 in
+      λ i. Second (template_tree (numbers i) (labels i) (Pair (Present (Pair Bare (Pair (contexts i) Bare))) (Pair (Present (syntaxes i)) (Pair (behaviours i) Bare))) (endings i))
 
   rows_alike : {n m : _} (x : Row_of-ParameterReference n) (y : Row_of-ParameterReference m) (before other : Tree) → before ≡ other → RowsAgree x y → row_tree before x ≡ row_tree other y
   rows_alike end_of-ParameterReference end_of-ParameterReference before other e a = e
   rows_alike end_of-ParameterReference (more_of-ParameterReference y ys) before other e a = absurd a
   rows_alike (more_of-ParameterReference x xs) end_of-ParameterReference before other e a = absurd a
   rows_alike (more_of-ParameterReference x xs) (more_of-ParameterReference y ys) before other e a =
-    let last = parameter_references_alike x y a.0 in
-    rows_alike xs ys (After before (parameter_reference_tree x)) (After other (parameter_reference_tree y)) (λ i. After (e i) (last i)) a.1
+      let last = parameter_references_alike x y a.0 in
+      rows_alike xs ys (After before (parameter_reference_tree x)) (After other (parameter_reference_tree y)) (λ i. After (e i) (last i)) a.1
 
   pub held_alike : (x y : Held-AttributeTemplate-parameters) → HeldAgree x y → held_tree x ≡ held_tree y
   held_alike None' None' a = refl

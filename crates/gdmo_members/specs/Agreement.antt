@@ -47,13 +47,13 @@ abbrev mutual
   AttributeReferencesAgree (ALabel x) (ATemplate _ _ _ _ _ _ _ _) = ⊥
   AttributeReferencesAgree (ATemplate _ _ _ _ _ _ _ _) (ALabel y) = ⊥
   AttributeReferencesAgree (ATemplate _ document label syntax rules behaviour parameters registration) (ATemplate _ document' label' syntax' rules' behaviour' parameters' registration') =
-    (document ≡ document')
-    × (label ≡ label')
-    × AttributeSyntaxesAgree syntax syntax'
-    × OptionsAgree VectorsEqual rules rules'
-    × OptionsAgree VectorsEqual behaviour behaviour'
-    × HeldAgree parameters parameters'
-    × OptionsAgree IdentifiersAgree registration registration'
+      (document ≡ document')
+      × (label ≡ label')
+      × AttributeSyntaxesAgree syntax syntax'
+      × OptionsAgree VectorsEqual rules rules'
+      × OptionsAgree VectorsEqual behaviour behaviour'
+      × HeldAgree parameters parameters'
+      × OptionsAgree IdentifiersAgree registration registration'
 
   pub ParameterSyntaxesAgree : ParameterSyntax → ParameterSyntax → Type 0
   ParameterSyntaxesAgree (PType x) (PType y) = x ≡ y
@@ -66,12 +66,12 @@ abbrev mutual
   ParameterReferencesAgree (PLabel x) (PTemplate _ _ _ _ _ _ _) = ⊥
   ParameterReferencesAgree (PTemplate _ _ _ _ _ _ _) (PLabel y) = ⊥
   ParameterReferencesAgree (PTemplate _ document label context syntax behaviour registration) (PTemplate _ document' label' context' syntax' behaviour' registration') =
-    (document ≡ document')
-    × (label ≡ label')
-    × ContextsAgree context context'
-    × ParameterSyntaxesAgree syntax syntax'
-    × OptionsAgree VectorsEqual behaviour behaviour'
-    × OptionsAgree IdentifiersAgree registration registration'
+      (document ≡ document')
+      × (label ≡ label')
+      × ContextsAgree context context'
+      × ParameterSyntaxesAgree syntax syntax'
+      × OptionsAgree VectorsEqual behaviour behaviour'
+      × OptionsAgree IdentifiersAgree registration registration'
 
   pub RowsAgree : {n m : _} → Row_of-ParameterReference n → Row_of-ParameterReference m → Type 0
   RowsAgree end_of-ParameterReference end_of-ParameterReference = Unit {0}
