@@ -1,7 +1,7 @@
 -- Laws on the six templates, which begin alike: the words behind the label part them.
-use Rattle.std.proofs.Common.{◌≡◌, ℕ, ◌+◌, ◌≤◌, Bool, true, false, ◌&&◌, ◌||◌, List, [], ◌∷◌, Some, refl, sym, ap, arith, slice_get, codes}
+use Rattle.std.proofs.Common.{◌≡◌, ℕ, ◌+◌, ◌≤◌, Bool, true, false, ◌&&◌, ◌||◌, List, Some, refl, arith, slice_get, codes}
 use Rattle.text_lex.specs.declared.token.Token.{Token}
-use Rattle.text_lex.specs.Form.{Form, Keep, Then, Marks, AnyOrder, Named}
+use Rattle.text_lex.specs.Form.{Then, AnyOrder, Named}
 use Rattle.text_lex.specs.Spelling.{At, passes}
 use Rattle.text_lex.specs.Beginning as B
 use Rattle.text_lex.specs.Beginning.{Begins}

@@ -1,5 +1,5 @@
 -- Each template begins with a label.
-use Rattle.std.proofs.Common.{◌≡◌, ℕ, zero, suc, Bool, true, false, refl}
+use Rattle.std.proofs.Common.{◌≡◌, ℕ, zero, suc, true, false}
 use Rattle.text_lex.specs.declared.token.Token.{Token}
 use Rattle.text_lex.specs.TokenTests.{is_label}
 use Rattle.text_lex.proofs.Heads.{Firsts, Heads, skips, starts}

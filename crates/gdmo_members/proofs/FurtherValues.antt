@@ -4,7 +4,6 @@ use Rattle.text_lex.specs.Form.{Tree, Leaf}
 use Rattle.text_lex.specs.Parts.{optional_tree, qualified_name_tree}
 use Rattle.text_lex.specs.PartLaws.{OneValue, OneValueBy, OptionsAgree}
 use Rattle.text_lex.proofs.Values.{pair_same, leaf_same, first_same, second_same, first_not_second, second_not_first, options_agree, one_option, one_token, one_qualified_name}
-use Rattle.gdmo_members.specs.declared.member.MemberTemplate.{MemberTemplate}
 use Rattle.gdmo_members.specs.declared.member.MemberTemplate.TheVariants.{Attribute, Group, Action, Notification, Parameter, Behaviour}
 use Rattle.gdmo_members.specs.Trees.{clause_tree, vector_tree}
 use Rattle.gdmo_members.specs.MemberTrees.{attribute_reference_tree}

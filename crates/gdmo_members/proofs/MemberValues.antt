@@ -1,15 +1,14 @@
 -- No two values have one tree: attribute and parameter templates, each in the other.
-use Rattle.std.proofs.Common.{◌≡◌, ℕ, ◌+◌, suc, Option, ◌∙◌, ap, arith}
+use Rattle.std.proofs.Common.{◌≡◌, ℕ, ◌+◌, suc, ◌∙◌, ap, arith}
 use Rattle.text_lex.specs.Form.{Tree, Empty, After}
 use Rattle.text_lex.specs.PartLaws.{OneValue, OneValueBy, OptionsAgree}
 use Rattle.text_lex.specs.Parts.{qualified_name_tree}
 use Rattle.text_lex.proofs.Values.{parts_of, pair_same, first_same, second_same, present_same, after_same, first_not_second, second_not_first, absent_not_present, present_not_absent, options_agree, one_label_reference, one_qualified_name}
-use Rattle.gdmo_members.specs.declared.attribute.AttributeTemplate.{AttributeTemplate, Row_of-ParameterReference, end_of-ParameterReference, more_of-ParameterReference, Held-AttributeTemplate-parameters, None', Some'}
+use Rattle.gdmo_members.specs.declared.attribute.AttributeTemplate.{Row_of-ParameterReference, end_of-ParameterReference, more_of-ParameterReference, Held-AttributeTemplate-parameters, None', Some'}
 use Rattle.gdmo_members.specs.declared.attribute.AttributeSyntax.{AttributeSyntax}
 use Rattle.gdmo_members.specs.declared.attribute.AttributeSyntax.TheVariants.{TypeReference as AType, Derived}
 use Rattle.gdmo_members.specs.declared.attribute.AttributeReference.{AttributeReference}
 use Rattle.gdmo_members.specs.declared.attribute.AttributeReference.TheVariants.{Label as ALabel, Template' as ATemplate}
-use Rattle.gdmo_members.specs.declared.parameter.ParameterTemplate.{ParameterTemplate}
 use Rattle.gdmo_members.specs.declared.parameter.ParameterSyntax.{ParameterSyntax}
 use Rattle.gdmo_members.specs.declared.parameter.ParameterSyntax.TheVariants.{TypeReference as PType, Attribute as OfAttribute}
 use Rattle.gdmo_members.specs.declared.parameter.ParameterReference.{ParameterReference}

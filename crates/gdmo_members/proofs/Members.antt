@@ -1,14 +1,13 @@
 -- Laws on attribute and parameter templates: a template in a box, and clauses that are all read.
-use Rattle.std.proofs.Common.{◌≡◌, ℕ, Bool, true, false, ◌&&◌, is_some, List, [], ◌∷◌, Option, None, Some, option_map, refl, sym, ◌∙◌, ap, subst}
+use Rattle.std.proofs.Common.{◌≡◌, ℕ, Bool, true, false, ◌&&◌, is_some, List, Option, None, Some, option_map, refl, ◌∙◌, ap}
 use Rattle.std.specs.declared.alloc.Global.{Global}
 use Rattle.std.specs.declared.boxed.Box.{Box}
 use Rattle.std.specs.declared.vec.Vec.{Vec}
 use Rattle.text_lex.specs.declared.token.Token.{Token}
-use Rattle.text_lex.specs.Form.{Tree, Bare, Leaf, Pair, Present, Second, Empty, After, AnyOrder, Slots, option_tree}
+use Rattle.text_lex.specs.Form.{Tree, Bare, Pair, Present, Second, Empty, After, AnyOrder, Slots, option_tree}
 use Rattle.text_lex.specs.declared.syntax_refusal.SyntaxRefusal.TheVariants.{Syntax}
 use Rattle.gdmo_members.specs.declared.context.Context.{Context}
 use Rattle.gdmo_members.specs.declared.parameter.ParameterDraft.{ParameterDraft}
-use Rattle.gdmo_members.specs.declared.parameter.ParameterClauses.{ParameterClauses}
 use Rattle.gdmo_members.specs.declared.parameter.ParameterSyntax.{ParameterSyntax}
 use Rattle.text_lex.specs.Turns.{Leads, IsOver}
 use Rattle.text_lex.specs.Outcome.{IsSpelt, Fails}
@@ -19,11 +18,10 @@ use Rattle.gdmo_members.specs.declared.attribute.AttributeReference.TheBlock.{hi
 use Rattle.gdmo_members.specs.declared.attribute.AttributeSyntax.{AttributeSyntax}
 use Rattle.gdmo_members.specs.declared.attribute.AttributeReference.TheVariants.{Template as ATemplate}
 use Rattle.gdmo_members.specs.declared.attribute.AttributeDraft.{AttributeDraft}
-use Rattle.gdmo_members.specs.declared.attribute.AttributeClauses.{AttributeClauses}
 use Rattle.gdmo_members.specs.declared.parameter.ParameterReference.{ParameterReference}
 use Rattle.gdmo_members.specs.declared.parameter.ParameterReference.TheVariants.{Template as PTemplate}
 use Rattle.gdmo_members.specs.declared.parameter.ParameterTemplate.{ParameterTemplate}
-use Rattle.gdmo_members.specs.Trees.{clause_tree, vector_tree, behaviour_list_tree, context_tree, ending_tree}
+use Rattle.gdmo_members.specs.Trees.{clause_tree, context_tree, ending_tree}
 use Rattle.gdmo_members.specs.Templates.{templates, attribute_clauses, parameter_clauses}
 use Rattle.gdmo_members.specs.MemberTrees.{attribute_reference_tree, attribute_syntax_tree, attribute_tree, attribute_parts, attribute_slots, attribute_clauses_tree, is_attribute_clause, parameter_reference_tree, parameter_syntax_tree, parameter_tree, parameter_slots, parameter_clauses_tree, parameters_tree, is_parameter_clause, rules_tree, behaviours_tree, template_tree, row_tree, held_tree}
 

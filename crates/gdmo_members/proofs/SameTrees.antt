@@ -1,17 +1,14 @@
 -- Values that agree have one tree: the parts of templates, and attribute and parameter templates.
-use Rattle.std.proofs.Common.{◌≡◌, Option, refl, ap}
-use Rattle.std.specs.declared.alloc.Global.{Global}
-use Rattle.std.specs.declared.vec.Vec.{Vec}
+use Rattle.std.proofs.Common.{◌≡◌, refl, ap}
 use Rattle.text_lex.specs.Form.{Tree, Bare, Leaf, Pair, First, Second, Present, Empty, After}
 use Rattle.text_lex.specs.Parts.{optional_tree, list_tree, label_reference_tree, qualified_name_tree}
 use Rattle.text_lex.specs.PartLaws.{OneTreeBy, OptionsAgree, IdentifiersAgree}
 use Rattle.text_lex.proofs.Values.{lists_alike, options_alike, identifiers_alike}
-use Rattle.gdmo_members.specs.declared.attribute.AttributeTemplate.{AttributeTemplate, Row_of-ParameterReference, end_of-ParameterReference, more_of-ParameterReference, Held-AttributeTemplate-parameters, None', Some'}
+use Rattle.gdmo_members.specs.declared.attribute.AttributeTemplate.{Row_of-ParameterReference, end_of-ParameterReference, more_of-ParameterReference, Held-AttributeTemplate-parameters, None', Some'}
 use Rattle.gdmo_members.specs.declared.attribute.AttributeSyntax.{AttributeSyntax}
 use Rattle.gdmo_members.specs.declared.attribute.AttributeSyntax.TheVariants.{TypeReference as AType, Derived}
 use Rattle.gdmo_members.specs.declared.attribute.AttributeReference.{AttributeReference}
 use Rattle.gdmo_members.specs.declared.attribute.AttributeReference.TheVariants.{Label as ALabel, Template' as ATemplate}
-use Rattle.gdmo_members.specs.declared.parameter.ParameterTemplate.{ParameterTemplate}
 use Rattle.gdmo_members.specs.declared.parameter.ParameterSyntax.{ParameterSyntax}
 use Rattle.gdmo_members.specs.declared.parameter.ParameterSyntax.TheVariants.{TypeReference as PType, Attribute as OfAttribute}
 use Rattle.gdmo_members.specs.declared.parameter.ParameterReference.{ParameterReference}

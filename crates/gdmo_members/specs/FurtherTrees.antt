@@ -1,6 +1,6 @@
 -- FurtherTrees: what group, action and notification templates say, and which of their clauses came (X.722,
 -- sections 8.8, 8.10 and 8.11).
-use Rattle.std.specs.Prelude.{ℕ, Bool, true, false, List, [], ◌∷◌, Option, option_map, codes, ◌||◌}
+use Rattle.std.specs.Prelude.{Bool, false, [], ◌∷◌, option_map, codes}
 use Rattle.std.specs.declared.alloc.Global.{Global}
 use Rattle.std.specs.declared.vec.Vec.{Vec}
 use Rattle.text_lex.specs.declared.token.Token.{Token}

@@ -1,10 +1,9 @@
 -- Trees: what the values of the templates' parts say, one field after the other.
-use Rattle.std.specs.Prelude.{ℕ, List, [], ◌∷◌, Option, None, Some}
+use Rattle.std.specs.Prelude.{Option}
 use Rattle.std.specs.declared.alloc.Global.{Global}
 use Rattle.std.specs.declared.vec.Vec.{Vec}
-use Rattle.text_lex.specs.declared.token.Token.{Token}
 use Rattle.text_lex.specs.declared.object_identifier.ObjectIdentifier.{ObjectIdentifier}
-use Rattle.text_lex.specs.Form.{Tree, Bare, Leaf, Pair, First, Second, Absent, Present, Empty, After, Numbered}
+use Rattle.text_lex.specs.Form.{Tree, Bare, Leaf, Pair, First, Second, Empty, Numbered}
 use Rattle.text_lex.specs.Parts.{optional_tree, list_tree, label_reference_tree, object_identifier_tree}
 use Rattle.gdmo_members.specs.declared.behaviour.BehaviourTemplate.{BehaviourTemplate}
 use Rattle.gdmo_members.specs.declared.behaviour.BehaviourReference.{BehaviourReference}

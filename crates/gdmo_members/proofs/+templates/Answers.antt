@@ -1,6 +1,6 @@
 -- Attribute and parameter templates, each in the other: one part after the other, one clause after the
 -- other, and one parameter after the other.
-use Rattle.std.proofs.Common.{◌∙◌, ◌||◌, sym, refl, true, false, arith, codes, [], ◌-◌, ◌∷◌}
+use Rattle.std.proofs.Common.{◌∙◌, ◌||◌, sym, refl, true, false, arith, codes, [], ◌∷◌}
 use Rattle.text_lex.proofs.Sequences.{apart_closed, spelt_then, spelt_first, spelt_second, fault_first, fault_second, spelt_named, fails_by, fails_front, fails_rest, fails_named, spelt_order}
 use Rattle.text_lex.proofs.Heads.{skips, starts, stops_unless, advances}
 use Rattle.text_lex.proofs.Known.{at_word, at_one_of}

@@ -1,7 +1,7 @@
 -- Each clause comes with its first word, and comes once; the two that begin alike part at their second word.
-use Rattle.std.proofs.Common.{◌∙◌, ◌||◌, sym, ap, refl, true, false, arith, codes, [], ◌+◌, ◌-◌, ◌∷◌, ◌&&◌, Bool}
+use Rattle.std.proofs.Common.{◌∙◌, ◌||◌, sym, ap, refl, true, false, arith, codes, [], ◌+◌, ◌∷◌, ◌&&◌, Bool}
 use Rattle.text_lex.proofs.Sequences.{passes_false}
-use Rattle.text_lex.proofs.Heads.{skips, starts, stops_unless, past}
+use Rattle.text_lex.proofs.Heads.{skips, starts, stops_unless}
 use Rattle.text_lex.proofs.Known.{at_word}
 use Rattle.text_lex.proofs.Clauses.{no_slots_stop, slot_stops, others_here, others_past, opens_but, stops_by, fails_clause, clause_taken, fails_clause, came_not, comes_here, comes_not, exit_clause, second_word_stops, first_word_begins, clause_taken_with, fails_clause_with, both_first, both_second, both_not, pair_not, pair_comes, open_and}
 use Rattle.text_lex.specs.Form.{Leaf}

@@ -1,5 +1,4 @@
 -- The keyword, the word and the semicolon.
-use Rattle.std.proofs.Common.{◌-◌}
 use Rattle.text_lex.proofs.Sequences.{apart_closed, spelt_then, fails_front, fails_rest}
 use Rattle.text_lex.proofs.Exits.{exit_reads}
 use Rattle.gdmo_members.specs.Templates.{templates}

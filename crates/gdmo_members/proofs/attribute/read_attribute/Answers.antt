@@ -1,5 +1,5 @@
 -- The template in the box.
-use Rattle.std.proofs.Common.{ap, ◌-◌}
+use Rattle.std.proofs.Common.{ap}
 use Rattle.text_lex.proofs.Exits.{exit_reads}
 use Rattle.text_lex.proofs.Parts.{spelt_as}
 use Rattle.gdmo_members.specs.MemberTrees.{attribute_tree}

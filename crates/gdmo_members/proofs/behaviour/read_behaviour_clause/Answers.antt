@@ -1,5 +1,5 @@
 -- The keyword, the list and the semicolon.
-use Rattle.std.proofs.Common.{codes, ◌-◌}
+use Rattle.std.proofs.Common.{codes}
 use Rattle.text_lex.proofs.Sequences.{apart_closed, spelt_then, fails_front, fails_rest}
 use Rattle.text_lex.proofs.Exits.{exit_reads}
 use Rattle.gdmo_members.proofs.Apart.{semicolon_apart}

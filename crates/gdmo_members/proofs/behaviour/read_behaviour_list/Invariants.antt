@@ -3,7 +3,7 @@ use Rattle.text_lex.specs.Form.{Listed, Empty}
 use Rattle.text_lex.specs.Parts.{either, list_tree}
 use Rattle.text_lex.specs.TokenTests.{is_word_of}
 use Rattle.text_lex.proofs.Turns.{Leads}
-use Rattle.gdmo_members.specs.Clauses.{behaviours, attributes, parameters, comma, reference}
+use Rattle.gdmo_members.specs.Clauses.{behaviours, comma, reference}
 use Rattle.gdmo_members.specs.Templates.{templates}
 use Rattle.gdmo_members.specs.Trees.{behaviour_reference_tree}
 use Rattle.gdmo_members.proofs.behaviour.read_behaviour_list.Given as goal

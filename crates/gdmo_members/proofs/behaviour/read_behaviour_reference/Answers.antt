@@ -1,5 +1,5 @@
 -- The word behind the label decides.
-use Rattle.std.proofs.Common.{◌∙◌, sym, refl, ◌-◌}
+use Rattle.std.proofs.Common.{◌∙◌, sym, refl}
 use Rattle.text_lex.proofs.Exits.{exit_reads}
 use Rattle.text_lex.proofs.References.{spelt_label, spelt_template, fails_label, fails_template}
 use Rattle.gdmo_members.specs.Templates.{templates}

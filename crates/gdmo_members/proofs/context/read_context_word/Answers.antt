@@ -1,5 +1,5 @@
 -- The point, where it stands, and the word.
-use Rattle.std.proofs.Common.{refl, codes, ◌-◌}
+use Rattle.std.proofs.Common.{refl, codes}
 use Rattle.text_lex.proofs.Sequences.{spelt_then, fails_front, fails_rest}
 use Rattle.text_lex.proofs.Exits.{exit_reads}
 use Rattle.text_lex.specs.Form.{Keep}

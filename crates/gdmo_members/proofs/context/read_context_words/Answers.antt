@@ -1,5 +1,5 @@
 -- As many words as come.
-use Rattle.std.proofs.Common.{◌∙◌, sym, refl, arith, ◌-◌}
+use Rattle.std.proofs.Common.{◌∙◌, sym, refl, arith}
 use Rattle.text_lex.proofs.Sequences.{apart_closed, fails_by, not_closed}
 use Rattle.text_lex.proofs.Heads.{stops_unless, advances}
 use Rattle.text_lex.proofs.Exits.{exit_reads}

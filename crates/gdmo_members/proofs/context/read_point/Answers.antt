@@ -1,5 +1,5 @@
 -- A point comes, or it does not.
-use Rattle.std.proofs.Common.{◌∙◌, sym, refl, arith, codes, ◌-◌}
+use Rattle.std.proofs.Common.{◌∙◌, sym, refl, arith, codes}
 use Rattle.text_lex.proofs.Sequences.{spelt_wider, fails_wider, spelt_present, spelt_absent, fails_present}
 use Rattle.text_lex.proofs.Heads.{stops_unless}
 use Rattle.text_lex.proofs.Exits.{exit_reads}

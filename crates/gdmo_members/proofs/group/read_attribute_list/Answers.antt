@@ -1,5 +1,5 @@
 -- One reference more, as long as a comma is behind it.
-use Rattle.std.proofs.Common.{refl, arith, codes, ◌-◌}
+use Rattle.std.proofs.Common.{refl, arith, codes}
 use Rattle.text_lex.proofs.Sequences.{fails_by}
 use Rattle.text_lex.proofs.Heads.{advances}
 use Rattle.text_lex.proofs.Exits.{exit_reads}

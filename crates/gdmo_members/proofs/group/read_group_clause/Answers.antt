@@ -1,5 +1,5 @@
 -- Each clause comes with its first word, and comes once.
-use Rattle.std.proofs.Common.{◌∙◌, sym, refl, true, false, arith, codes, [], ◌-◌, ◌∷◌}
+use Rattle.std.proofs.Common.{◌∙◌, sym, refl, true, false, arith, codes, [], ◌∷◌}
 use Rattle.text_lex.proofs.Heads.{stops_unless}
 use Rattle.text_lex.proofs.Known.{at_word}
 use Rattle.text_lex.proofs.Clauses.{no_slots_stop, slot_stops, opens_but, fails_clause, clause_taken, fails_clause, came_not, comes_here, comes_not, exit_clause}

@@ -1,9 +1,8 @@
-use Rattle.std.proofs.Common.{◌-◌, length, codes}
+use Rattle.std.proofs.Common.{◌-◌, length}
 use Rattle.text_lex.specs.Form.{Listed, Empty, Leaf}
-use Rattle.text_lex.specs.Parts.{either, list_tree}
-use Rattle.text_lex.specs.TokenTests.{is_word_of}
+use Rattle.text_lex.specs.Parts.{list_tree}
 use Rattle.text_lex.proofs.Turns.{Leads}
-use Rattle.gdmo_members.specs.Clauses.{behaviours, attributes, parameters, comma, reference, matching_rule}
+use Rattle.gdmo_members.specs.Clauses.{comma, matching_rule}
 use Rattle.gdmo_members.specs.Templates.{templates}
 use Rattle.gdmo_members.proofs.matching_rules.read_rule_list.Given as goal
 

@@ -1,5 +1,5 @@
 -- The words behind the label part the six templates, which begin alike.
-use Rattle.std.proofs.Common.{◌∙◌, sym, refl, codes, ◌+◌, ◌-◌}
+use Rattle.std.proofs.Common.{◌∙◌, sym, refl, codes, ◌+◌}
 use Rattle.text_lex.proofs.Sequences.{stops_or, spelt_first, spelt_second, fault_first, fault_second, fails_by}
 use Rattle.text_lex.proofs.Exits.{exit_reads}
 use Rattle.text_lex.proofs.References.{other_keyword, other_stops, label_first}

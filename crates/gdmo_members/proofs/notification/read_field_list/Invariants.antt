@@ -3,7 +3,7 @@ use Rattle.text_lex.specs.Form.{Listed, Empty}
 use Rattle.text_lex.specs.Parts.{either, list_tree}
 use Rattle.text_lex.specs.TokenTests.{is_word_of}
 use Rattle.text_lex.proofs.Turns.{Leads}
-use Rattle.gdmo_members.specs.Clauses.{behaviours, attributes, parameters, comma, reference}
+use Rattle.gdmo_members.specs.Clauses.{comma}
 use Rattle.gdmo_members.specs.Templates.{templates, field}
 use Rattle.gdmo_members.specs.FurtherTrees.{field_tree}
 use Rattle.gdmo_members.proofs.notification.read_field_list.Given as goal

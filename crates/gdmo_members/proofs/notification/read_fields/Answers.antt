@@ -1,5 +1,5 @@
 -- The words come, or they do not.
-use Rattle.std.proofs.Common.{◌∙◌, sym, refl, arith, codes, ◌-◌}
+use Rattle.std.proofs.Common.{◌∙◌, sym, refl, arith, codes}
 use Rattle.text_lex.proofs.Sequences.{apart_closed, spelt_then, spelt_present, spelt_absent, fails_front, fails_rest, fails_present, spelt_on, fails_on}
 use Rattle.text_lex.proofs.Heads.{stops_unless}
 use Rattle.text_lex.proofs.Exits.{exit_reads}

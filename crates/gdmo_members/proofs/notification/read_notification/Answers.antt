@@ -1,5 +1,4 @@
 -- The label, the keywords, the clauses and the end.
-use Rattle.std.proofs.Common.{◌-◌}
 use Rattle.text_lex.proofs.Sequences.{apart_closed, spelt_then, spelt_named, fails_front, fails_rest, fails_named}
 use Rattle.text_lex.proofs.Exits.{exit_reads}
 use Rattle.gdmo_members.specs.Clauses.{notifications}

@@ -1,5 +1,5 @@
 -- One clause after the other, until none comes.
-use Rattle.std.proofs.Common.{refl, ◌-◌}
+use Rattle.std.proofs.Common.{refl}
 use Rattle.text_lex.proofs.Exits.{exit_reads}
 use Rattle.text_lex.proofs.Clauses.{over, clauses_done, fails_led}
 use Rattle.gdmo_members.specs.FurtherTrees.{notification_slots, is_notification_clause}

@@ -1,5 +1,5 @@
 -- The end, and the parts with the document number 0.
-use Rattle.std.proofs.Common.{◌≡◌, sym, ap, refl, subst, ◌-◌}
+use Rattle.std.proofs.Common.{◌≡◌, sym, ap, refl, subst}
 use Rattle.text_lex.proofs.Exits.{exit_reads}
 use Rattle.text_lex.proofs.Parts.{spelt_as}
 use Rattle.gdmo_members.specs.Trees.{ending_tree}

@@ -1,5 +1,5 @@
 -- The identifier, where it stands, and the semicolon.
-use Rattle.std.proofs.Common.{refl, codes, ◌-◌}
+use Rattle.std.proofs.Common.{refl, codes}
 use Rattle.text_lex.proofs.Sequences.{spelt_then, fails_front, fails_rest}
 use Rattle.text_lex.proofs.Exits.{exit_reads}
 use Rattle.gdmo_members.proofs.Apart.{word_apart}
