@@ -1,12 +1,12 @@
 -- The answers of the top call: what each status other than 0 says of the words and the files, and what was written then.
-use Rattle.std.specs.Prelude.{◌≡◌, ◌≤◌, ℕ, List, Option, None, Some, length}
+use Rattle.std.specs.Prelude.{◌≡◌, ◌≤◌, ◌⊎◌, ℕ, List, Option, None, Some, length}
 use Rattle.agent_bytes.specs.Faults.{Rose}
-use Rattle.agent_bytes.specs.Told.{gained}
+use Rattle.agent_bytes.specs.Told.{GainsPart, gained}
 use Rattle.agent_run.specs.declared.refusal.Unbuilt.{Unbuilt}
 use Rattle.term_model.specs.declared.schema.Set.{Set}
 use Rattle.text_lex.specs.declared.lex_refusal.LexKind.{LexKind}
-use Rattle.agent_run.specs.Refusing.{HasFault, IsNamed, IsOutside, IsTooLarge, OfNamed, bad_document_line, file_line, not_built_line, too_large_line}
-use Rattle.agent_run.specs.Running.{AreRunWords, IsDocument, IsScriptFor, Told, most_document, most_script}
+use Rattle.agent_run.specs.Refusing.{HasFault, IsLine, IsNamed, IsOutside, IsTooLarge, OfNamed, bad_document_line, file_line, not_built_line, too_large_line}
+use Rattle.agent_run.specs.Running.{AreRunWords, IsDocument, IsRunOf, IsScriptFor, Told, most_document, most_script}
 
 -- a call of the files failed, and the line has the name of one of the two files
 pub record EndsByFileFault (words : List (List ℕ)) (faults_before faults_after : ℕ) (before after : Option (List ℕ)) : Type 0 where
@@ -33,6 +33,14 @@ pub record EndsByNotBuilt (files : Told) (words : List (List ℕ)) (before after
   pub what : Unbuilt
   pub outside : IsOutside files words what
   pub line : after ≡ gained before (not_built_line what)
+
+-- A write failed. A part of what would have been written is there: of a run's text, or of the line that says why there is
+-- none.
+pub record EndsByWriteFault (files : Told) (words : List (List ℕ)) (faults_before faults_after out_before out_after : ℕ) (before after : Option (List ℕ)) : Type 0 where
+  pub rose : Rose out_before out_after
+  pub text : List ℕ
+  pub part : GainsPart before after text
+  pub of : IsRunOf files words text ⊎ IsLine files words faults_before faults_after text
 
 -- the file is told, and has these bytes
 abbrev pub IsTold : Told → List ℕ → List ℕ → Type 0

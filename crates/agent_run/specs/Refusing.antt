@@ -73,6 +73,11 @@ HasCause files words before after (BadDocument line kind) = OfNamed files words 
 HasCause files words before after (NotBuilt what) = IsOutside files words what
 HasCause files words before after OutOfMemory = Unit {0}
 
+-- a refusal that no failed call of the files caused leaves their count as it was
+abbrev pub KeepsCount : ℕ → ℕ → Refusal → Type 0
+KeepsCount before after (FileFault name) = Unit {0}
+KeepsCount before after _ = after ≡ before
+
 -- the causes that one file alone may give, read up to a limit
 abbrev pub HasFileCause : Told → List ℕ → ℕ → ℕ → ℕ → Refusal → Type 0
 HasFileCause files name limit before after (FileFault other) = (other.now ≡ name) × Rose before after
@@ -142,3 +147,9 @@ line_of (FileTooLarge name) = too_large_line name.now
 line_of (BadDocument line kind) = bad_document_line line kind
 line_of (NotBuilt what) = not_built_line what
 line_of OutOfMemory = memory_line
+
+-- the line of a refusal that has its cause
+pub record IsLine (files : Told) (words : List (List ℕ)) (before after : ℕ) (text : List ℕ) : Type 0 where
+  pub refusal : Refusal
+  pub cause : HasCause files words before after refusal
+  pub is : text ≡ line_of refusal

@@ -4,7 +4,7 @@ ghost use Rattle.std.specs.Prelude.{◌≡◌, ◌++◌, IfOk, OnOk, codes, deci
 ghost use Rattle.term_model.specs.Texts.{line_feed};
 ghost use Rattle.agent_run.specs.Refusing.{kind_name, line_of, status_of, unbuilt_name};
 
-use journal_text::texts::write_decimal;
+use journal_text::texts::{LINE_FEED, write_decimal};
 use std::alloc::{AllocError, Global};
 use text_lex::LexKind;
 
@@ -49,9 +49,6 @@ pub enum Refusal<'a> {
     NotBuilt(Unbuilt),
     OutOfMemory,
 }
-
-/// The byte that ends each line.
-const LINE_FEED: u8 = 10;
 
 /// The name of a fault of the tokens.
 fn kind_name(kind: LexKind) -> &'static str

@@ -1,10 +1,10 @@
 //! The top call: the words of a command line, the files that they name, and what is written.
 
-ghost use Rattle.std.specs.Prelude.{◌≡◌, ◌≢◌, ◌⊎◌, ◌≤◌, ◌∷◌, [], Contains, length, map, string_bytes, IfErr, IfOk, IsSome};
+ghost use Rattle.std.specs.Prelude.{◌≡◌, ◌≢◌, ◌⊎◌, ◌≤◌, ◌∷◌, [], Contains, length, map, string_bytes, IfErr, IfOk, IsSome, OnOk};
 ghost use Rattle.agent_bytes.specs.Faults.{Rose};
-ghost use Rattle.agent_bytes.specs.Told.{IsFile, gained};
-ghost use Rattle.agent_run.specs.Answers.{EndsByBadDocument, EndsByFileFault, EndsByFileTooLarge, EndsByNotBuilt, IsRunnable};
-ghost use Rattle.agent_run.specs.Refusing.{HasCause, HasDocumentCause, HasFileCause, HasRunCause, HasScriptCause, line_of, line_of_place, memory_line, status_of};
+ghost use Rattle.agent_bytes.specs.Told.{GainsPart, IsFile, gained};
+ghost use Rattle.agent_run.specs.Answers.{EndsByBadDocument, EndsByFileFault, EndsByFileTooLarge, EndsByNotBuilt, EndsByWriteFault, IsRunnable};
+ghost use Rattle.agent_run.specs.Refusing.{HasCause, HasDocumentCause, HasFileCause, HasRunCause, HasScriptCause, KeepsCount, line_of, line_of_place, memory_line, status_of};
 ghost use Rattle.agent_run.specs.Running.{IsDocument, IsPlayed, IsRun, IsRunOf, IsScriptFor, Prints};
 ghost use Rattle.term_model.specs.declared.schema.Set.{Set};
 ghost use Rattle.term_model.specs.AgentState.{start};
@@ -19,7 +19,7 @@ use crate::words::read_words;
 use agent_bytes::{FileRefusal, Files, Sink, write_all};
 use first_document::{DocumentRefusal, read_document};
 use first_script::{Script, ScriptRefusal, read_script};
-use journal_text::texts::run_text;
+use journal_text::texts::{LINE_FEED, run_text};
 use one_manager_agent::playing::perform_script;
 use std::alloc::{AllocError, Global};
 use term_model::Set;
@@ -30,9 +30,6 @@ const MOST_DOCUMENT: u64 = 4_194_304;
 
 /// The most bytes of a script.
 const MOST_SCRIPT: u64 = 16_777_216;
-
-/// The byte that ends each line.
-const LINE_FEED: u8 = 10;
 
 /// The line printed where there is no memory for another one.
 const MEMORY_LINE: &[u8] = b"memory\n";
@@ -47,6 +44,8 @@ fn read_file<'a, F: Files>(
     ensures told { IfOk result (λ bytes. IsFile (F.files files.old) name.now bytes.items) }
     ensures within { IfOk result (λ bytes. length bytes.items ≤ limit) }
     ensures same { F.files files.new ≡ F.files files.old }
+    ensures quiet { OnOk result (F.faults files.new ≡ F.faults files.old) }
+    ensures kept { IfErr result (KeepsCount (F.faults files.old) (F.faults files.new)) }
     ensures cause { IfErr result (HasFileCause (F.files files.old) name.now limit (F.faults files.old) (F.faults files.new)) }
     ensures counted { F.faults files.old ≤ F.faults files.new }
 {
@@ -140,6 +139,9 @@ fn prepare<'a, F: Files>(
     files: &mut F,
 ) -> Result<Vec<u8>, Refusal<'a>>
     ensures text { IfOk result (λ text. IsRunOf (F.files files.old) (map string_bytes words.now) text.items) }
+    ensures same { F.files files.new ≡ F.files files.old }
+    ensures quiet { OnOk result (F.faults files.new ≡ F.faults files.old) }
+    ensures kept { IfErr result (KeepsCount (F.faults files.old) (F.faults files.new)) }
     ensures cause { IfErr result (HasCause (F.files files.old) (map string_bytes words.now) (F.faults files.old) (F.faults files.new)) }
 {
     let places = match read_words(words) {
@@ -158,6 +160,7 @@ fn put<O: Sink>(out: &mut O, text: &[u8], status: u8) -> u8
     ensures done { result ≢ WRITE_FAULT → result ≡ status }
     ensures written { result ≢ WRITE_FAULT → O.contents out.new ≡ gained (O.contents out.old) text.now }
     ensures fault { result ≡ WRITE_FAULT → Rose (O.faults out.old) (O.faults out.new) }
+    ensures part { result ≡ WRITE_FAULT → GainsPart (O.contents out.old) (O.contents out.new) text.now }
 {
     match write_all(out, text) {
         Ok(()) => status,
@@ -171,6 +174,8 @@ fn refuse<O: Sink>(alloc: Global, refusal: &Refusal<'_>, out: &mut O) -> u8
     ensures line { result ≢ OUT_OF_MEMORY → result ≢ WRITE_FAULT → O.contents out.new ≡ gained (O.contents out.old) (line_of refusal.now) }
     ensures memory { result ≡ OUT_OF_MEMORY → O.contents out.new ≡ gained (O.contents out.old) memory_line }
     ensures fault { result ≡ WRITE_FAULT → Rose (O.faults out.old) (O.faults out.new) }
+    ensures part { result ≡ WRITE_FAULT → GainsPart (O.contents out.old) (O.contents out.new) (line_of refusal.now)
+        ⊎ GainsPart (O.contents out.old) (O.contents out.new) memory_line }
 {
     match refusal.line(alloc) {
         Ok(line) => put(out, &line, refusal.status()),
@@ -205,8 +210,15 @@ pub fn agent<R: AllocGlobal, F: Files, O: Sink>(
     ensures not_built { result ≡ NOT_BUILT
         → EndsByNotBuilt (F.files files.old) (map string_bytes words.now) (O.contents out.old) (O.contents out.new) }
     ensures memory { result ≡ OUT_OF_MEMORY → O.contents out.new ≡ gained (O.contents out.old) memory_line }
-    ensures write_fault { result ≡ WRITE_FAULT → Rose (O.faults out.old) (O.faults out.new) }
+    ensures write_fault { result ≡ WRITE_FAULT
+        → EndsByWriteFault (F.files files.old) (map string_bytes words.now) (F.faults files.old) (F.faults files.new)
+        (O.faults out.old) (O.faults out.new) (O.contents out.old) (O.contents out.new) }
     ensures statuses { Contains (DONE ∷ FILE_FAULT ∷ BAD_DOCUMENT ∷ WRITE_FAULT ∷ OUT_OF_MEMORY ∷ FILE_TOO_LARGE ∷ NOT_BUILT ∷ []) result }
+
+    // No file was changed, and with another status than that of a failed call none failed, want of memory and a failed write
+    // aside.
+    ensures same { F.files files.new ≡ F.files files.old }
+    ensures quiet { result ≢ FILE_FAULT → result ≢ OUT_OF_MEMORY → result ≢ WRITE_FAULT → F.faults files.new ≡ F.faults files.old }
 
     // Where words and files are in their forms and no call failed, everything was written, or there was no memory.
     ensures complete { IsRunnable (F.files files.old) (map string_bytes words.now)

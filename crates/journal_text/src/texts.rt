@@ -9,7 +9,7 @@ use std::alloc::{AllocError, Global};
 use term_model::{AgentState, Association, Entries, Entry, Why};
 
 /// The byte that ends each line.
-const LINE_FEED: u8 = 10;
+pub const LINE_FEED: u8 = 10;
 
 /// The line between the journal and what it comes to.
 const SEPARATOR: &[u8] = b"--\n";
