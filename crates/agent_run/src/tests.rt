@@ -366,16 +366,67 @@ fn a_script_one_byte_or_field_away_from_the_form_is_not_built(rt: HostRuntime) -
 #[test]
 fn a_get_with_any_id_of_32_bits_and_any_name_is_answered(rt: HostRuntime) -> Result<(), Fail> {
     let sends = [
-        "A11302047FFFFFFF0201033008800488370301A400",
-        "A1130204800000000201033008800488370301A400",
-        "A12E0201010201033026800488370301A41E310B3009060488370701020105310F300D06022A03300702010504026162",
-        "A11C0201010201033014800488370301A40C310A30080604883707018100",
+        (
+            "A11302047FFFFFFF0201033008800488370301A400",
+            "00000040A23E02047FFFFFFF30360201033031800488370301A400850F31393730303130313030303030305AA61630098004883707010201013009800488370702020107",
+        ),
+        (
+            "A1130204800000000201033008800488370301A400",
+            "00000040A23E02048000000030360201033031800488370301A400850F31393730303130313030303030305AA61630098004883707010201013009800488370702020107",
+        ),
+        (
+            "A12E0201010201033026800488370301A41E310B3009060488370701020105310F300D06022A03300702010504026162",
+            "00000028A326020101020101A41E310B3009060488370701020105310F300D06022A03300702010504026162",
+        ),
+        (
+            "A11C0201010201033014800488370301A40C310A30080604883707018100",
+            "00000016A314020101020101A40C310A30080604883707018100",
+        ),
     ];
-    for new in sends {
-        let script = changed(&rt, GET_ROOT, "A1100201010201033008800488370301A400", new)?;
-        let (status, _) = run(&rt, script.as_str(), ELEMENT)?;
-        assert_eq!(rt; status, DONE, "{new}");
+    for (apdu, frame) in sends {
+        let script = changed(&rt, GET_ROOT, "A1100201010201033008800488370301A400", apdu)?;
+        let (status, written) = run(&rt, script.as_str(), ELEMENT)?;
+        assert_eq!(rt; status, DONE, "{apdu}");
+        let end = format!(in rt.alloc(); "\nout 1 0000000830060A0100020101{frame}\nobjects 1\n")?;
+        assert!(rt; written.as_slice().ends_with(end.as_bytes()), "{apdu}");
     }
+    Ok(())
+}
+
+#[test]
+fn a_script_sends_nothing_or_several_gets(rt: HostRuntime) -> Result<(), Fail> {
+    let (status, written) = run(&rt, "open 3006060488370B01\n", ELEMENT)?;
+    assert_eq!(rt; status, DONE);
+    let text = "opened 1 3006060488370B01
+taken 1 12
+finished 1
+closed 1 end
+--
+out 1 0000000830060A0100020101
+objects 1
+";
+    assert_eq!(rt; written.as_slice(), text.as_bytes());
+    let mut script = String::from_str(rt.alloc(), GET_ROOT)?;
+    script.push_str("send 1 A1100201020201033008800488370301A400\n")?;
+    let (status, written) = run(&rt, script.as_str(), ELEMENT)?;
+    assert_eq!(rt; status, DONE);
+    let text = "opened 1 3006060488370B01
+taken 1 12
+arrived 1 A1100201010201033008800488370301A400
+granted 1 0
+committed 1
+taken 1 65
+arrived 1 A1100201020201033008800488370301A400
+granted 2 0
+committed 2
+taken 1 65
+finished 1
+closed 1 end
+--
+out 1 0000000830060A01000201010000003DA23B02010130360201033031800488370301A400850F31393730303130313030303030305AA616300980048837070102010130098004883707020201070000003DA23B02010230360201033031800488370301A400850F31393730303130313030303030305AA61630098004883707010201013009800488370702020107
+objects 1
+";
+    assert_eq!(rt; written.as_slice(), text.as_bytes());
     Ok(())
 }
 
@@ -448,6 +499,13 @@ fn a_file_past_its_limit_ends_the_run_with_its_name(rt: HostRuntime) -> Result<(
             "too large script\n",
         ),
         ("script", 1, "document", 4_194_305, "too large document\n"),
+        (
+            "script",
+            16_777_217,
+            "document",
+            4_194_305,
+            "too large script\n",
+        ),
     ];
     for (script, script_len, document, document_len, text) in cases {
         let mut files = MemFiles::new(alloc, Vec::new(alloc));
