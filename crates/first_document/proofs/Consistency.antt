@@ -1,5 +1,5 @@
 -- What the records say of the parts of a document, and what the conditions say of its records.
-use Rattle.std.proofs.Common.{◌≡◌, ℕ, ◌≤◌, ◌^◌, Bool, true, pos, List, [], ◌∷◌, All, Contains, codes, length, map, refl, sym, ap, ◌∙◌, subst}
+use Rattle.std.proofs.Common.{◌≡◌, ℕ, ◌≤◌, true, pos, List, [], ◌∷◌, All, Contains, codes, map, refl, sym, ap, ◌∙◌, subst}
 use Rattle.std.specs.Prelude.{IsSome, find}
 use Rattle.std.specs.Option.{is_some, option_map, unwrap_or}
 use Rattle.std.proofs.lemmas.List.Elements.{All-cons, All-contains, All-head, All-map, All-tail, All-weaker}
@@ -19,12 +19,11 @@ use Rattle.first_document.specs.declared.parts.AttributePart.{AttributePart}
 use Rattle.first_document.specs.declared.parts.AttributeUse.{AttributeUse}
 use Rattle.first_document.specs.declared.parts.DocumentParts.{DocumentParts}
 use Rattle.first_document.specs.declared.parts.GivenValue.{GivenValue}
-use Rattle.text_lex.specs.declared.token.Token.{Token}
 use Rattle.first_document.specs.Contents.{AttributeContents, DocumentContents, attribute_contents, document_contents}
-use Rattle.first_document.specs.FirstDocument.{AreArcs, AreDistinct, HasType, IsConsistent, IsNumberBelow, all_arcs, all_labels, attribute_arcs, attribute_labels, used_labels}
+use Rattle.first_document.specs.FirstDocument.{AreArcs, AreDistinct, HasType, IsConsistent, attribute_arcs, attribute_labels}
 use Rattle.first_document.specs.Gathering.{GivesEach, HasArcs, Identifiers, IsGivable, IsIndex, IsKnown, attribute_under, found_under, given_texts, identifier_under, part_record, property_under, record_ids, record_labels, size_of, use_labels}
 use Rattle.first_document.specs.Records.{arcs_of, attribute_record, by_rising_identifier, class_record, given_attribute, identifier_of, labelled, number_of, property_record, records_of, root_attributes, root_record, system_name}
-use Rattle.first_document.proofs.Labelled.{among_labels, found, id_of, index_of, label_of, map-map, some_map, unwrap_map}
+use Rattle.first_document.proofs.Labelled.{among_labels, found, id_of, index_of, map-map, some_map, unwrap_map}
 use Rattle.first_document.proofs.Loops.{All-unmap}
 
 abbrev pub attributes_of : DocumentParts → List AttributeContents

@@ -1,14 +1,14 @@
 -- The attribute with a label, and its identifier.
-use Rattle.std.proofs.Common.{◌≡◌, ℕ, Bool, true, false, List, [], ◌∷◌, All, Contains, Option, None, Some, cond, length, map, refl, sym, ap, ◌∙◌, subst, inl, inr, rules}
-use Rattle.std.specs.Prelude.{◌⊎◌, IsSome, find}
+use Rattle.std.proofs.Common.{◌≡◌, ℕ, Bool, true, false, List, [], ◌∷◌, Contains, Option, None, Some, cond, map, refl, sym, ap, ◌∙◌, subst}
+use Rattle.std.specs.Prelude.{find}
 use Rattle.std.specs.Option.{is_some, option_map, option_map_or, unwrap_or}
 use Rattle.std.proofs.lemmas.Map.Made.{Contains-tail}
 use Rattle.std.proofs.lemmas.Slice.Eq.{bytes_eq-Decides}
 use Rattle.term_model.specs.declared.schema.AttrRec.{AttrRec}
 use Rattle.term_model.specs.Comparing.{is_same_octets}
 use Rattle.first_document.specs.Contents.{AttributeContents}
-use Rattle.first_document.specs.Records.{arcs_of, attribute_record, identifier_of, labelled}
-use Rattle.first_document.proofs.RisingAttributes.{first_or_later, here, nowhere, there}
+use Rattle.first_document.specs.Records.{arcs_of, attribute_record, labelled}
+use Rattle.first_document.proofs.RisingAttributes.{here, nowhere, there}
 
 abbrev pub label_of : AttributeContents → List ℕ
 label_of attribute = attribute.label.text

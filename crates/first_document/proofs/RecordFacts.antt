@@ -1,6 +1,5 @@
 -- The records of a document of an element with a load, computed: docs/PROFILE.md, section 6.
 use Rattle.std.proofs.Common.{◌≡◌, ℕ, true, false, pos, List, [], ◌∷◌, refl, codes}
-use Rattle.std.specs.Cmp.Lexicographic.{slice_cmp}
 use Rattle.text_lex.specs.declared.token.Token.{Token}
 use Rattle.text_lex.specs.declared.token.TheConstants.{WORD, NUMBER}
 use Rattle.text_lex.proofs.Known.{token_of}
@@ -8,7 +7,6 @@ use Rattle.term_values.specs.Der.{identifier_octets, length_octets}
 use Rattle.term_values.specs.Octets.{integer_contents}
 use Rattle.term_values.specs.Typed.TypeSyntax.{Integer}
 use Rattle.term_values.specs.Typed.TypedValue.{Int}
-use Rattle.term_model.specs.declared.object.Attribute.{Attribute}
 use Rattle.term_model.specs.declared.schema.Set.{Set}
 use Rattle.first_document.specs.declared.parts.AttributeUse.{AttributeUse}
 use Rattle.first_document.specs.declared.parts.GivenValue.{GivenValue}

@@ -1,12 +1,9 @@
 -- The root of a document that keeps the conditions obeys its template.
 use Rattle.std.proofs.Common.{◌≡◌, ℕ, ◌+◌, ◌<◌, ◌≤◌, ◌^◌, Bool, true, false, pos, List, [], ◌∷◌, ◌++◌, All, Contains, get_or, length, map, refl, sym, ap, ◌∙◌, subst, arith, if◌then◌else◌, nat_lt}
-use Rattle.std.specs.Int.{w64}
 use Rattle.std.specs.Option.{option_map_or}
-use Rattle.std.specs.Prelude.{FitsSigned}
 use Rattle.std.proofs.lemmas.Bool.Decides.{Decides-ltb}
 use Rattle.std.proofs.lemmas.List.{length-append}
-use Rattle.std.proofs.lemmas.List.Elements.{All-cons, All-contains, All-head, All-map, All-nil, All-tail, All-weaker}
-use Rattle.text_lex.specs.declared.token.Token.{Token}
+use Rattle.std.proofs.lemmas.List.Elements.{All-cons, All-contains, All-map, All-nil, All-weaker}
 use Rattle.term_values.specs.declared.tag.TheConstants.Tag.{INTEGER}
 use Rattle.term_values.specs.Der.{identifier_octets, length_octets}
 use Rattle.term_values.specs.Fits.{Fits, der}
@@ -19,13 +16,13 @@ use Rattle.term_model.specs.declared.agent_state.NamedObject.{NamedObject}
 use Rattle.term_model.specs.declared.object.Attribute.{Attribute}
 use Rattle.term_model.specs.declared.schema.Property.{Property}
 use Rattle.term_model.specs.AgentState.{opened_object, start}
-use Rattle.term_model.specs.WellFormedMib.{FitsTemplate, IsWellFormedMib, ObeysTemplates, class_attributes, identifiers, most_value}
+use Rattle.term_model.specs.WellFormedMib.{IsWellFormedMib, ObeysTemplates, class_attributes, identifiers, most_value}
 use Rattle.first_document.specs.declared.parts.AttributeUse.{AttributeUse}
 use Rattle.first_document.specs.declared.parts.GivenValue.{GivenValue}
 use Rattle.first_document.specs.Contents.{AttributeContents, DocumentContents}
 use Rattle.first_document.specs.FirstDocument.{IsConsistent, IsNumberBelow, given_labels, used_labels, attribute_labels}
 use Rattle.first_document.specs.Records.{attribute_record, class_record, given_attribute, given_values, identifier_of, number_of, property_record, records_of, root_attributes, root_record}
-use Rattle.first_document.proofs.Labelled.{Found, found, id_of, map-map}
+use Rattle.first_document.proofs.Labelled.{found, id_of, map-map}
 use Rattle.first_document.proofs.Loops.{All-unmap}
 use Rattle.first_document.proofs.RisingAttributes.{Contains-map, Fine, here, rising_fine, rising_has, rising_sorted}
 

@@ -1,5 +1,5 @@
 -- FirstDocument: which tokens are a document in the first form, and the records that it defines: docs/PROFILE.md, section 6.
-use Rattle.std.specs.Prelude.{◌≡◌, ◌≢◌, ◌≤◌, ◌<◌, ◌^◌, ◌++◌, ℕ, List, [], ◌∷◌, All, AllPairs, Contains, IsTrue, length, map}
+use Rattle.std.specs.Prelude.{◌≡◌, ◌≢◌, ◌≤◌, ◌<◌, ◌^◌, ℕ, List, ◌∷◌, All, AllPairs, Contains, IsTrue, length, map}
 use Rattle.std.specs.Str.Parse.{IsNumeral}
 use Rattle.text_lex.specs.declared.token.Token.{Token}
 use Rattle.text_lex.specs.Spelling.{Spells}

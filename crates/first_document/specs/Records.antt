@@ -1,6 +1,6 @@
 -- Records: what the parts of a document in the first form define: X.722, sections 8.3, 8.4 and 8.7; docs/PROFILE.md,
 -- section 6.
-use Rattle.std.specs.Prelude.{ℕ, pos, Bool, true, false, List, [], ◌∷◌, Option, None, codes, find, fold, map}
+use Rattle.std.specs.Prelude.{ℕ, pos, true, false, List, [], ◌∷◌, Option, codes, find, fold, map}
 use Rattle.std.specs.Cmp.Lexicographic.{slice_cmp}
 use Rattle.std.specs.Option.{option_map_or}
 use Rattle.std.specs.Ordering.{match_ordering, nat_cmp}
@@ -20,7 +20,7 @@ use Rattle.term_model.specs.declared.schema.Set.{Set}
 use Rattle.term_model.specs.Comparing.{is_same_octets}
 use Rattle.first_document.specs.declared.parts.AttributeUse.{AttributeUse}
 use Rattle.first_document.specs.declared.parts.GivenValue.{GivenValue}
-use Rattle.first_document.specs.Contents.{AttributeContents, ClassContents, DocumentContents, RootContents}
+use Rattle.first_document.specs.Contents.{AttributeContents, DocumentContents, RootContents}
 
 -- the number that a token's digits stand for
 abbrev pub number_of : Token → ℕ

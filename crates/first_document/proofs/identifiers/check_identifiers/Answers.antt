@@ -1,5 +1,5 @@
 -- One more identifier is new, or stands among those so far.
-use Rattle.std.proofs.Common.{[], ◌∷◌, take, sym, ap, ◌∙◌, subst, refl, arith}
+use Rattle.std.proofs.Common.{[], ◌∷◌, take, sym, ap, ◌∙◌, subst, arith}
 use Rattle.std.proofs.lemmas.List.{take_all}
 use Rattle.std.specs.Prelude.{not}
 use Rattle.std.specs.List.{IsDistinct}

@@ -1,5 +1,5 @@
 -- One more label is new, or stands among those so far.
-use Rattle.std.proofs.Common.{[], take, sym, ap, ◌∙◌, subst, arith}
+use Rattle.std.proofs.Common.{[], take, sym, ◌∙◌, subst, arith}
 use Rattle.std.proofs.lemmas.List.{take_all}
 use Rattle.std.specs.List.{IsDistinct}
 use Rattle.term_model.specs.declared.schema.AttrRec.{AttrRec}

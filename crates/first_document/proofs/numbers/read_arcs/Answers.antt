@@ -1,5 +1,5 @@
 -- One more arc.
-use Rattle.std.proofs.Common.{◌^◌, arith, rules}
+use Rattle.std.proofs.Common.{◌^◌}
 use Rattle.first_document.specs.FirstDocument.{IsNumberBelow}
 use Rattle.first_document.specs.Records.{number_of}
 use Rattle.first_document.proofs.Loops.{all_read, map_pushed}
