@@ -6,7 +6,7 @@ use Rattle.term_model.specs.declared.schema.ClassRec.{ClassRec}
 use Rattle.term_model.specs.declared.schema.Set.{Set}
 use Rattle.term_model.specs.History.{came, is_legal_journal, replay}
 use Rattle.term_model.specs.Played.{played}
-use Rattle.term_model.specs.Texts.{journal_text, line_feed, outs}
+use Rattle.term_model.specs.Texts.{journal_text, outs, separator}
 use Rattle.term_model.specs.WellFormedMib.{IsWellFormedMib}
 use Rattle.text_lex.specs.declared.token.Token.{Token}
 use Rattle.text_lex.specs.Lexed.{AreTokensOf}
@@ -29,10 +29,6 @@ pub record IsScriptFor (schema : Set) (script bind : List ℕ) (sends : List (Li
 -- the objects obey their templates after each part of the journal, from none of it to all
 abbrev pub Obeys : Set → List Entry → Type 0
 Obeys schema journal = (before after : List Entry) → journal ≡ before ++ after → IsWellFormedMib schema (replay schema before).objects
-
--- a line of two dashes
-abbrev pub separator : List ℕ
-separator = 45 ∷ 45 ∷ line_feed
 
 -- The text is the journal of the script, a line of two dashes, and what the one-manager agent places on that journal. The
 -- association's frames stand in the journal in their order, and no others; each entry may stand where it stands; and every

@@ -19,10 +19,7 @@ use term_model::{Asked, Head, IdRef, Instance, Name, Named, Rdn, Request};
 use term_values::{Body, Bytes, Oid, Tag, Tree};
 
 /// The tag of an Invoke APDU.
-pub const INVOKE: Tag = Tag {
-    class: 2,
-    number: 1,
-};
+pub const INVOKE: Tag = Tag::context(1);
 
 /// The operation m-Get.
 pub const M_GET: i64 = 3;

@@ -17,16 +17,10 @@ use term_model::{CmisError, Rdn, Reply};
 use term_values::{Oid, Tag};
 
 /// The tag of a Result APDU.
-const RESULT: Tag = Tag {
-    class: 2,
-    number: 2,
-};
+const RESULT: Tag = Tag::context(2);
 
 /// The tag of an Error APDU.
-const ERROR: Tag = Tag {
-    class: 2,
-    number: 3,
-};
+const ERROR: Tag = Tag::context(3);
 
 /// The octets of a frame's length.
 const LENGTH_OCTETS: u32 = 4;

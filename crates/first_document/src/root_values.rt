@@ -17,14 +17,12 @@ use ber_tree::value_writing::write_value;
 use op_object::object_reading::{attribute_set, write_typed};
 use std::alloc::{AllocError, Global};
 use std::collections::BTreeMap;
+use term_model::object::MOST_OBJECT;
 use term_model::{Attribute, Attrs, InstRec, Name, Rdn};
 use term_values::{Bytes, Oid, Tag, Value};
 
 /// Values are below this number.
 const VALUES: u64 = 1 << 63;
-
-/// The most octets of an object, as the encoding of its attributes as SET OF Attribute.
-const MOST_OBJECT: usize = 16_384;
 
 /// A given value. `Outside`: it is not below 2 ^ 63.
 fn given_number(given: &GivenValue) -> Result<i64, DocumentRefusal>

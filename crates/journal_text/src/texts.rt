@@ -2,7 +2,7 @@
 
 ghost use Rattle.std.specs.Prelude.{◌≡◌, ◌∷◌, ◌++◌, IfOk, OnOk, codes, decimal};
 ghost use Rattle.hex.specs.Hex.{encode_upper};
-ghost use Rattle.term_model.specs.Texts.{cause_text, placed_text, line, line_feed, two_words, one_word, journal_text, out_lines, objects_line, outs};
+ghost use Rattle.term_model.specs.Texts.{cause_text, placed_text, line, line_feed, two_words, one_word, journal_text, out_lines, objects_line, outs, separator};
 
 use itoa::Buffer;
 use std::alloc::{AllocError, Global};
@@ -168,7 +168,7 @@ pub fn write_outs(alloc: Global, agent: &AgentState, into: &mut Vec<u8>) -> Resu
 
 /// What `run` prints of a journal and the agent after it.
 pub fn run_text(alloc: Global, journal: &Entries, agent: &AgentState) -> Result<Vec<u8>, AllocError>
-    ensures { IfOk result (λ text. text.items ≡ journal_text journal.now ++ ((45 ∷ 45 ∷ line_feed) ++ outs agent.now)) }
+    ensures { IfOk result (λ text. text.items ≡ journal_text journal.now ++ (separator ++ outs agent.now)) }
 {
     let mut text = Vec::new(alloc);
     write_journal(alloc, journal, &mut text)?;

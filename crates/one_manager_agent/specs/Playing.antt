@@ -1,5 +1,5 @@
 -- A script in the first form on its way: between two lines the one association is live, all that was placed for it was taken,
--- and none of its operations is outstanding.
+-- and none of its operations is outstanding; docs/PROFILE.md, section 7.
 use Rattle.std.specs.Prelude.{◌≡◌, ℕ, List, [], ◌∷◌, length, map}
 use Rattle.term_model.specs.declared.agent_state.AgentState.{AgentState}
 use Rattle.term_model.specs.declared.agent_state.Association.{Association}

@@ -14,28 +14,16 @@ use term_model::{Attribute, Attrs, Object, Rdn, Set};
 use term_values::{Bytes, Oid, Tag, Value, ValueForm};
 
 /// The tag of globalForm: X.711, ObjectClass and AttributeId.
-pub const GLOBAL_FORM: Tag = Tag {
-    class: 2,
-    number: 0,
-};
+pub const GLOBAL_FORM: Tag = Tag::context(0);
 
 /// The tag of localDistinguishedName: X.711, ObjectInstance.
-pub const LOCAL_DISTINGUISHED_NAME: Tag = Tag {
-    class: 2,
-    number: 4,
-};
+pub const LOCAL_DISTINGUISHED_NAME: Tag = Tag::context(4);
 
 /// The tag of currentTime in a result.
-const CURRENT_TIME: Tag = Tag {
-    class: 2,
-    number: 5,
-};
+const CURRENT_TIME: Tag = Tag::context(5);
 
 /// The tag of the attribute list in a result.
-const ATTRIBUTE_LIST: Tag = Tag {
-    class: 2,
-    number: 6,
-};
+const ATTRIBUTE_LIST: Tag = Tag::context(6);
 
 /// The moment 0 as GeneralizedTime.
 const EPOCH_TEXT: &[u8] = b"19700101000000Z";

@@ -1,4 +1,4 @@
-//! Which attributes of the objects of a class managers may read: X.722, section 8.3, the property list.
+//! Which attributes of the objects of a class managers may read: X.722, section 8.4, the property list.
 
 ghost use Rattle.std.specs.Prelude.{◌≡◌, ◌||◌, ℕ, List, IfOk, OnOk};
 ghost use Rattle.std.specs.BTreeSet.{contains};

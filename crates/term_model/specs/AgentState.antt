@@ -1,4 +1,5 @@
--- The state of the one-manager agent: what it starts from, and what it holds of associations and operations.
+-- The state of the one-manager agent: what it starts from, and what it holds of associations and operations;
+-- docs/PROFILE.md, section 7.
 use Rattle.std.specs.Prelude.{ℕ, ◌-◌, ◌==◌, ◌&&◌, Bool, true, false, not, List, [], length, map, count_by, slice_get, Option, None, Some, if◌then◌else◌}
 use Rattle.term_model.specs.declared.agent_state.AgentState.{AgentState}
 use Rattle.term_model.specs.declared.agent_state.Association.{Association}

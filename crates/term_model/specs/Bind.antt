@@ -1,5 +1,5 @@
 -- The exchange that opens an association: BIND ::= SEQUENCE { title OBJECT IDENTIFIER }, and its answer
--- SEQUENCE { ENUMERATED { accepted(0), titleInUse(1), badBind(2), tooMany(3) }, INTEGER association }.
+-- SEQUENCE { ENUMERATED { accepted(0), titleInUse(1), badBind(2), tooMany(3) }, INTEGER association }; docs/PROFILE.md, section 4.
 use Rattle.std.specs.Prelude.{ℕ, pos, List, ◌++◌, true, false, Option, option_and_then}
 use Rattle.term_values.specs.declared.tag.TheConstants.Tag.{ENUMERATED, OBJECT_IDENTIFIER, SEQUENCE}
 use Rattle.term_values.specs.BerReading.{tree_in}

@@ -1,4 +1,5 @@
--- Journals: which are legal, what the one-manager agent is after one, and what came, went out and was taken of an association.
+-- Journals: which are legal, what the one-manager agent is after one, and what came, went out and was taken of an association;
+-- docs/PROFILE.md, section 7.
 use Rattle.std.specs.Prelude.{ℕ, ◌==◌, ◌&&◌, Bool, true, List, [], ◌∷◌, Option, None, Some, sum, if◌then◌else◌}
 use Rattle.std.specs.List.{filter_map}
 use Rattle.std.specs.Option.{option_map_or}

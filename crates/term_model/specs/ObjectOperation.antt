@@ -1,6 +1,7 @@
 -- What a request does to one object: X.711, section 7.4.
 use Rattle.std.specs.Prelude.{ℕ, List, ◌++◌, Bool, true, false, ◌&&◌, filter, map, flat_map}
 use Rattle.std.specs.List.{list_any}
+use Rattle.term_values.specs.declared.tag.Tag.{Tag}
 use Rattle.term_values.specs.declared.tag.TheConstants.Tag.{SEQUENCE, SET}
 use Rattle.term_values.specs.Der.{encoded}
 use Rattle.term_values.specs.Fits.{der}
@@ -32,13 +33,20 @@ attribute_octets attribute = encoded true SEQUENCE (encoded false global_form (o
 abbrev pub readable : Set → Object → List Attribute
 readable schema object = filter (λ (attribute : Attribute). is_readable schema object.class attribute.id) object.attrs
 
--- SET OF Attribute, implicitly tagged [6]
-abbrev pub attributes_octets : List Attribute → List ℕ
-attributes_octets attributes = encoded true (context 6) (flat_map (λ member. member) (rising (map attribute_octets attributes)))
+-- the tags of currentTime and of the attribute list in a result
+abbrev pub current_time : Tag
+current_time = context 5
 
--- currentTime, implicitly tagged [5]
+abbrev pub attribute_list : Tag
+attribute_list = context 6
+
+-- SET OF Attribute, implicitly tagged
+abbrev pub attributes_octets : List Attribute → List ℕ
+attributes_octets attributes = encoded true attribute_list (flat_map (λ member. member) (rising (map attribute_octets attributes)))
+
+-- currentTime, implicitly tagged
 abbrev pub time_octets : ℕ → List ℕ
-time_octets moment = encoded false (context 5) (moment_text moment)
+time_octets moment = encoded false current_time (moment_text moment)
 
 -- the GetResult of an object, granted at a moment
 abbrev pub get_one : Set → List Rdn → Object → ℕ → List ℕ

@@ -28,9 +28,13 @@ named_object (named.Object name) = name
 abbrev pub name_of : Instance → List Rdn
 name_of instance = named_object instance.named
 
+-- the number of the error noSuchObjectInstance
+abbrev pub no_such_object : ℤ
+no_such_object = pos 1
+
 -- noSuchObjectInstance, with the instance as it came: X.711, section 7.5
 abbrev pub no_such_object_instance : Instance → CmisError
-no_such_object_instance instance = record { code = pos 1; parameter = Some instance.raw }
+no_such_object_instance instance = record { code = no_such_object; parameter = Some instance.raw }
 
 -- what an operation leaves and answers
 pub record Outcome : Type 0 where

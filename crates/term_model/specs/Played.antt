@@ -1,5 +1,6 @@
 -- The journal that a script gives. After an `open` all that was placed is taken. After a `send` the operation, where one was
--- queued, is granted and committed, and then all is taken. At the end each association is finished and closed.
+-- queued, is granted and committed, and then all is taken. At the end each association is finished and closed;
+-- docs/PROFILE.md, section 7.
 use Rattle.std.specs.Prelude.{ℕ, suc, zero, ◌+◌, ◌==◌, List, [], ◌∷◌, ◌++◌, length, nat_lt, if◌then◌else◌}
 use Rattle.std.specs.Option.{option_map_or}
 use Rattle.term_model.specs.declared.agent_state.AgentState.{AgentState}
@@ -10,7 +11,7 @@ use Rattle.term_model.specs.declared.entry.Why.TheVariants as why
 use Rattle.term_model.specs.declared.schema.Set.{Set}
 use Rattle.term_model.specs.AgentState.{start, association_of, left_to_take, is_live_state, is_closed_state}
 use Rattle.term_model.specs.Step.{step}
-use Rattle.term_model.specs.Texts.{journal_text, line_feed, outs}
+use Rattle.term_model.specs.Texts.{journal_text, outs, separator}
 
 -- a line of a script
 pub data ScriptLine : Type 0 where
@@ -75,4 +76,4 @@ played schema script = let lines = lines_played (beginning schema) script in clo
 
 -- what `run` prints: the journal, a line of two dashes, and what it comes to
 abbrev pub run_text : Set → List ScriptLine → List ℕ
-run_text schema script = journal_text (played schema script).journal ++ ((45 ∷ 45 ∷ line_feed) ++ outs (played schema script).agent)
+run_text schema script = journal_text (played schema script).journal ++ (separator ++ outs (played schema script).agent)

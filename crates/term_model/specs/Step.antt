@@ -1,4 +1,5 @@
--- One step of the one-manager agent: what an entry of the journal does, and when it may stand there.
+-- One step of the one-manager agent: what an entry of the journal does, and when it may stand there; docs/PROFILE.md,
+-- section 7.
 use Rattle.std.specs.Prelude.{ℕ, ◌+◌, ◌-◌, ◌==◌, ◌&&◌, ◌||◌, not, Bool, false, List, [], ◌∷◌, ◌++◌, length, map, flat_map, nat_lt, nat_le, slice_get, slice_set, Option, None, Some, is_some, if◌then◌else◌}
 use Rattle.std.specs.Option.{option_map_or}
 use Rattle.term_model.specs.declared.agent_state.AgentState.{AgentState}
@@ -23,7 +24,7 @@ use Rattle.term_model.specs.RemoteOperation.{frame}
 abbrev pub most_outstanding : ℕ
 most_outstanding = 64
 
--- the last moment that GeneralizedTime can tell
+-- the greatest moment of a journal, the last second of the year 9998
 abbrev pub last_moment : ℕ
 last_moment = 253370764799
 

@@ -1,4 +1,4 @@
--- Which entries the program can hold, and that different journals of them have different texts.
+-- Which entries the program can hold, and that different journals of them have different texts; docs/PROFILE.md, section 5.
 use Rattle.std.specs.Prelude.{◌≡◌, ℕ, ◌<◌, ◌^◌, List, ◌∷◌, ◌++◌}
 use Rattle.std.specs.List.{All}
 use Rattle.hex.specs.Hex.{IsBytes}
@@ -6,7 +6,7 @@ use Rattle.term_model.specs.declared.entry.Entry.{Entry}
 use Rattle.term_model.specs.declared.entry.Entry.TheVariants as entry
 use Rattle.term_model.specs.declared.entry.Why.{Why}
 use Rattle.term_model.specs.declared.entry.Why.TheVariants as why
-use Rattle.term_model.specs.Texts.{journal_text, line_feed}
+use Rattle.term_model.specs.Texts.{journal_text, separator}
 
 -- a number of 64 bits
 abbrev pub IsNumber : ℕ → Type 0
@@ -35,5 +35,5 @@ TextsDiffer = (xs ys : List Entry) → All IsEntry xs → All IsEntry ys → jou
 abbrev pub PrintTellsJournal : Type 0
 PrintTellsJournal =
     (xs ys : List Entry) (r s : List ℕ) → All IsEntry xs → All IsEntry ys
-    → journal_text xs ++ ((45 ∷ 45 ∷ line_feed) ++ r) ≡ journal_text ys ++ ((45 ∷ 45 ∷ line_feed) ++ s)
+    → journal_text xs ++ (separator ++ r) ≡ journal_text ys ++ (separator ++ s)
     → (xs ≡ ys) × (r ≡ s)

@@ -1,4 +1,4 @@
--- The texts of a journal and of what it comes to. Each line ends in a line feed.
+-- The texts of a journal and of what it comes to; docs/PROFILE.md, section 5. Each line ends in a line feed.
 use Rattle.std.specs.Prelude.{ℕ, ◌+◌, List, [], ◌∷◌, ◌++◌, codes, decimal, length, flat_map}
 use Rattle.hex.specs.Hex.{encode_upper}
 use Rattle.term_model.specs.declared.agent_state.AgentState.{AgentState}
@@ -10,6 +10,10 @@ use Rattle.term_model.specs.declared.entry.Why.TheVariants as why
 
 abbrev pub line_feed : List ℕ
 line_feed = 10 ∷ []
+
+-- the line of two dashes between a journal and what it comes to
+abbrev pub separator : List ℕ
+separator = 45 ∷ 45 ∷ line_feed
 
 abbrev pub two_words : List ℕ → ℕ → List ℕ → List ℕ
 two_words word number text = word ++ (decimal number ++ (codes " " ++ (text ++ line_feed)))

@@ -11,13 +11,16 @@ use term_values::{Bytes, Oid};
 /// An object under its name relative to the root.
 #[derive(Drop)]
 pub struct NamedObject {
+    /// Its name.
     pub name: Name,
+    /// The object itself.
     pub object: Object,
 }
 
 /// The objects of the system.
 #[derive(Drop)]
 pub struct Objects {
+    /// In the order in which they were made.
     pub items: Vec<NamedObject>,
 }
 
@@ -37,9 +40,11 @@ impl Model for Objects {
 /// How far an association has come.
 #[derive(Clone, Copy, Debug, PartialEq, Eq)]
 pub enum AssociationState {
+    /// Its manager may send.
     Live,
     /// No more comes from it.
     Finished,
+    /// It is closed, for this cause.
     Closed(Why),
 }
 
@@ -48,6 +53,7 @@ pub enum AssociationState {
 pub struct Association {
     /// The manager's title where it was admitted.
     pub title: Option<Oid>,
+    /// How far it has come.
     pub state: AssociationState,
     /// All bytes that were placed for it.
     pub placed: Bytes,
@@ -58,6 +64,7 @@ pub struct Association {
 /// The associations by number, the first of which is 1.
 #[derive(Drop)]
 pub struct Associations {
+    /// The first one has the number 1.
     pub items: Vec<Association>,
 }
 
@@ -73,6 +80,7 @@ impl Model for Associations {
 /// How far an operation has come.
 #[derive(Clone, Copy, Debug, PartialEq, Eq)]
 pub enum OperationState {
+    /// It has not all its locks yet.
     Waiting,
     /// It has all its locks since this time, in seconds since 1970.
     Granted(u64),
@@ -83,15 +91,20 @@ pub enum OperationState {
 /// An operation.
 #[derive(Drop)]
 pub struct Operation {
+    /// The number of the association that asked for it.
     pub association: u64,
+    /// The invoke id of its APDU.
     pub invoke: i32,
+    /// What was asked for.
     pub request: Request,
+    /// How far it has come.
     pub state: OperationState,
 }
 
 /// The operations by number, the first of which is 1.
 #[derive(Drop)]
 pub struct Operations {
+    /// The first one has the number 1.
     pub items: Vec<Operation>,
 }
 
@@ -107,9 +120,13 @@ impl Model for Operations {
 /// The agent between two entries.
 #[derive(Drop)]
 pub struct AgentState {
+    /// The records of the documents.
     pub schema: Set,
+    /// The objects as they are now.
     pub objects: Objects,
+    /// All associations that were opened.
     pub associations: Associations,
+    /// All operations that were queued.
     pub operations: Operations,
     /// How many entries came so far.
     pub entries: u64,

@@ -10,34 +10,39 @@ pub enum Why {
     End,
     /// A frame that begins at this byte of the input has a length out of bounds or no end.
     BadFrame(u64),
+    /// Its input failed.
     ReadFault,
+    /// Its output failed.
     WriteFault,
+    /// The journal had no room.
     JournalFull,
+    /// There was no memory.
     Memory,
 }
 
 /// One step of the agent. Associations and operations are numbered from 1.
 #[derive(Drop)]
 pub enum Entry {
-    /// An association was asked for by a BIND.
+    /// This association was asked for by this BIND.
     Opened(u64, Bytes),
-    /// An APDU of an association arrived.
+    /// Of this association this APDU arrived.
     Arrived(u64, Bytes),
-    /// An operation has all its locks, at a time in seconds since 1970.
+    /// This operation has all its locks, at this time in seconds since 1970.
     Granted(u64, u64),
-    /// An operation was performed.
+    /// This operation was performed.
     Committed(u64),
-    /// So many bytes of those placed for an association were taken to be sent.
+    /// Of those placed for this association so many bytes were taken to be sent.
     Taken(u64, u64),
-    /// No more comes from an association.
+    /// No more comes from this association.
     Finished(u64),
-    /// An association was closed.
+    /// This association was closed, for this cause.
     Closed(u64, Why),
 }
 
 /// Entries in their order.
 #[derive(Drop)]
 pub struct Entries {
+    /// The first one stands at the place 0.
     pub items: Vec<Entry>,
 }
 

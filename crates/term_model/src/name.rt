@@ -10,6 +10,7 @@ use term_values::{Bytes, Oid};
 /// A relative distinguished name of one attribute value assertion.
 #[derive(PartialEq, Eq, Drop)]
 pub struct Rdn {
+    /// The identifier of the attribute.
     pub attribute: Oid,
     /// The asserted value in its written encoding.
     pub value: Bytes,
@@ -29,6 +30,7 @@ impl Rdn {
 /// A name below the root, its superior's part first. The root's own name is empty.
 #[derive(Drop)]
 pub struct Name {
+    /// The parts.
     pub parts: Vec<Rdn>,
 }
 

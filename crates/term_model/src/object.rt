@@ -6,9 +6,13 @@ use std::alloc::{AllocError, Global};
 use std::marker::Model;
 use term_values::{Oid, Value};
 
+/// The most octets of an object, as the encoding of its attributes as SET OF Attribute. This is the project's own limit.
+pub const MOST_OBJECT: usize = 16_384;
+
 /// Identifiers in their order.
 #[derive(Drop)]
 pub struct Oids {
+    /// The identifiers.
     pub items: Vec<Oid>,
 }
 
@@ -23,7 +27,9 @@ impl Model for Oids {
 /// An attribute of an object, with its value.
 #[derive(Drop)]
 pub struct Attribute {
+    /// Its identifier.
     pub id: Oid,
+    /// Its value, which fits its syntax.
     pub value: Value,
 }
 
@@ -43,6 +49,7 @@ impl Attribute {
 /// The attributes of an object by rising identifier.
 #[derive(Drop)]
 pub struct Attrs {
+    /// Each identifier once.
     pub items: Vec<Attribute>,
 }
 
@@ -75,10 +82,12 @@ impl Attrs {
 /// A managed object.
 #[derive(Drop)]
 pub struct Object {
+    /// The identifier of its class.
     pub class: Oid,
     /// The name binding by which it is named; none for the root.
     pub binding: Option<Oid>,
     /// The conditional packages that its creation named.
     pub chosen: Oids,
+    /// Its attributes.
     pub attrs: Attrs,
 }

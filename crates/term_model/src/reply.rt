@@ -8,6 +8,7 @@ pub const NO_SUCH_OBJECT_INSTANCE: i64 = 1;
 /// An error of CMIP.
 #[derive(Drop)]
 pub struct CmisError {
+    /// The number of the error.
     pub code: i64,
     /// The written encoding of the parameter.
     pub parameter: Option<Bytes>,
@@ -18,5 +19,6 @@ pub struct CmisError {
 pub enum Reply {
     /// The written encoding of the result.
     Single(Bytes),
+    /// The error in place of a result.
     Error(CmisError),
 }

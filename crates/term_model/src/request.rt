@@ -22,13 +22,16 @@ pub enum Named {
 pub struct Instance {
     /// As it is given back: with the shortest definite lengths.
     pub raw: Bytes,
+    /// What it names.
     pub named: Named,
 }
 
 /// The base object of a request.
 #[derive(Drop)]
 pub struct Head {
+    /// The class that the manager takes it for.
     pub class: IdRef,
+    /// The object.
     pub base: Instance,
 }
 
@@ -36,12 +39,17 @@ pub struct Head {
 #[derive(Drop)]
 pub enum Request {
     /// m-Get of the base object alone, for all its attributes.
-    Get { head: Head },
+    Get {
+        /// The base object.
+        head: Head,
+    },
 }
 
 /// A request with its invoke id: X.229, section 9.
 #[derive(Drop)]
 pub struct Asked {
+    /// The invoke id.
     pub id: i32,
+    /// The request.
     pub request: Request,
 }

@@ -5,28 +5,38 @@ use crate::object::Attrs;
 use std::marker::Model;
 use term_values::{Bytes, Oid, Syntax};
 
-/// The matching rules that an attribute has: X.722, section 8.9.
+/// The matching rules that an attribute has: X.722, section 8.7.
 #[derive(Clone, Copy, Debug, PartialEq, Eq)]
 pub struct Rules {
+    /// EQUALITY
     pub equality: bool,
+    /// ORDERING
     pub ordering: bool,
+    /// SUBSTRINGS
     pub substrings: bool,
+    /// SET-COMPARISON
     pub comparison: bool,
+    /// SET-INTERSECTION
     pub intersection: bool,
 }
 
-/// An attribute: X.722, section 8.9.
+/// An attribute: X.722, section 8.7.
 #[derive(Drop)]
 pub struct AttrRec {
+    /// The identifier under which it is registered.
     pub id: Oid,
+    /// Its label.
     pub label: Bytes,
+    /// The syntax of its values.
     pub syntax: Syntax,
+    /// The rules by which its values match.
     pub rules: Rules,
 }
 
 /// Attributes in the order of their documents.
 #[derive(Drop)]
 pub struct AttrRecs {
+    /// The records.
     pub items: Vec<AttrRec>,
 }
 
@@ -43,17 +53,21 @@ impl Model for AttrRecs {
     ghost view = { λ records. records.items.items };
 }
 
-/// What a class lets managers do with an attribute: X.722, section 8.3, the property list.
+/// What a class lets managers do with an attribute: X.722, section 8.4, the property list.
 #[derive(Drop)]
 pub struct Property {
+    /// The identifier of the attribute.
     pub attribute: Oid,
+    /// GET: its value may be read.
     pub get: bool,
+    /// REPLACE: its value may be replaced.
     pub replace: bool,
 }
 
 /// The properties of the attributes of a class, in the order in which they were stated.
 #[derive(Drop)]
 pub struct Properties {
+    /// The properties.
     pub items: Vec<Property>,
 }
 
@@ -69,14 +83,18 @@ impl Model for Properties {
 /// A managed object class: X.722, section 8.3.
 #[derive(Drop)]
 pub struct ClassRec {
+    /// The identifier under which it is registered.
     pub id: Oid,
+    /// Its label.
     pub label: Bytes,
+    /// The attributes of its objects, with their properties.
     pub properties: Properties,
 }
 
 /// Classes in the order of their documents.
 #[derive(Drop)]
 pub struct ClassRecs {
+    /// The records.
     pub items: Vec<ClassRec>,
 }
 
@@ -92,6 +110,7 @@ impl Model for ClassRecs {
 /// An object that is there at the opening.
 #[derive(Drop)]
 pub struct InstRec {
+    /// The identifier of its class.
     pub class: Oid,
     /// Its name relative to the root; empty for the root.
     pub name: Name,
@@ -102,6 +121,7 @@ pub struct InstRec {
 /// Objects at the opening in the order of their documents, superiors first.
 #[derive(Drop)]
 pub struct InstRecs {
+    /// The records.
     pub items: Vec<InstRec>,
 }
 
@@ -124,8 +144,12 @@ pub type SystemName = Name;
 /// The compiled schema: all records that the documents define.
 #[derive(Drop)]
 pub struct Set {
+    /// The managed object classes.
     pub classes: ClassRecs,
+    /// The attributes.
     pub attributes: AttrRecs,
+    /// The objects at the opening.
     pub instances: InstRecs,
+    /// The system's name.
     pub system: SystemName,
 }

@@ -1,4 +1,4 @@
--- Which values a syntax has, and the tree that denotes a value: X.680, section 18; X.690, section 8.3.
+-- Which values a syntax has, and the tree that denotes a value: X.680, section 19; X.690, section 8.3.
 use Rattle.std.specs.Prelude.{ℕ, List}
 use Rattle.std.specs.Prelude.{FitsSigned}
 use Rattle.std.specs.Int.{w64}

@@ -4,10 +4,9 @@ use Rattle.term_model.specs.declared.agent_state.NamedObject.{NamedObject}
 use Rattle.term_model.specs.declared.entry.Entry.{Entry}
 use Rattle.term_model.specs.History.{replay}
 use Rattle.term_model.specs.Played.{Play}
-use Rattle.term_model.specs.Texts.{journal_text, outs}
+use Rattle.term_model.specs.Texts.{journal_text, outs, separator}
 use Rattle.term_model.specs.WellFormedMib.{IsWellFormedMib}
 use Rattle.term_model.proofs.ObjectLaws.{replay_objects}
-use Rattle.agent_run.specs.Running.{separator}
 use Rattle.agent_run.proofs.running.play.Goals as goal
 
 pub returns : goal.returns
