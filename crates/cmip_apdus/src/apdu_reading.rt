@@ -16,10 +16,14 @@ use ber_tree::tree_writing::write_tree;
 use op_object::object_reading::{GLOBAL_FORM, LOCAL_DISTINGUISHED_NAME};
 use std::alloc::{AllocError, Global};
 use term_model::{Asked, Head, IdRef, Instance, Name, Named, Rdn, Request};
+use term_values::tag::CONTEXT;
 use term_values::{Body, Bytes, Oid, Tag, Tree};
 
 /// The tag of an Invoke APDU.
-pub const INVOKE: Tag = Tag::context(1);
+pub const INVOKE: Tag = Tag {
+    class: CONTEXT,
+    number: 1,
+};
 
 /// The operation m-Get.
 pub const M_GET: i64 = 3;

@@ -14,13 +14,20 @@ use ber_tree::value_writing::{write_integer, write_oid, write_value};
 use op_object::object_reading::{GLOBAL_FORM, write_instance};
 use std::alloc::{AllocError, Global};
 use term_model::{CmisError, Rdn, Reply};
+use term_values::tag::CONTEXT;
 use term_values::{Oid, Tag};
 
 /// The tag of a Result APDU.
-const RESULT: Tag = Tag::context(2);
+const RESULT: Tag = Tag {
+    class: CONTEXT,
+    number: 2,
+};
 
 /// The tag of an Error APDU.
-const ERROR: Tag = Tag::context(3);
+const ERROR: Tag = Tag {
+    class: CONTEXT,
+    number: 3,
+};
 
 /// The octets of a frame's length.
 const LENGTH_OCTETS: u32 = 4;

@@ -11,19 +11,32 @@ use ber_tree::tree_writing::write_integer_contents;
 use ber_tree::value_writing::{write_oid, write_value};
 use std::alloc::{AllocError, Global};
 use term_model::{Attribute, Attrs, Object, Rdn, Set};
+use term_values::tag::CONTEXT;
 use term_values::{Bytes, Oid, Tag, Value, ValueForm};
 
 /// The tag of globalForm: X.711, ObjectClass and AttributeId.
-pub const GLOBAL_FORM: Tag = Tag::context(0);
+pub const GLOBAL_FORM: Tag = Tag {
+    class: CONTEXT,
+    number: 0,
+};
 
 /// The tag of localDistinguishedName: X.711, ObjectInstance.
-pub const LOCAL_DISTINGUISHED_NAME: Tag = Tag::context(4);
+pub const LOCAL_DISTINGUISHED_NAME: Tag = Tag {
+    class: CONTEXT,
+    number: 4,
+};
 
 /// The tag of currentTime in a result.
-const CURRENT_TIME: Tag = Tag::context(5);
+const CURRENT_TIME: Tag = Tag {
+    class: CONTEXT,
+    number: 5,
+};
 
 /// The tag of the attribute list in a result.
-const ATTRIBUTE_LIST: Tag = Tag::context(6);
+const ATTRIBUTE_LIST: Tag = Tag {
+    class: CONTEXT,
+    number: 6,
+};
 
 /// The moment 0 as GeneralizedTime.
 const EPOCH_TEXT: &[u8] = b"19700101000000Z";
