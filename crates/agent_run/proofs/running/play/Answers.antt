@@ -7,6 +7,7 @@ use Rattle.term_model.specs.Played.{Play}
 use Rattle.term_model.specs.Texts.{journal_text, outs}
 use Rattle.term_model.specs.WellFormedMib.{IsWellFormedMib}
 use Rattle.term_model.proofs.ObjectLaws.{replay_objects}
+use Rattle.term_model.proofs.TextLaws.{print_tells_journal}
 use Rattle.agent_run.specs.Running.{separator}
 use Rattle.agent_run.proofs.running.play.Goals as goal
 
@@ -22,4 +23,7 @@ returns c =
       legal = play.legal;
       obeys = λ before after whole. subst (λ (objects : List NamedObject). IsWellFormedMib schema objects) (sym (replay_objects schema before)) c.requires.opening;
       printed = c.in_ok-text.ensures ∙ ap (λ agent. journal_text journal ++ (separator ++ outs agent)) (sym play.replayed);
+      held = play.held;
+      determined = λ other rest held same.
+          (print_tells_journal other journal rest (outs c.in_ok-played.played.agent) held play.held (sym same ∙ c.in_ok-text.ensures)).0;
     }
