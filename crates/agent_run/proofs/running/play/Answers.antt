@@ -1,8 +1,6 @@
-use Rattle.std.proofs.Common.{◌≡◌, ◌++◌, List, ap, sym, ◌∙◌}
+use Rattle.std.proofs.Common.{◌++◌, List, ap, sym, ◌∙◌}
 use Rattle.std.proofs.Math.Path.{subst}
 use Rattle.term_model.specs.declared.agent_state.NamedObject.{NamedObject}
-use Rattle.term_model.specs.declared.entry.Entry.{Entry}
-use Rattle.term_model.specs.History.{replay}
 use Rattle.term_model.specs.Played.{Play}
 use Rattle.term_model.specs.Texts.{journal_text, outs}
 use Rattle.term_model.specs.WellFormedMib.{IsWellFormedMib}
