@@ -1,11 +1,13 @@
 -- What a run of the program is: the words, the files that they name, and the text that is printed.
 use Rattle.std.specs.Prelude.{◌≡◌, ◌≢◌, ◌≤◌, ℕ, List, [], ◌∷◌, ◌++◌, IsTrue, Option, codes, length, slice_index}
+use Rattle.std.specs.List.{All}
 use Rattle.agent_bytes.specs.Told.{IsFile, gained}
 use Rattle.term_model.specs.declared.entry.Entry.{Entry}
 use Rattle.term_model.specs.declared.schema.ClassRec.{ClassRec}
 use Rattle.term_model.specs.declared.schema.Set.{Set}
 use Rattle.term_model.specs.History.{came, is_legal_journal, replay}
 use Rattle.term_model.specs.Played.{played}
+use Rattle.term_model.specs.TextLaws.{IsEntry}
 use Rattle.term_model.specs.Texts.{journal_text, outs, separator}
 use Rattle.term_model.specs.WellFormedMib.{IsWellFormedMib}
 use Rattle.text_lex.specs.declared.token.Token.{Token}
@@ -32,7 +34,8 @@ Obeys schema journal = (before after : List Entry) → journal ≡ before ++ aft
 
 -- The text is the journal of the script, a line of two dashes, and what the one-manager agent places on that journal. The
 -- association's frames stand in the journal in their order, and no others; each entry may stand where it stands; and every
--- object obeys its templates all along.
+-- object obeys its templates all along. Each entry is one that the program can hold, and the text is that of no other journal
+-- of such entries.
 pub record IsPlayed (schema : Set) (bind : List ℕ) (sends : List (List ℕ)) (text : List ℕ) : Type 0 where
   pub journal : List Entry
   pub of_script : journal ≡ (played schema (script_lines bind sends)).journal
@@ -40,6 +43,8 @@ pub record IsPlayed (schema : Set) (bind : List ℕ) (sends : List (List ℕ)) (
   pub legal : IsTrue (is_legal_journal schema journal)
   pub obeys : Obeys schema journal
   pub printed : text ≡ journal_text journal ++ (separator ++ outs (replay schema journal))
+  pub held : All IsEntry journal
+  pub determined : (other : List Entry) (rest : List ℕ) → All IsEntry other → text ≡ journal_text other ++ (separator ++ rest) → other ≡ journal
 
 -- the text is what a script comes to on the records of a document
 pub record IsRun (script document text : List ℕ) : Type 0 where

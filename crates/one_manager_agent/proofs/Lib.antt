@@ -1,3 +1,4 @@
 pub mod FindingLaws
+pub mod HeldLaws
 pub mod JournalLaws
 pub mod PlayLaws

@@ -1,12 +1,14 @@
 //! Plays a script on the one-manager agent: the journal that it gives, and the state after it.
 
 ghost use Rattle.std.specs.Prelude.{◌≡◌, ◌+◌, ◌^◌, ◌<◌, ◌++◌, [], ◌∷◌, length, IsTrue, OnOk, IfOk, IsSome};
+ghost use Rattle.std.specs.List.{All};
 ghost use Rattle.term_model.specs.AgentState.{start};
 ghost use Rattle.term_model.specs.Bind.{title_in};
 ghost use Rattle.term_model.specs.History.{came, is_legal_journal, replay};
 ghost use Rattle.term_model.specs.Played.{answered, closed, line_played, played, taken_all, with_entry};
 ghost use Rattle.term_model.specs.Played.ScriptLine.{Open, Send};
 ghost use Rattle.term_model.specs.Step.{is_legal};
+ghost use Rattle.term_model.specs.TextLaws.{IsEntry};
 ghost use Rattle.one_manager_agent.specs.Playing.{IsFresh, IsReady, script_lines, so_far, sole};
 
 use crate::agent_steps::{
@@ -87,8 +89,9 @@ impl Play {
     /// Takes all that is left, and writes down how much, where something is left.
     fn take(&mut self) -> Result<(), AllocError>
         requires counted { self.old.agent.entries ≡ length self.old.journal }
-        ensures { OnOk result (so_far self.new.agent self.new.journal
+        ensures played { OnOk result (so_far self.new.agent self.new.journal
             ≡ taken_all ASSOCIATION (so_far self.old.agent self.old.journal)) }
+        ensures held { OnOk result (All IsEntry self.old.journal → All IsEntry self.new.journal) }
     {
         make_room(&mut self.journal, 1)?;
         let count = take_all(&mut self.agent, ASSOCIATION);
@@ -106,8 +109,10 @@ impl Play {
         ensures played { OnOk result (so_far self.new.agent self.new.journal
             ≡ line_played (so_far self.old.agent self.old.journal) (Open bind)) }
         ensures ready { OnOk result (IsReady self.new.agent self.new.journal) }
+        ensures held { OnOk result (All IsEntry self.old.journal → All IsEntry self.new.journal) }
     {
-        open(alloc, &mut self.agent, ASSOCIATION, bind.as_slice())?;
+        let octets = bind.as_slice();
+        open(alloc, &mut self.agent, ASSOCIATION, octets)?;
         write_down(&mut self.journal, Entry::Opened(ASSOCIATION, bind))?;
         self.take()
     }
@@ -118,10 +123,12 @@ impl Play {
         ensures played { OnOk result (so_far self.new.agent self.new.journal
             ≡ line_played (so_far self.old.agent self.old.journal) (Send ASSOCIATION apdu)) }
         ensures ready { OnOk result (IsReady self.new.agent self.new.journal) }
+        ensures held { OnOk result (All IsEntry self.old.journal → All IsEntry self.new.journal) }
     {
         let before = count_operations(&self.agent);
         make_room(&mut self.journal, 1)?;
-        arrive(alloc, &mut self.agent, ASSOCIATION, apdu.as_slice())?;
+        let octets = apdu.as_slice();
+        arrive(alloc, &mut self.agent, ASSOCIATION, octets)?;
         write_down(&mut self.journal, Entry::Arrived(ASSOCIATION, apdu))?;
         self.answer(alloc, before)?;
         self.take()
@@ -132,8 +139,9 @@ impl Play {
         requires counted { self.old.agent.entries ≡ length self.old.journal }
         requires legal { before < length self.old.agent.operations
             → IsTrue (is_legal self.old.agent (Entry.Granted (length self.old.agent.operations) SCRIPT_START)) }
-        ensures { OnOk result (so_far self.new.agent self.new.journal
+        ensures played { OnOk result (so_far self.new.agent self.new.journal
             ≡ answered before (so_far self.old.agent self.old.journal)) }
+        ensures held { OnOk result (All IsEntry self.old.journal → All IsEntry self.new.journal) }
     {
         let number = count_operations(&self.agent);
         if number <= before {
@@ -146,9 +154,10 @@ impl Play {
     fn perform(&mut self, alloc: Global, number: u64) -> Result<(), AllocError>
         requires counted { self.old.agent.entries ≡ length self.old.journal }
         requires legal { IsTrue (is_legal self.old.agent (Entry.Granted number SCRIPT_START)) }
-        ensures { OnOk result (so_far self.new.agent self.new.journal
+        ensures played { OnOk result (so_far self.new.agent self.new.journal
             ≡ with_entry (with_entry (so_far self.old.agent self.old.journal) (Entry.Granted number SCRIPT_START))
             (Entry.Committed number)) }
+        ensures held { OnOk result (All IsEntry self.old.journal → All IsEntry self.new.journal) }
     {
         make_room(&mut self.journal, 2)?;
         grant(&mut self.agent, number);
@@ -161,8 +170,9 @@ impl Play {
     /// Finishes and closes the association.
     fn close(&mut self) -> Result<(), AllocError>
         requires { IsReady self.old.agent self.old.journal }
-        ensures { OnOk result (so_far self.new.agent self.new.journal
+        ensures played { OnOk result (so_far self.new.agent self.new.journal
             ≡ closed ASSOCIATION (so_far self.old.agent self.old.journal)) }
+        ensures held { OnOk result (All IsEntry self.old.journal → All IsEntry self.new.journal) }
     {
         make_room(&mut self.journal, 2)?;
         finish(&mut self.agent, ASSOCIATION);
@@ -192,6 +202,9 @@ pub fn perform_script(
 
     // Its frames are the BIND and these APDUs, in their order, and no others.
     ensures frames { IfOk result (λ play. came sole play.journal ≡ bind ∷ sends.items) }
+
+    // Each number of it has 64 bits, and each octet has 8.
+    ensures held { IfOk result (λ play. All IsEntry play.journal) }
 {
     let mut play = Play {
         agent: opened_agent(alloc, schema)?,

@@ -1,12 +1,11 @@
-use Rattle.std.proofs.Common.{◌≡◌, ◌++◌, List, ap, sym, ◌∙◌}
+use Rattle.std.proofs.Common.{◌++◌, List, ap, sym, ◌∙◌}
 use Rattle.std.proofs.Math.Path.{subst}
 use Rattle.term_model.specs.declared.agent_state.NamedObject.{NamedObject}
-use Rattle.term_model.specs.declared.entry.Entry.{Entry}
-use Rattle.term_model.specs.History.{replay}
 use Rattle.term_model.specs.Played.{Play}
 use Rattle.term_model.specs.Texts.{journal_text, outs, separator}
 use Rattle.term_model.specs.WellFormedMib.{IsWellFormedMib}
 use Rattle.term_model.proofs.ObjectLaws.{replay_objects}
+use Rattle.term_model.proofs.TextLaws.{print_tells_journal}
 use Rattle.agent_run.proofs.running.play.Goals as goal
 
 pub returns : goal.returns
@@ -21,4 +20,7 @@ returns c =
       legal = play.legal;
       obeys = λ before after whole. subst (λ (objects : List NamedObject). IsWellFormedMib schema objects) (sym (replay_objects schema before)) c.requires.opening;
       printed = c.in_ok-text.ensures ∙ ap (λ agent. journal_text journal ++ (separator ++ outs agent)) (sym play.replayed);
+      held = play.held;
+      determined = λ other rest held same.
+          (print_tells_journal other journal rest (outs c.in_ok-played.played.agent) held play.held (sym same ∙ c.in_ok-text.ensures)).0;
     }

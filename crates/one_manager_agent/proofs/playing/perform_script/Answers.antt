@@ -1,8 +1,11 @@
-use Rattle.std.proofs.Common.{◌≡◌, ◌++◌, [], ◌∷◌, List, length, sym, ap, ◌∙◌, refl, arith, append_assoc}
+use Rattle.std.proofs.Common.{◌≡◌, ◌++◌, [], ◌∷◌, List, length, sym, ap, ◌∙◌, refl, arith, append_assoc, subst}
+use Rattle.std.specs.List.{All}
 use Rattle.std.proofs.lemmas.List.{append-nil}
+use Rattle.std.proofs.lemmas.List.Elements.{All-nil}
 use Rattle.term_model.specs.AgentState.{start}
 use Rattle.term_model.specs.History.{came, is_legal_journal, replay}
 use Rattle.term_model.specs.Played.{Play, beginning, line_played, lines_played}
+use Rattle.term_model.specs.TextLaws.{IsEntry}
 use Rattle.term_model.specs.Played.ScriptLine.{Open, Send}
 use Rattle.one_manager_agent.specs.Playing.{script_lines, so_far, sole}
 use Rattle.one_manager_agent.proofs.JournalLaws.{script_faithful, script_frames}
@@ -20,6 +23,7 @@ loop-apdu-init c = record {
       ∙ (ap (λ a. line_played (so_far a c.new.result.items) (Open c.args.bind)) c.in_ok-opened_agent.ensures
       ∙ ap (λ xs. line_played (so_far (start c.args.schema) xs) (Open c.args.bind)) c.new.ensures.items);
   rest = c.into_iter-apdu-iterator.ensures.into_iter_gives.0;
+  held = c.in_ok-open.ensures.held (subst (λ xs. All IsEntry xs) (sym c.new.ensures.items) (All-nil IsEntry));
 }
 
 pub loop-apdu-preserved : goal.loop-apdu-preserved
@@ -35,6 +39,7 @@ loop-apdu-preserved c =
       rest =
           append_assoc yielded (apdu ∷ []) c.next.new.self.rest.items
           ∙ (ap (λ xs. yielded ++ xs) (sym c.in-Some.ensures.steps.0) ∙ c.loop-apdu.invariant.rest);
+      held = c.in_ok-send.ensures.held c.loop-apdu.invariant.held;
     }
 
 pub close-requires : goal.close-requires
@@ -53,7 +58,7 @@ returns-clause-played c =
     let none : rest.items ≡ [] = none_of rest.items (sym rest.ok.0 ∙ c.in-None.ensures.steps.0) in
     let all : yielded ≡ c.args.sends.items = sym (append-nil yielded) ∙ (ap (λ xs. yielded ++ xs) (sym none) ∙ c.loop-apdu.invariant.rest) in
     let played = c.loop-apdu.invariant.played ∙ ap (λ xs. lines_played (beginning schema) (script_lines bind xs)) all in
-    c.in_ok-close.ensures ∙ script_closed schema bind c.args.sends.items c.loop-apdu.play.agent c.loop-apdu.play.journal c.loop-apdu.invariant.ready played
+    c.in_ok-close.ensures.played ∙ script_closed schema bind c.args.sends.items c.loop-apdu.play.agent c.loop-apdu.play.journal c.loop-apdu.invariant.ready played
 
 pub returns-clause-legal : goal.returns-clause-legal
 returns-clause-legal c =
@@ -70,3 +75,6 @@ returns-clause-replayed c =
 
 pub returns-clause-frames : goal.returns-clause-frames
 returns-clause-frames c = ap (λ (p : Play). came sole p.journal) (returns-clause-played c) ∙ script_frames c.args.schema c.args.bind c.args.sends.items
+
+pub returns-clause-held : goal.returns-clause-held
+returns-clause-held c = c.in_ok-close.ensures.held c.loop-apdu.invariant.held
