@@ -1,6 +1,6 @@
--- The first form of a script: digits spell one list of octets, and a text has one first line.
-use Rattle.std.proofs.Common.{◌≡◌, ℕ, zero, suc, ◌+◌, ◌/◌, ◌%◌, ◌<◌, ◌≤◌, Bool, true, false, List, [], ◌∷◌, ◌++◌, length, take, drop, get_or, slice_index, Option, Some, None, Result, Ok, Err, refl, sym, ap, ◌∙◌, subst, append_assoc, arith, Bor, inl, inr}
-use Rattle.std.specs.Prelude.{◌==◌, ◌≢◌, ◌⊎◌, codes, flat_map, nat_eq, IfOk, IfSome, IfNone, MatchOption}
+-- The first form of a script: digits spell one list of octets, a text has one first line, and it is one script alone.
+use Rattle.std.proofs.Common.{◌≡◌, ℕ, suc, ◌+◌, ◌/◌, ◌%◌, ◌<◌, true, false, List, [], ◌∷◌, ◌++◌, length, take, drop, slice_index, Option, Some, None, Result, Ok, Err, refl, sym, ap, ◌∙◌, subst, append_assoc, arith, Bor, inl, inr}
+use Rattle.std.specs.Prelude.{◌≢◌, ◌⊎◌, flat_map, nat_eq, IfSome, IfNone, MatchOption}
 use Rattle.std.specs.Cmp.Lexicographic.{other_text, pointwise, same_text}
 use Rattle.std.proofs.Math.Seq.{take-append_seam}
 use Rattle.std.proofs.lemmas.Bool.{eqb-false}
@@ -8,10 +8,10 @@ use Rattle.std.proofs.lemmas.List.{append_cancel_left, take-append-drop}
 use Rattle.hex.specs.Hex.{IsBytes, decode_of, encode_upper, encode_with, hex_digit_value, upper_digits}
 use Rattle.hex.specs.declared.error.FromHexError.{FromHexError}
 use Rattle.hex.specs.declared.error.FromHexError.TheVariants.{OutOfMemory}
-use Rattle.hex.proofs.HexLemmas.{IsDigits-upper_digits, decode_of-encode_upper, decode_of-ok, decode_of-same}
+use Rattle.hex.proofs.HexLemmas.{IsDigits-upper_digits, decode_of-encode_upper, decode_of-same}
 use Rattle.first_script.specs.declared.script_refusal.ScriptRefusal.{ScriptRefusal}
 use Rattle.first_script.specs.declared.script_refusal.ScriptRefusal.TheVariants.{Outside}
-use Rattle.first_script.specs.ScriptForm.{IsFirstLine, IsHeld, IsOpening, IsScript, IsSending, IsSends, IsUnbroken, MaySend, most_octets, open_word, send_line, send_word}
+use Rattle.first_script.specs.ScriptForm.{IsFirstLine, IsHeld, IsOpening, IsScript, IsSending, IsSends, IsUnbroken, MaySend, OneScript, open_word, send_line, send_word}
 use Rattle.term_model.specs.Texts.{line_feed}
 
 -- ---- digits
@@ -126,7 +126,22 @@ shape word digits rest =
     ∙ (ap (λ z. word ++ z) (append_assoc digits line_feed rest)
     ∙ sym (append_assoc word digits (10 ∷ rest)))
 
+-- a first line of digits behind a word has one list of octets
+same_line : (word a b r s : List ℕ) → Unbroken word → IsHeld a → IsHeld b
+    → (word ++ (encode_upper a ++ line_feed)) ++ r ≡ (word ++ (encode_upper b ++ line_feed)) ++ s → (a ≡ b) × (r ≡ s)
+same_line word a b r s front ha hb e =
+    let left = unbroken-append word (encode_upper a) front (digits_unbroken a ha.octets_all) in
+    let right = unbroken-append word (encode_upper b) front (digits_unbroken b hb.octets_all) in
+    let lines = sym (shape word (encode_upper a) r) ∙ (e ∙ shape word (encode_upper b) s) in
+    let same = one_line (word ++ encode_upper a) (word ++ encode_upper b) r s left right lines in
+    (same_behind word a b same.0 ha hb, same.1)
+
 -- ---- the lines that send
+
+no_line : (apdu : List ℕ) (more : List (List ℕ)) → [] ≡ flat_map send_line (apdu ∷ more) → ⊥
+no_line apdu more e =
+    broken (send_word ++ encode_upper apdu) (flat_map send_line more)
+    (subst Unbroken (e ∙ shape send_word (encode_upper apdu) (flat_map send_line more)) tt)
 
 -- one more line in front
 pub sends_more : (class rest line others apdu : List ℕ) (sends : List (List ℕ)) → IsFirstLine rest line others
@@ -167,7 +182,38 @@ script_first class text line rest octets sends f h =
     let same = one_line line (open_word ++ encode_upper octets) rest (flat_map send_line sends) (unbroken line f.unbroken) front e in
     (record { spelt = same.0; held = h.held; is = h.opening }, record { spelt = same.1; each = h.each })
 
+-- what its first line opens and the others send
+pub script_of : (class text line rest octets : List ℕ) (sends : List (List ℕ)) → IsFirstLine text line rest
+    → IsOpening line octets → IsSends class rest sends → IsScript class text octets sends
+script_of class text line rest octets sends f o h = record {
+  spelt =
+      f.parts
+      ∙ (ap (λ l. l ++ (10 ∷ rest)) o.spelt
+      ∙ (ap (λ r. (open_word ++ encode_upper octets) ++ (10 ∷ r)) h.spelt
+      ∙ sym (shape open_word (encode_upper octets) (flat_map send_line sends))));
+  held = o.held;
+  opening = o.is;
+  each = h.each;
+}
+
 pub script_none : (class text octets : List ℕ) (sends : List (List ℕ)) → IsUnbroken text → IsScript class text octets sends → ⊥
 script_none class text octets sends u h =
     broken (open_word ++ encode_upper octets) (flat_map send_line sends)
     (subst Unbroken (h.spelt ∙ shape open_word (encode_upper octets) (flat_map send_line sends)) (unbroken text u))
+
+-- ---- one script alone
+
+same_sends : (class : List ℕ) (xs ys : List (List ℕ)) → flat_map send_line xs ≡ flat_map send_line ys → MaySend class xs
+    → MaySend class ys → xs ≡ ys
+same_sends class [] [] e hx hy = refl
+same_sends class [] (y ∷ ys) e hx hy = absurd (no_line y ys e)
+same_sends class (x ∷ xs) [] e hx hy = absurd (no_line x xs (sym e))
+same_sends class (x ∷ xs) (y ∷ ys) e hx hy =
+    let parts = same_line send_word x y (flat_map send_line xs) (flat_map send_line ys) send_unbroken hx.0 hy.0 e in
+    ap (λ l. x ∷ l) (same_sends class xs ys parts.1 hx.2 hy.2) ∙ ap (λ z. z ∷ ys) parts.0
+
+pub one_script : OneScript
+one_script class text bind other sends others h g =
+    let e = sym h.spelt ∙ g.spelt in
+    let parts = same_line open_word bind other (flat_map send_line sends) (flat_map send_line others) open_unbroken h.held g.held e in
+    (parts.0, same_sends class sends others parts.1 h.each g.each)

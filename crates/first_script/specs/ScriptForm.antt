@@ -83,6 +83,12 @@ pub record IsScript (class text octets : List ℕ) (sends : List (List ℕ)) : T
   pub opening : IsWrittenBind octets
   pub each : MaySend class sends
 
+-- a text is one script alone
+abbrev pub OneScript : Type 0
+OneScript =
+    (class text bind other : List ℕ) (sends others : List (List ℕ)) → IsScript class text bind sends → IsScript class text other others
+    → (bind ≡ other) × (sends ≡ others)
+
 -- a list holds no line feed
 abbrev pub IsUnbroken : List ℕ → Type 0
 IsUnbroken octets = (k : ℕ) → k < length octets → slice_index octets k ≢ 10

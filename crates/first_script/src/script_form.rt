@@ -194,6 +194,8 @@ fn read_sends(alloc: Global, text: &[u8], class: &Oid) -> Result<Vec<Bytes>, Scr
 /// no such script.
 pub fn read_script(alloc: Global, text: &[u8], class: &Oid) -> Result<Script, ScriptRefusal>
     ensures found { IfOk result (λ script. IsScript class.now text.now script.bind script.sends.items) }
+    ensures only { IfOk result (λ script. (bind : List ℕ) (sends : List (List ℕ)) → IsScript class.now text.now bind sends
+        → (bind ≡ script.bind) × (sends ≡ script.sends.items)) }
     ensures titled { IfOk result (λ script. IsSome (title_in script.bind)) }
 
     // A text outside the form is that of no script.

@@ -1,4 +1,4 @@
-use Rattle.std.proofs.Common.{◌≡◌, ◌≢◌, ◌<◌, ◌≤◌, length, sym, ap, ◌∙◌, subst}
+use Rattle.std.proofs.Common.{◌<◌, ◌≤◌, length, sym, ap, ◌∙◌, subst}
 use Rattle.std.specs.Cmp.Lexicographic.{other_text, same_text}
 use Rattle.hex.specs.Hex.{encode_upper}
 use Rattle.hex.proofs.HexLemmas.{decode_of-ok}
