@@ -125,6 +125,7 @@ fn read_oid(alloc: Global, contents: &[u8]) -> Result<Option<Oid>, AllocError>
     match read_oid_contents(alloc, contents)? {
         None => Ok(None),
         Some(oid) => {
+            // What the call says of the arcs is what the definition tests.
             let _arcs = oid.arcs();
             Ok(Some(oid))
         }

@@ -56,7 +56,8 @@ fn bound(alloc: Global, number: u64, title: Option<Oid>) -> Result<Association, 
     })
 }
 
-/// An association is asked for by a BIND; its number is the next one. Octets that are no BIND are turned away.
+/// An association is asked for by a BIND; its number is the next one. Octets that are no BIND are turned away. After want of
+/// memory nothing is said of the agent.
 pub fn open(
     alloc: Global,
     agent: &mut AgentState,
@@ -95,7 +96,8 @@ fn queue(agent: &mut AgentState, number: u64, asked: Option<Asked>) -> Result<()
     }
 }
 
-/// An APDU arrives; where it brings a request, an operation is queued under the next number.
+/// An APDU of the association under this number arrives; where it brings a request, an operation is queued under the next
+/// number. After want of memory nothing is said of the agent.
 pub fn arrive(
     alloc: Global,
     agent: &mut AgentState,
@@ -214,7 +216,8 @@ fn operation_at(operations: &Operations, number: u64) -> &Operation
     &operations.items[(number - 1) as usize]
 }
 
-/// The operation under this number, granted at the script's start, is performed, and its reply is placed.
+/// The operation under this number, granted at the script's start, is performed, and its reply is placed. After want of
+/// memory nothing is said of the agent.
 pub fn commit(alloc: Global, agent: &mut AgentState, number: u64) -> Result<(), AllocError>
     requires granted { option_and_then (λ o. granted_moment o.state) (operation_of agent.old number) ≡ Some SCRIPT_START }
     requires room { agent.old.entries + 1 < 2 ^ 64 }
