@@ -6,3 +6,7 @@ pub mod Values
 pub mod Modifiers
 pub mod Boxed
 pub mod Bindings
+pub mod UseValues
+pub mod TemplateValues
+pub mod SameUses
+pub mod SameTemplates

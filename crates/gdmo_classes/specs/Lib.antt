@@ -5,3 +5,4 @@ pub mod PackageTrees
 pub mod ClassTrees
 pub mod BindingTrees
 pub mod TemplateTree
+pub mod Agreement

@@ -4,6 +4,7 @@
 
 pub mod attribute_use;
 pub mod class;
+pub mod class_laws;
 pub mod creation;
 pub mod member_use;
 pub mod name_binding;
