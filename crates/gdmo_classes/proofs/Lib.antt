@@ -6,3 +6,4 @@ pub mod Values
 pub mod Modifiers
 pub mod Boxed
 pub mod Bindings
+pub mod StandardFacts
