@@ -1,6 +1,7 @@
 //! Tables of templates: each is read whole, and is faulty where it is cut behind each of its tokens.
 
-use super::creation::CreateModifiers;
+use super::creation::{CreateModifiers, Creation};
+use super::name_binding::NameBindingTemplate;
 use super::template::{ClassTemplate, read_template};
 use std::alloc::{AllocError, Global};
 use std::process::Abort;
@@ -165,9 +166,12 @@ fn is_text(token: &Option<Token>, text: &str) -> bool {
     }
 }
 
-/// Whether the create modifiers are WITH-REFERENCE-OBJECT, a comma and the other one.
-fn are_both_modifiers(modifiers: &Option<CreateModifiers>) -> bool {
-    let Some(CreateModifiers::ReferenceFirst(row)) = modifiers else {
+/// Whether objects are created with both modifiers, WITH-REFERENCE-OBJECT first and a comma behind it.
+fn has_both_modifiers(create: &Option<Creation>) -> bool {
+    let Some(create) = create else {
+        return false;
+    };
+    let Some(CreateModifiers::ReferenceFirst(row)) = &create.modifiers else {
         return false;
     };
     let Some(second) = &row.second else {
@@ -178,25 +182,24 @@ fn are_both_modifiers(modifiers: &Option<CreateModifiers>) -> bool {
         && has_text(&second.word, "WITH-AUTOMATIC-INSTANCE-NAMING")
 }
 
-#[test]
-fn a_name_binding_keeps_its_parts(rt: HostRuntime) -> Result<(), Fail> {
-    let tokens = tokens_of(
-        rt.alloc(),
-        "n NAME BINDING SUBORDINATE OBJECT CLASS c; NAMED BY SUPERIOR OBJECT CLASS d AND SUBCLASSES; WITH ATTRIBUTE a; CREATE WITH-REFERENCE-OBJECT, WITH-AUTOMATIC-INSTANCE-NAMING; REGISTERED AS {2 11};",
-    )?;
-    let Ok((ClassTemplate::NameBinding(binding), _next)) = read_template(rt.alloc(), &tokens, 0)
-    else {
-        return Err(Fail::from(AllocError));
-    };
+fn check_binding(rt: &impl Abort, binding: &NameBindingTemplate) {
     assert!(rt; has_text(&binding.label, "n"));
     assert!(rt; binding.subordinate.subclasses.is_none());
     assert!(rt; is_text(&binding.superior.subclasses, "SUBCLASSES"));
+    assert!(rt; has_both_modifiers(&binding.create));
     assert!(rt; binding.delete.is_none());
-    let Some(create) = &binding.create else {
-        return Err(Fail::from(AllocError));
-    };
-    assert!(rt; are_both_modifiers(&create.modifiers));
-    assert_eq!(rt; create.parameters.len(), 0);
+}
+
+#[test]
+fn a_name_binding_keeps_its_parts(rt: HostRuntime) -> Result<(), Fail> {
+    let text = "n NAME BINDING SUBORDINATE OBJECT CLASS c; \
+        NAMED BY SUPERIOR OBJECT CLASS d AND SUBCLASSES; WITH ATTRIBUTE a; \
+        CREATE WITH-REFERENCE-OBJECT, WITH-AUTOMATIC-INSTANCE-NAMING; REGISTERED AS {2 11};";
+    let tokens = tokens_of(rt.alloc(), text)?;
+    match read_template(rt.alloc(), &tokens, 0) {
+        Ok((ClassTemplate::NameBinding(binding), _next)) => check_binding(&rt, &binding),
+        _ => assert!(rt; false, "no name binding is read"),
+    }
     Ok(())
 }
 
