@@ -1,4 +1,5 @@
-//! Documents that are read whole, and are faulty where they are cut behind each of their tokens.
+//! Documents that are read whole, and are faulty where they are cut behind each of their tokens; and faulty
+//! texts with the place of their fault.
 
 use super::reading::read_parts;
 use std::alloc::{AllocError, Global};
@@ -22,6 +23,15 @@ b ATTRIBUTE WITH ATTRIBUTE SYNTAX Other.Type; MATCHES FOR EQUALITY, ORDERING; RE
 c ATTRIBUTE WITH ATTRIBUTE SYNTAX M.T; REGISTERED AS {2 5 18446744073709551615};
 d MANAGED OBJECT CLASS CHARACTERIZED BY d PACKAGE ATTRIBUTES b GET;;; REGISTERED AS {1 2};
 INSTANCES ROOT e AT {f = 0} WITH g = 1, h = 2, g = 3; END¶\
+";
+
+/// Faulty texts, an arrow and the token of the fault.
+const FAULTY: &str = "\
+→0¶\
+M DEFINITIONS ::= BEGIN T ::= BOOLEAN END→6¶\
+M DEFINITIONS ::= BEGIN T ::= INTEGER END A ATTRIBUTE→8¶\
+M DEFINITIONS ::= BEGIN T ::= INTEGER END a PACKAGE→9¶\
+M DEFINITIONS ::= BEGIN T ::= INTEGER END a ATTRIBUTE WITH ATTRIBUTE SYNTAX M.T; MATCHES FOR ORDERING→19¶\
 ";
 
 fn tokens_of(alloc: Global, text: &str) -> Result<Vec<Token>, AllocError> {
@@ -63,5 +73,20 @@ fn a_document_is_read_whole_and_is_faulty_where_it_is_cut(rt: HostRuntime) -> Re
         }
     }
     assert_eq!(rt; seen, 2);
+    Ok(())
+}
+
+#[test]
+fn a_fault_lies_where_no_document_goes_on(rt: HostRuntime) -> Result<(), Fail> {
+    let mut seen = 0usize;
+    for row in FAULTY.split('¶') {
+        if let Some((text, expected)) = row.split_once('→') {
+            let tokens = tokens_of(rt.alloc(), text)?;
+            let place = expected.parse::<u64>()?;
+            assert_eq!(rt; end_of(rt.alloc(), &tokens)?, Err(place), "of {text}");
+            seen = seen.saturating_add(1);
+        }
+    }
+    assert_eq!(rt; seen, 5);
     Ok(())
 }

@@ -10,3 +10,4 @@ pub mod UseValues
 pub mod TemplateValues
 pub mod SameUses
 pub mod SameTemplates
+pub mod StandardFacts

@@ -135,7 +135,9 @@ fn read_packages_clause(
     Ok((list, next))
 }
 
-/// Reads a managed object class template.
+/// Reads a managed object class template from the place `at` on, and answers it with the place behind it.
+/// `Syntax` has the first token with which the template doesn't go on, or the number of tokens where they
+/// end too early; `Memory` comes where there is none for it (X.722, section 8.3).
 pub fn read_class(
     alloc: Global,
     tokens: &[Token],

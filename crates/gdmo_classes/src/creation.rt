@@ -48,7 +48,7 @@ pub enum CreateModifiers {
 /// How objects are created.
 #[derive(Drop)]
 pub struct Creation {
-    /// The create modifiers.
+    /// The create modifiers; none where CREATE has none.
     pub modifiers: Option<CreateModifiers>,
     /// The parameters of a failure.
     pub parameters: Vec<ParameterReference>,
@@ -57,7 +57,8 @@ pub struct Creation {
 /// How objects are deleted.
 #[derive(Drop)]
 pub struct Deletion {
-    /// The word ONLY-IF-NO-CONTAINED-OBJECTS or DELETES-CONTAINED-OBJECTS.
+    /// The word ONLY-IF-NO-CONTAINED-OBJECTS or DELETES-CONTAINED-OBJECTS; none where DELETE stands without
+    /// one, which means the first.
     pub modifier: Option<Token>,
     /// The parameters of a failure.
     pub parameters: Vec<ParameterReference>,

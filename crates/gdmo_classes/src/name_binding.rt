@@ -148,7 +148,9 @@ fn read_naming_clause(
     Ok((attribute, next))
 }
 
-/// Reads a name binding template.
+/// Reads a name binding template from the place `at` on, and answers it with the place behind it. `Syntax`
+/// has the first token with which the template doesn't go on, or the number of tokens where they end too
+/// early; `Memory` comes where there is none for it (X.722, section 8.6).
 pub fn read_name_binding(
     alloc: Global,
     tokens: &[Token],

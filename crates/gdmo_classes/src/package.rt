@@ -65,7 +65,9 @@ struct PackageClauses {
     notifications: Option<Vec<NotificationUse>>,
 }
 
-/// Reads a package template.
+/// Reads a package template from the place `at` on, and answers it with the place behind it. `Syntax` has
+/// the first token with which the template doesn't go on, or the number of tokens where they end too early;
+/// `Memory` comes where there is none for it (X.722, section 8.4).
 pub fn read_package(
     alloc: Global,
     tokens: &[Token],

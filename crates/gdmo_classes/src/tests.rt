@@ -1,6 +1,8 @@
 //! Tables of templates: each is read whole, and is faulty where it is cut behind each of its tokens.
 
-use super::template::read_template;
+use super::creation::{CreateModifiers, Creation};
+use super::name_binding::NameBindingTemplate;
+use super::template::{ClassTemplate, read_template};
 use std::alloc::{AllocError, Global};
 use std::process::Abort;
 use std::test::Fail;
@@ -27,6 +29,9 @@ n NAME BINDING DELETE DELETES-CONTAINED-OBJECTS p q; CREATE WITH-AUTOMATIC-INSTA
 n NAME BINDING SUBORDINATE OBJECT CLASS c; NAMED BY SUPERIOR OBJECT CLASS d; WITH ATTRIBUTE a; CREATE; DELETE; REGISTERED AS {2 11};¶\
 n NAME BINDING SUBORDINATE OBJECT CLASS c; NAMED BY SUPERIOR OBJECT CLASS d; WITH ATTRIBUTE a; CREATE WITH-REFERENCE-OBJECT; DELETE p; REGISTERED AS {2 11};¶\
 n NAME BINDING SUBORDINATE OBJECT CLASS c; NAMED BY SUPERIOR OBJECT CLASS d; WITH ATTRIBUTE a; REGISTERED AS {2 11};¶\
+p PACKAGE BEHAVIOUR b BEHAVIOUR DEFINED AS !t!;, c; ACTIONS x p PARAMETER CONTEXT X; WITH SYNTAX M.T;;;;¶\
+n NAME BINDING SUBORDINATE OBJECT CLASS c; NAMED BY SUPERIOR OBJECT CLASS d; WITH ATTRIBUTE a; BEHAVIOUR b BEHAVIOUR DEFINED AS !t!;; CREATE WITH-AUTOMATIC-INSTANCE-NAMING, WITH-REFERENCE-OBJECT p PARAMETER CONTEXT X; WITH SYNTAX M.T;; q; DELETE DELETES-CONTAINED-OBJECTS r PARAMETER CONTEXT Y; ATTRIBUTE a;;; REGISTERED AS {2 11};¶\
+n NAME BINDING SUBORDINATE OBJECT CLASS c; NAMED BY SUPERIOR OBJECT CLASS d; WITH ATTRIBUTE a; CREATE WITH-AUTOMATIC-INSTANCE-NAMING; DELETE ONLY-IF-NO-CONTAINED-OBJECTS p; REGISTERED AS {2 11};¶\
 ";
 
 /// Faulty texts, an arrow and the token of the fault.
@@ -61,6 +66,13 @@ n NAME BINDING CREATE WITH-REFERENCE-OBJECT WITH-REFERENCE-OBJECT;→5¶\
 n NAME BINDING CREATE p WITH-REFERENCE-OBJECT;→5¶\
 n NAME BINDING DELETE ONLY-IF-NO-CONTAINED-OBJECTS DELETES-CONTAINED-OBJECTS;→5¶\
 n NAME BINDING DELETE WITH-REFERENCE-OBJECT;→4¶\
+C MANAGED OBJECT CLASS REGISTERED AS {2 6};→0¶\
+c MANAGED OBJECT CLASS DERIVED FROM d,;→8¶\
+c MANAGED OBJECT CLASS CONDITIONAL PACKAGES p PRESENT IF text;→9¶\
+c MANAGED OBJECT CLASS CONDITIONAL PACKAGES p PRESENT IF !x!,;→11¶\
+c MANAGED OBJECT CLASS CHARACTERIZED BY p PRESENT→7¶\
+n NAME BINDING NAMED BY SUPERIOR OBJECT CLASS d; WITH ATTRIBUTE a; REGISTERED AS {2 11};→14¶\
+n NAME BINDING SUBORDINATE OBJECT CLASS c; NAMED BY SUPERIOR OBJECT CLASS d; REGISTERED AS {2 11};→15¶\
 ";
 
 /// How many class templates stand in line in one another in the deepest text.
@@ -104,7 +116,7 @@ fn each_template_is_read_and_is_faulty_where_it_is_cut(rt: HostRuntime) -> Resul
             seen = seen.saturating_add(1);
         }
     }
-    assert_eq!(rt; seen, 18);
+    assert_eq!(rt; seen, 21);
     Ok(())
 }
 
@@ -119,7 +131,7 @@ fn a_fault_lies_where_no_template_goes_on(rt: HostRuntime) -> Result<(), Fail> {
             seen = seen.saturating_add(1);
         }
     }
-    assert_eq!(rt; seen, 30);
+    assert_eq!(rt; seen, 37);
     Ok(())
 }
 
@@ -129,6 +141,65 @@ fn a_place_past_the_tokens_is_the_place_of_the_fault(rt: HostRuntime) -> Result<
     assert_eq!(rt; end_of(rt.alloc(), &tokens, 3)?, Err(3));
     assert_eq!(rt; end_of(rt.alloc(), &tokens, 9)?, Err(9));
     assert_eq!(rt; end_of(rt.alloc(), &tokens, usize::MAX)?, Err(u64::MAX));
+    Ok(())
+}
+
+#[test]
+fn a_template_is_read_from_its_place_on(rt: HostRuntime) -> Result<(), Fail> {
+    let tokens = tokens_of(rt.alloc(), "p PACKAGE; q PACKAGE; r PACKAGE GET")?;
+    assert_eq!(rt; end_of(rt.alloc(), &tokens, 0)?, Ok(3));
+    assert_eq!(rt; end_of(rt.alloc(), &tokens, 3)?, Ok(6));
+    assert_eq!(rt; end_of(rt.alloc(), &tokens, 6)?, Err(8));
+    assert_eq!(rt; end_of(rt.alloc(), &tokens, 1)?, Err(1));
+    Ok(())
+}
+
+fn has_text(token: &Token, text: &str) -> bool {
+    token.text.as_slice() == text.as_bytes()
+}
+
+/// Whether a token is there and has a text.
+fn is_text(token: &Option<Token>, text: &str) -> bool {
+    match token {
+        Some(token) => has_text(token, text),
+        None => false,
+    }
+}
+
+/// Whether objects are created with both modifiers, WITH-REFERENCE-OBJECT first and a comma behind it.
+fn has_both_modifiers(create: &Option<Creation>) -> bool {
+    let Some(create) = create else {
+        return false;
+    };
+    let Some(CreateModifiers::ReferenceFirst(row)) = &create.modifiers else {
+        return false;
+    };
+    let Some(second) = &row.second else {
+        return false;
+    };
+    has_text(&row.first, "WITH-REFERENCE-OBJECT")
+        && is_text(&second.comma, ",")
+        && has_text(&second.word, "WITH-AUTOMATIC-INSTANCE-NAMING")
+}
+
+fn check_binding(rt: &impl Abort, binding: &NameBindingTemplate) {
+    assert!(rt; has_text(&binding.label, "n"));
+    assert!(rt; binding.subordinate.subclasses.is_none());
+    assert!(rt; is_text(&binding.superior.subclasses, "SUBCLASSES"));
+    assert!(rt; has_both_modifiers(&binding.create));
+    assert!(rt; binding.delete.is_none());
+}
+
+#[test]
+fn a_name_binding_keeps_its_parts(rt: HostRuntime) -> Result<(), Fail> {
+    let text = "n NAME BINDING SUBORDINATE OBJECT CLASS c; \
+        NAMED BY SUPERIOR OBJECT CLASS d AND SUBCLASSES; WITH ATTRIBUTE a; \
+        CREATE WITH-REFERENCE-OBJECT, WITH-AUTOMATIC-INSTANCE-NAMING; REGISTERED AS {2 11};";
+    let tokens = tokens_of(rt.alloc(), text)?;
+    match read_template(rt.alloc(), &tokens, 0) {
+        Ok((ClassTemplate::NameBinding(binding), _next)) => check_binding(&rt, &binding),
+        _ => assert!(rt; false, "no name binding is read"),
+    }
     Ok(())
 }
 

@@ -9,3 +9,4 @@ pub mod MemberValues
 pub mod FurtherValues
 pub mod SameTrees
 pub mod FurtherSameTrees
+pub mod StandardFacts

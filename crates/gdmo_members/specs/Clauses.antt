@@ -62,7 +62,8 @@ references n = Listed comma Empty (reference n)
 abbrev pub reference_row : ℕ → Form
 reference_row n = Many Empty (reference n)
 
--- the clause `BEHAVIOUR ref, ..;`, which may stand in every template but those of groups and behaviours
+-- the clause `BEHAVIOUR ref, ..;`, which may stand in every template but those of classes, groups and
+-- behaviours
 abbrev pub behaviour_clause : Form
 behaviour_clause = clause (codes "BEHAVIOUR" ∷ []) (references behaviours)
 

@@ -1,4 +1,4 @@
--- Trees: what the values of the templates' parts say, one field after the other.
+-- Trees: what the values of the templates' parts say, one field after the other (X.722, section 8).
 use Rattle.std.specs.Prelude.{Option}
 use Rattle.std.specs.declared.alloc.Global.{Global}
 use Rattle.std.specs.declared.vec.Vec.{Vec}

@@ -54,7 +54,9 @@ struct ActionClauses {
     reply: Option<QualifiedName>,
 }
 
-/// Reads an action template.
+/// Reads an action template from the place `at` on, and answers it with the place behind it. `Syntax` has
+/// the first token with which the template doesn't go on, or the number of tokens where they end too early;
+/// `Memory` comes where there is none for it (X.722, section 8.10).
 pub fn read_action(
     alloc: Global,
     tokens: &[Token],

@@ -82,7 +82,9 @@ struct AttributeClauses {
     parameters: Option<Vec<ParameterReference>>,
 }
 
-/// Reads an attribute template.
+/// Reads an attribute template from the place `at` on, and answers it with the place behind it. `Syntax`
+/// has the first token with which the template doesn't go on, or the number of tokens where they end too
+/// early; `Memory` comes where there is none for it (X.722, section 8.7).
 pub fn read_attribute(
     alloc: Global,
     tokens: &[Token],

@@ -36,7 +36,9 @@ pub enum BehaviourReference {
     Template(BehaviourTemplate),
 }
 
-/// Reads a behaviour template.
+/// Reads a behaviour template from the place `at` on, and answers it with the place behind it. `Syntax` has
+/// the first token with which the template doesn't go on, or the number of tokens where they end too early;
+/// `Memory` comes where there is none for it (X.722, section 8.9).
 pub fn read_behaviour(
     alloc: Global,
     tokens: &[Token],

@@ -47,7 +47,9 @@ struct GroupClauses {
     description: Option<Token>,
 }
 
-/// Reads a group template.
+/// Reads an attribute group template from the place `at` on, and answers it with the place behind it.
+/// `Syntax` has the first token with which the template doesn't go on, or the number of tokens where they
+/// end too early; `Memory` comes where there is none for it (X.722, section 8.8).
 pub fn read_group(
     alloc: Global,
     tokens: &[Token],

@@ -70,7 +70,9 @@ struct NotificationClauses {
     reply: Option<QualifiedName>,
 }
 
-/// Reads a notification template.
+/// Reads a notification template from the place `at` on, and answers it with the place behind it. `Syntax`
+/// has the first token with which the template doesn't go on, or the number of tokens where they end too
+/// early; `Memory` comes where there is none for it (X.722, section 8.11).
 pub fn read_notification(
     alloc: Global,
     tokens: &[Token],

@@ -79,7 +79,9 @@ struct ParameterClauses {
     behaviour: Option<Vec<BehaviourReference>>,
 }
 
-/// Reads a parameter template.
+/// Reads a parameter template from the place `at` on, and answers it with the place behind it. `Syntax` has
+/// the first token with which the template doesn't go on, or the number of tokens where they end too early;
+/// `Memory` comes where there is none for it (X.722, section 8.5).
 pub fn read_parameter(
     alloc: Global,
     tokens: &[Token],

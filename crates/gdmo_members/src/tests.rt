@@ -6,8 +6,8 @@ use std::process::Abort;
 use std::test::Fail;
 use text_lex::{SyntaxRefusal, Token, lex};
 
-/// Templates in their usual form, with their clauses in another order, and with each optional part left
-/// out, each ended by a mark.
+/// Templates in their usual form, with their clauses in another order, with each optional part left out
+/// and with templates in line, each ended by a mark.
 const WHOLE: &str = "\
 b BEHAVIOUR DEFINED AS !text!;¶\
 a ATTRIBUTE WITH ATTRIBUTE SYNTAX M.T; MATCHES FOR EQUALITY, ORDERING; BEHAVIOUR b, \"doc\":c; PARAMETERS p; REGISTERED AS {2 999 a(1)};¶\
@@ -25,6 +25,8 @@ x ACTION REGISTERED AS {2 6};¶\
 n NOTIFICATION BEHAVIOUR b; PARAMETERS p; WITH INFORMATION SYNTAX M.T AND ATTRIBUTE IDS f a, g c; WITH REPLY SYNTAX M.U; REGISTERED AS {2 7};¶\
 n NOTIFICATION WITH REPLY SYNTAX M.U; WITH INFORMATION SYNTAX M.T; PARAMETERS p; REGISTERED AS {2 7};¶\
 n NOTIFICATION REGISTERED AS {2 7};¶\
+x ACTION PARAMETERS p PARAMETER CONTEXT X; WITH SYNTAX M.T;;; BEHAVIOUR b BEHAVIOUR DEFINED AS !t!;; REGISTERED AS {2 6};¶\
+n NOTIFICATION WITH INFORMATION SYNTAX M.T AND ATTRIBUTE IDS f a ATTRIBUTE DERIVED FROM c;;, g d; REGISTERED AS {2 7};¶\
 ";
 
 /// Faulty texts, an arrow and the token of the fault.
@@ -57,7 +59,7 @@ x ACTION WITH REPLY SYNTAX M.T; WITH INFORMATION SYNTAX M.T; WITH→16¶\
 n NOTIFICATION WITH INFORMATION SYNTAX M.T AND ATTRIBUTE IDS a;→12¶\
 ";
 
-/// How many attribute templates stand in line in one another in the deepest text.
+/// How many templates stand in line in one another in the deepest texts.
 const LEVELS: usize = 5000;
 
 /// Where the reader ends: the place behind a template, or that of the fault.
@@ -98,7 +100,7 @@ fn each_template_is_read_and_is_faulty_where_it_is_cut(rt: HostRuntime) -> Resul
             seen = seen.saturating_add(1);
         }
     }
-    assert_eq!(rt; seen, 16);
+    assert_eq!(rt; seen, 18);
     Ok(())
 }
 
@@ -127,6 +129,19 @@ fn a_place_past_the_tokens_is_the_place_of_the_fault(rt: HostRuntime) -> Result<
 }
 
 #[test]
+fn a_template_is_read_from_its_place_on(rt: HostRuntime) -> Result<(), Fail> {
+    let tokens = tokens_of(
+        rt.alloc(),
+        "b BEHAVIOUR DEFINED AS !t!; c BEHAVIOUR DEFINED AS !u!; d BEHAVIOUR GET",
+    )?;
+    assert_eq!(rt; end_of(rt.alloc(), &tokens, 0)?, Ok(6));
+    assert_eq!(rt; end_of(rt.alloc(), &tokens, 6)?, Ok(12));
+    assert_eq!(rt; end_of(rt.alloc(), &tokens, 12)?, Err(14));
+    assert_eq!(rt; end_of(rt.alloc(), &tokens, 1)?, Err(1));
+    Ok(())
+}
+
+#[test]
 fn templates_in_line_are_read_down_to_many_levels(rt: HostRuntime) -> Result<(), Fail> {
     let mut text = String::new(rt.alloc());
     for _ in 0..LEVELS {
@@ -135,6 +150,21 @@ fn templates_in_line_are_read_down_to_many_levels(rt: HostRuntime) -> Result<(),
     text.push_str("b")?;
     for _ in 0..LEVELS {
         text.push_str(";;")?;
+    }
+    let tokens = tokens_of(rt.alloc(), text.as_str())?;
+    assert_eq!(rt; end_of(rt.alloc(), &tokens, 0)?, Ok(tokens.len()));
+    Ok(())
+}
+
+#[test]
+fn parameters_in_line_are_read_down_to_many_levels(rt: HostRuntime) -> Result<(), Fail> {
+    let mut text = String::new(rt.alloc());
+    for _ in 0..LEVELS / 2 {
+        text.push_str("a ATTRIBUTE DERIVED FROM b; PARAMETERS p PARAMETER CONTEXT X; ATTRIBUTE ")?;
+    }
+    text.push_str("c")?;
+    for _ in 0..LEVELS / 2 {
+        text.push_str(";;;;")?;
     }
     let tokens = tokens_of(rt.alloc(), text.as_str())?;
     assert_eq!(rt; end_of(rt.alloc(), &tokens, 0)?, Ok(tokens.len()));

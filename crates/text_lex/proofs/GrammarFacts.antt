@@ -1,5 +1,5 @@
 -- Examples of forms, computed: a small grammar with each kind of form, a text that spells it, and texts
--- that begin it up to their fault.
+-- that begin it up to their fault (that they don't go on there is tested in src/form_tests.rt).
 --   shelf   = label SHELF clauses [AT number] ;
 --   clauses = HOLDS item, ..;  and, before or behind it or not at all,  MARKS [label ..] ;
 --   item    = ["name" :] label | box

@@ -1,5 +1,6 @@
--- Begins: the tokens from one place to another begin a form. Nothing is asked of how the form could
--- end. The form goes on with a token where the tokens up to and with it begin the form.
+-- Begins: the tokens from one place to another begin a form (docs/PROFILE.md, section 2). Nothing is asked
+-- of how the form could end. The form goes on with a token where the tokens up to and with it begin the
+-- form.
 use Rattle.std.specs.Prelude.{◌≡◌, ℕ, ◌+◌, Bool, true, List, ◌∷◌}
 use Rattle.text_lex.specs.declared.token.Token.{Token}
 use Rattle.text_lex.specs.Form.{Form, Marks, Keep, Then, Or, Maybe, Listed, Many, AnyOrder, Named, Slots, Tree, After, form_at, is_open, filled}

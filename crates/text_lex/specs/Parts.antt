@@ -1,5 +1,5 @@
 -- Parts that several grammars have: a label with the name of a document before it, `Module.Type`, and an
--- object identifier (X.722, section 8.2; X.680, sections 14 and 31), with the trees of their values.
+-- object identifier (X.722, section 8.2; X.680, sections 14 and 32), with the trees of their values.
 use Rattle.std.specs.Prelude.{ℕ, Bool, List, [], ◌∷◌, Option, option_map, codes, ◌||◌}
 use Rattle.text_lex.specs.declared.token.Token.{Token}
 use Rattle.text_lex.specs.declared.label_reference.LabelReference.{LabelReference}

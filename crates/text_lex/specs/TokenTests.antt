@@ -1,5 +1,5 @@
 -- Tests of one token: which words, signs, labels and names there are (X.722, section 8.2; X.680,
--- section 12; docs/PROFILE.md, the section on words).
+-- section 12; docs/PROFILE.md, section 2).
 use Rattle.std.specs.Prelude.{ℕ, Bool, List, [], ◌∷◌, ◌&&◌, ◌||◌, not, ◌==◌, nat_le, codes}
 use Rattle.std.specs.List.{list_any}
 use Rattle.std.specs.Cmp.Lexicographic.{pointwise}
@@ -28,9 +28,15 @@ is_number token = token.kind == NUMBER
 abbrev pub is_string : Token → Bool
 is_string token = token.kind == STRING
 
+abbrev pub lower_a_octet : ℕ
+lower_a_octet = 97
+
+abbrev pub lower_z_octet : ℕ
+lower_z_octet = 122
+
 -- a letter from a to z
 abbrev pub is_lower_case : ℕ → Bool
-is_lower_case octet = nat_le 97 octet && nat_le octet 122
+is_lower_case octet = nat_le lower_a_octet octet && nat_le octet lower_z_octet
 
 -- A label of a template is a word that isn't in capitals: one with a lower-case letter.
 abbrev pub is_label : Token → Bool

@@ -1,4 +1,5 @@
--- Leads: one turn of a list, a repeat or clauses in any order. And what a reader of one clause answers.
+-- Leads: one turn of a list, a repeat or clauses in any order. And what a reader of one clause answers
+-- (docs/PROFILE.md, section 2).
 use Rattle.std.specs.Prelude.{◌≡◌, ℕ, ◌≤◌, ◌<◌, Bool, true, List, Option, None, Some, ◌⊎◌, Result, Ok, Err, length}
 use Rattle.text_lex.specs.declared.token.Token.{Token}
 use Rattle.text_lex.specs.declared.syntax_refusal.SyntaxRefusal.{SyntaxRefusal}

@@ -25,6 +25,7 @@ a BOX WIDE 3;→1¶\
 a SHELF;→2¶\
 a SHELF AT 7;→2¶\
 a SHELF MARKS x;;→5¶\
+a SHELF MARKS;;→4¶\
 a SHELF MARKS x; AT 7;→5¶\
 a SHELF HOLDS b; HOLDS c;;→5¶\
 a SHELF MARKS; MARKS; HOLDS b;;→4¶\
@@ -101,6 +102,19 @@ fn each_form_is_read_or_has_its_fault(rt: HostRuntime) -> Result<(), Fail> {
             seen = seen.saturating_add(1);
         }
     }
-    assert_eq!(rt; seen, 29);
+    assert_eq!(rt; seen, 30);
+    Ok(())
+}
+
+#[test]
+fn a_shelf_is_read_from_its_place_on(rt: HostRuntime) -> Result<(), Fail> {
+    let tokens = tokens_of(
+        rt.alloc(),
+        "a SHELF HOLDS b;; c SHELF HOLDS d;; e SHELF GET",
+    )?;
+    assert_eq!(rt; end_of(rt.alloc(), &tokens, 0)?, Ok(6));
+    assert_eq!(rt; end_of(rt.alloc(), &tokens, 6)?, Ok(12));
+    assert_eq!(rt; end_of(rt.alloc(), &tokens, 12)?, Err(14));
+    assert_eq!(rt; end_of(rt.alloc(), &tokens, 1)?, Err(1));
     Ok(())
 }

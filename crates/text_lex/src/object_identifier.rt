@@ -1,4 +1,4 @@
-//! The text of an object identifier, `{ arc arc .. }` (X.680, section 31; X.722, section 8.2).
+//! The text of an object identifier, `{ arc arc .. }` (X.680, section 32; X.722, section 8.2).
 
 ghost use Rattle.std.specs.Prelude.{◌≡◌, ℕ, codes};
 ghost use Rattle.text_lex.specs.Form.{Form, Many, Empty};

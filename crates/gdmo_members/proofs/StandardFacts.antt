@@ -1,0 +1,23 @@
+-- An example of a template, computed: X.722, section 8.4.
+use Rattle.std.proofs.Common.{List, [], ◌∷◌, refl, codes}
+use Rattle.text_lex.specs.declared.token.Token.{Token}
+use Rattle.text_lex.specs.declared.token.TheConstants.{WORD, SIGN}
+use Rattle.text_lex.specs.Form.{Named, Bare, Leaf, Pair, Absent, Numbered}
+use Rattle.text_lex.specs.Spelling.{Spells, no_marks, marks, keep, both, absent, enough, named}
+use Rattle.text_lex.proofs.Known.{token_of}
+use Rattle.gdmo_members.specs.Clauses.{packages}
+use Rattle.gdmo_members.specs.Templates.{templates}
+
+-- p PACKAGE;
+abbrev label : Token
+label = token_of WORD 0 (codes "p")
+
+abbrev small_package : List Token
+small_package = label ∷ token_of WORD 2 (codes "PACKAGE") ∷ token_of SIGN 9 (codes ";") ∷ []
+
+-- its label, the five clauses, of which none came, and its end without a registration
+package_example : Spells small_package templates (Named packages) 0 3
+    (Numbered 0 (Pair (Leaf label) (Pair Bare (Pair
+    (Pair Absent (Pair Absent (Pair Absent (Pair Absent (Pair Absent Bare)))))
+    (Pair Absent Bare)))))
+package_example = named (both (keep refl refl refl) (both (marks (record { passed = refl }) no_marks) (both (enough refl refl) (both absent (marks (record { passed = refl }) no_marks)))))
