@@ -1,6 +1,8 @@
-use Rattle.std.proofs.Common.{map}
+use Rattle.std.proofs.Common.{inl, map}
+use Rattle.std.proofs.Math.Path.{subst}
 use Rattle.std.specs.Prelude.{string_bytes}
 use Rattle.agent_bytes.specs.Faults.{Rose}
+use Rattle.agent_bytes.specs.Told.{GainsPart}
 use Rattle.agent_run.proofs.Causes.{answered_listed, complete_of, too_large_of, written_listed}
 use Rattle.agent_run.proofs.running.agent.Goals as goal
 
@@ -21,3 +23,11 @@ returns-in-Err-clause-complete g c =
     complete_of (g.F.Files.files c.args.files.now) (map string_bytes c.args.words.now) (g.F.Files.faults c.args.files.now) (g.F.Files.faults c.prepare.new.files)
     (Rose (g.O.Sink.faults c.args.out.now) (g.O.Sink.faults c.refuse.new.out)) c.refuse.result c.in-Err.refusal
     c.refuse.ensures.status c.in-Err.ensures.cause c.refuse.ensures.fault
+
+pub returns-in-Ok-clause-write_fault : goal.returns-in-Ok-clause-write_fault
+returns-in-Ok-clause-write_fault g c = λ e. record {
+  rose = c.put.ensures.fault e;
+  text = c.in-Ok.text.items;
+  part = subst (λ text. GainsPart (g.O.Sink.contents c.args.out.now) (g.O.Sink.contents c.put.new.out) text) c.deref.ensures.value (c.put.ensures.part e);
+  of = inl c.in-Ok.ensures.text;
+}
