@@ -196,9 +196,10 @@ fn a_name_binding_keeps_its_parts(rt: HostRuntime) -> Result<(), Fail> {
         NAMED BY SUPERIOR OBJECT CLASS d AND SUBCLASSES; WITH ATTRIBUTE a; \
         CREATE WITH-REFERENCE-OBJECT, WITH-AUTOMATIC-INSTANCE-NAMING; REGISTERED AS {2 11};";
     let tokens = tokens_of(rt.alloc(), text)?;
-    match read_template(rt.alloc(), &tokens, 0) {
-        Ok((ClassTemplate::NameBinding(binding), _next)) => check_binding(&rt, &binding),
-        _ => assert!(rt; false, "no name binding is read"),
+    let (template, _next) = read_template(rt.alloc(), &tokens, 0)?;
+    match &template {
+        ClassTemplate::NameBinding(binding) => check_binding(&rt, binding),
+        _ => assert!(rt; false, "another template is read"),
     }
     Ok(())
 }
