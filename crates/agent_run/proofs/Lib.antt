@@ -1,2 +1,3 @@
 pub mod Causes
+mod StandardFacts
 pub mod WordLaws
