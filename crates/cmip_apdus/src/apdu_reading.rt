@@ -7,7 +7,7 @@ ghost use Rattle.term_values.specs.Der.{written};
 ghost use Rattle.term_values.specs.Oid.{oid_in};
 ghost use Rattle.term_values.specs.Tree.{listed};
 ghost use Rattle.term_model.specs.Bind.{title_in, title_of};
-ghost use Rattle.term_model.specs.GetRequest.{asked_by, asked_in, assertion_of, get_of, instance_of, rdn_of, rdns_of};
+ghost use Rattle.term_model.specs.GetRequest.{invocation_by, invocation_in, assertion_of, get_of, instance_of, rdn_of, rdns_of};
 ghost use Rattle.term_model.specs.Parts.{contents_under, inside_under, integer_under, oid_under, one, one_under, three, three_under, two, two_under};
 ghost use Rattle.term_model.specs.RemoteOperation.{id_of, invoke_of};
 
@@ -15,7 +15,7 @@ use ber_tree::tree_reading::{read_integer_contents, read_oid_contents, read_tree
 use ber_tree::tree_writing::write_tree;
 use op_object::object_reading::{GLOBAL_FORM, LOCAL_DISTINGUISHED_NAME};
 use std::alloc::{AllocError, Global};
-use term_model::{Asked, Head, IdRef, Instance, Name, Named, Rdn, Request};
+use term_model::{Head, IdRef, Instance, Invocation, Name, Named, Rdn, Request};
 use term_values::tag::CONTEXT;
 use term_values::{Body, Bytes, Oid, Tag, Tree};
 
@@ -272,25 +272,25 @@ fn id_of(tree: &Tree) -> Option<i32>
     i32::try_from(integer_of(tree)?).ok()
 }
 
-/// The request that an invoke brings; none where it is none of m-Get in the form of X.711.
-fn invoked(alloc: Global, apdu: &Tree) -> Result<Option<Asked>, AllocError>
-    ensures { IfOk result (λ asked. asked ≡ option_and_then asked_by (invoke_of apdu.now)) }
+/// The invocation that an invoke is; none where it is none of m-Get in the form of X.711.
+fn invoked(alloc: Global, apdu: &Tree) -> Result<Option<Invocation>, AllocError>
+    ensures { IfOk result (λ invocation. invocation ≡ option_and_then invocation_by (invoke_of apdu.now)) }
 {
     match three_of(apdu, INVOKE) {
         None => Ok(None),
         Some((id, operation, argument)) => match (id_of(id), integer_of(operation)) {
             (Some(id), Some(M_GET)) => match get_of(alloc, argument)? {
                 None => Ok(None),
-                Some(request) => Ok(Some(Asked { id, request })),
+                Some(request) => Ok(Some(Invocation { id, request })),
             },
             _ => Ok(None),
         },
     }
 }
 
-/// The request that an APDU brings; none where it is no invoke of m-Get in the form of X.711.
-pub fn asked_in(alloc: Global, apdu: &[u8]) -> Result<Option<Asked>, AllocError>
-    ensures { IfOk result (λ asked. asked ≡ asked_in apdu.now) }
+/// The invocation that an APDU brings, a request with its invoke id; none where it is no invoke of m-Get in the form of X.711.
+pub fn invocation_in(alloc: Global, apdu: &[u8]) -> Result<Option<Invocation>, AllocError>
+    ensures { IfOk result (λ invocation. invocation ≡ invocation_in apdu.now) }
 {
     match whole_tree(alloc, apdu)? {
         None => Ok(None),

@@ -3,12 +3,12 @@
 use Rattle.std.specs.Prelude.{◌≡◌, ◌≢◌, ℕ, ℤ, ◌<◌, ◌≤◌, List, [], ◌∷◌, ◌++◌, Some, codes, flat_map, length, slice_index}
 use Rattle.hex.specs.Hex.{IsBytes, encode_upper}
 use Rattle.term_model.specs.declared.name.Rdn.{Rdn}
-use Rattle.term_model.specs.declared.request.Asked.{Asked}
+use Rattle.term_model.specs.declared.request.Invocation.{Invocation}
 use Rattle.term_model.specs.declared.request.IdRef.TheVariants.{Global}
 use Rattle.term_model.specs.declared.request.Named.TheVariants as named
 use Rattle.term_model.specs.declared.request.Request.TheVariants.{Get}
 use Rattle.term_model.specs.Bind.{bind, title_in}
-use Rattle.term_model.specs.GetRequest.{asked_in, get_apdu}
+use Rattle.term_model.specs.GetRequest.{invocation_in, get_apdu}
 use Rattle.term_model.specs.Texts.{line_feed}
 
 -- the most octets of a line
@@ -28,7 +28,7 @@ pub record IsWrittenBind (octets : List ℕ) : Type 0 where
   pub written : octets ≡ bind title
 
 -- the request to get an object of this class
-abbrev pub get_request : ℤ → List ℕ → List ℕ → List Rdn → Asked
+abbrev pub get_request : ℤ → List ℕ → List ℕ → List Rdn → Invocation
 get_request id class raw name =
     record { id = id; request = Get (record { class = Global class; base = record { raw = raw; named = named.Object name } }) }
 
@@ -37,7 +37,7 @@ pub record IsWrittenGet (class octets : List ℕ) : Type 0 where
   pub id : ℤ
   pub raw : List ℕ
   pub name : List Rdn
-  pub read : asked_in octets ≡ Some (get_request id class raw name)
+  pub read : invocation_in octets ≡ Some (get_request id class raw name)
   pub written : octets ≡ get_apdu id class name
 
 -- what stands in front of the octets of a BIND, and of an APDU of the first association

@@ -7,7 +7,7 @@ ghost use Rattle.term_model.specs.Bind.{title_in};
 ghost use Rattle.first_script.specs.ScriptForm.{IsFirstLine, IsHeld, IsOpening, IsScript, IsSending, IsSends, IsUnbroken, IsWrittenBind, IsWrittenGet, most_octets};
 
 use crate::script_refusal::ScriptRefusal;
-use cmip_apdus::apdu_reading::{asked_in, title_in};
+use cmip_apdus::apdu_reading::{invocation_in, title_in};
 use cmip_apdus::apdu_writing::{write_bind, write_get};
 use hex::FromHexError;
 use std::alloc::{AllocError, Global};
@@ -110,13 +110,13 @@ fn is_written_bind(alloc: Global, octets: &[u8]) -> Result<bool, AllocError>
 fn is_written_get(alloc: Global, octets: &[u8], class: &Oid) -> Result<bool, AllocError>
     ensures { IfOk result (λ is. IsTrue is ↔ IsWrittenGet class.now octets.now) }
 {
-    match asked_in(alloc, octets)? {
+    match invocation_in(alloc, octets)? {
         None => Ok(false),
-        Some(asked) => {
-            let Request::Get { head } = &asked.request;
+        Some(invocation) => {
+            let Request::Get { head } = &invocation.request;
             let IdRef::Global(id) = &head.class;
             let Named::Object(name) = &head.base.named;
-            let written = write_get(alloc, i64::from(asked.id), id, &name.parts)?;
+            let written = write_get(alloc, i64::from(invocation.id), id, &name.parts)?;
             Ok(*id == *class && written.as_slice() == octets)
         }
     }

@@ -13,13 +13,13 @@ use Rattle.term_model.specs.declared.agent_state.OperationState.TheVariants as o
 use Rattle.term_model.specs.declared.entry.Entry.{Entry}
 use Rattle.term_model.specs.declared.entry.Entry.TheVariants as entry
 use Rattle.term_model.specs.declared.entry.Why.TheVariants as why
-use Rattle.term_model.specs.declared.request.Asked.{Asked}
+use Rattle.term_model.specs.declared.request.Invocation.{Invocation}
 use Rattle.term_model.specs.declared.request.Request.{Request}
 use Rattle.term_model.specs.declared.schema.Set.{Set}
 use Rattle.term_model.specs.AgentState.{start, association_of, is_ended_state, outstanding, left_to_take}
 use Rattle.std.specs.Option.{option_map_or}
 use Rattle.term_model.specs.Bind.{title_in}
-use Rattle.term_model.specs.GetRequest.{asked_in}
+use Rattle.term_model.specs.GetRequest.{invocation_in}
 use Rattle.term_model.specs.Operation.{exec}
 use Rattle.term_model.specs.Played.{Play, with_entry, taken_all, all_taken, answered, line_played, closed, closed_from, beginning, lines_played, played}
 use Rattle.term_model.specs.Played.ScriptLine.{Open, Send}
@@ -58,7 +58,7 @@ ready_lives agent journal r = record { counted = r.counted; association = r.asso
 pub arrived_legal : (schema : Set) (objects : List NamedObject) (a : Association) (operations : List Operation) (entries : ℕ) (apdu : List ℕ) → a.state ≡ Live → count_by is_open operations ≡ 0 → is_legal (state_of schema objects a operations entries) (entry.Arrived sole apdu) ≡ true
 arrived_legal schema objects a operations entries apdu live idle = rw (live, idle) refl
 
-pub arrived_to : (schema : Set) (objects : List NamedObject) (a : Association) (operations : List Operation) (entries : ℕ) (apdu : List ℕ) → a.state ≡ Live → count_by is_open operations ≡ 0 → step (state_of schema objects a operations entries) (entry.Arrived sole apdu) ≡ state_of schema objects a (operations ++ queued sole (asked_in apdu)) (entries + 1)
+pub arrived_to : (schema : Set) (objects : List NamedObject) (a : Association) (operations : List Operation) (entries : ℕ) (apdu : List ℕ) → a.state ≡ Live → count_by is_open operations ≡ 0 → step (state_of schema objects a operations entries) (entry.Arrived sole apdu) ≡ state_of schema objects a (operations ++ queued sole (invocation_in apdu)) (entries + 1)
 arrived_to schema objects a operations entries apdu live idle = step_legal (state_of schema objects a operations entries) (entry.Arrived sole apdu) (arrived_legal schema objects a operations entries apdu live idle)
 
 -- the last operation, which waits, is granted
@@ -104,20 +104,20 @@ pub answered_some : (before number : ℕ) (play : Play) → length play.agent.op
 answered_some before number play e h = rw (e, lt-ltb before number h) refl
 
 -- after a send the association lives
-queued_lives : (schema : Set) (objects : List NamedObject) (a : Association) (operations : List Operation) (entries : ℕ) (journal : List Entry) (q : Option Asked) → a.state ≡ Live → a.taken ≤ length a.placed → count_by is_open operations ≡ 0 → entries ≡ length journal
+queued_lives : (schema : Set) (objects : List NamedObject) (a : Association) (operations : List Operation) (entries : ℕ) (journal : List Entry) (q : Option Invocation) → a.state ≡ Live → a.taken ≤ length a.placed → count_by is_open operations ≡ 0 → entries ≡ length journal
     → Lives (answered (length operations) (play_of (state_of schema objects a (operations ++ queued sole q) entries) journal))
 queued_lives schema objects a operations entries journal None live within idle count =
     let play = play_of (state_of schema objects a (operations ++ []) entries) journal in
     subst (λ p. Lives p) (sym (answered_none operations play (append-nil operations)))
     (record { counted = count; association = a; one = refl; live = live; within = within; idle = rw (append-nil operations) idle })
-queued_lives schema objects a operations entries journal (Some asked) live within idle count =
-    let o = waiting asked.id asked.request in
+queued_lives schema objects a operations entries journal (Some invocation) live within idle count =
+    let o = waiting invocation.id invocation.request in
     let number = length operations + 1 in
     let play = play_of (state_of schema objects a (operations ++ o ∷ []) entries) journal in
-    let first = granted_to schema objects a operations entries asked.id asked.request number refl in
-    let second = committed_to schema objects a operations (entries + 1) asked.id asked.request number refl in
-    let bytes = replies_of schema objects asked.id asked.request in
-    let agent = state_of schema (exec schema objects asked.request 0).objects (with_placed bytes a) (operations ++ ended asked.id asked.request (entries + 1) ∷ []) (entries + 1 + 1) in
+    let first = granted_to schema objects a operations entries invocation.id invocation.request number refl in
+    let second = committed_to schema objects a operations (entries + 1) invocation.id invocation.request number refl in
+    let bytes = replies_of schema objects invocation.id invocation.request in
+    let agent = state_of schema (exec schema objects invocation.request 0).objects (with_placed bytes a) (operations ++ ended invocation.id invocation.request (entries + 1) ∷ []) (entries + 1 + 1) in
     let whole = (journal ++ entry.Granted number 0 ∷ []) ++ entry.Committed number ∷ [] in
     let form : answered (length operations) play ≡ play_of agent whole =
     answered_some (length operations) number play (length_push operations o) (omega arith)
@@ -130,7 +130,7 @@ queued_lives schema objects a operations entries journal (Some asked) live withi
       one = refl;
       live = live;
       within = omega (arith, length-append a.placed bytes);
-      idle = ended_idle operations asked.id asked.request (entries + 1) idle;
+      idle = ended_idle operations invocation.id invocation.request (entries + 1) idle;
     })
 
 -- the association is the only one
@@ -186,12 +186,12 @@ pub answered_lives : (agent : AgentState) (journal : List Entry) (apdu : List �
 answered_lives agent journal apdu r =
     let a = r.association in
     let whole = journal ++ entry.Arrived sole apdu ∷ [] in
-    let next : step agent (entry.Arrived sole apdu) ≡ state_of agent.schema agent.objects a (agent.operations ++ queued sole (asked_in apdu)) (agent.entries + 1) =
+    let next : step agent (entry.Arrived sole apdu) ≡ state_of agent.schema agent.objects a (agent.operations ++ queued sole (invocation_in apdu)) (agent.entries + 1) =
     ap (λ s. step s (entry.Arrived sole apdu)) (is_state_of agent a r.one) ∙ arrived_to agent.schema agent.objects a agent.operations agent.entries apdu r.live r.idle in
     let longer = length_push journal (entry.Arrived sole apdu) in
     let counted = r.counted in
     subst (λ s. Lives (answered (length agent.operations) (play_of s whole))) (sym next)
-    (queued_lives agent.schema agent.objects a agent.operations (agent.entries + 1) whole (asked_in apdu) r.live (omega (arith, r.taken)) r.idle (omega arith))
+    (queued_lives agent.schema agent.objects a agent.operations (agent.entries + 1) whole (invocation_in apdu) r.live (omega (arith, r.taken)) r.idle (omega arith))
 
 -- a send leaves a play ready
 pub send_ready : (agent : AgentState) (journal : List Entry) (apdu : List ℕ) → IsReady agent journal → IsReady (line_played (so_far agent journal) (Send sole apdu)).agent (line_played (so_far agent journal) (Send sole apdu)).journal
@@ -203,18 +203,18 @@ send_ready agent journal apdu r =
 pub arrive_legal : (agent : AgentState) (journal : List Entry) (apdu : List ℕ) → IsReady agent journal → is_legal agent (entry.Arrived sole apdu) ≡ true
 arrive_legal agent journal apdu r = ap (λ s. is_legal s (entry.Arrived sole apdu)) (is_state_of agent r.association r.one) ∙ arrived_legal agent.schema agent.objects r.association agent.operations agent.entries apdu r.live r.idle
 
-queued_waits : (schema : Set) (objects : List NamedObject) (a : Association) (operations : List Operation) (entries : ℕ) (q : Option Asked) (number : ℕ) → number ≡ length (operations ++ queued sole q) → length operations < number → is_legal (state_of schema objects a (operations ++ queued sole q) entries) (entry.Granted number 0) ≡ true
+queued_waits : (schema : Set) (objects : List NamedObject) (a : Association) (operations : List Operation) (entries : ℕ) (q : Option Invocation) (number : ℕ) → number ≡ length (operations ++ queued sole q) → length operations < number → is_legal (state_of schema objects a (operations ++ queued sole q) entries) (entry.Granted number 0) ≡ true
 queued_waits schema objects a operations entries None number e h = absurd (let k = ap (λ xs. length xs) (append-nil operations) in omega arith)
-queued_waits schema objects a operations entries (Some asked) number e h = granted_legal schema objects a operations entries asked.id asked.request number (e ∙ length_push operations (waiting asked.id asked.request))
+queued_waits schema objects a operations entries (Some invocation) number e h = granted_legal schema objects a operations entries invocation.id invocation.request number (e ∙ length_push operations (waiting invocation.id invocation.request))
 
 -- an operation that an APDU brought may be granted
 pub grant_legal : (agent : AgentState) (journal : List Entry) (apdu : List ℕ) (number : ℕ) → IsReady agent journal → number ≡ length (step agent (entry.Arrived sole apdu)).operations → length agent.operations < number → is_legal (step agent (entry.Arrived sole apdu)) (entry.Granted number 0) ≡ true
 grant_legal agent journal apdu number r e h =
     let a = r.association in
-    let next : step agent (entry.Arrived sole apdu) ≡ state_of agent.schema agent.objects a (agent.operations ++ queued sole (asked_in apdu)) (agent.entries + 1) =
+    let next : step agent (entry.Arrived sole apdu) ≡ state_of agent.schema agent.objects a (agent.operations ++ queued sole (invocation_in apdu)) (agent.entries + 1) =
     ap (λ s. step s (entry.Arrived sole apdu)) (is_state_of agent a r.one) ∙ arrived_to agent.schema agent.objects a agent.operations agent.entries apdu r.live r.idle in
     let size = ap (λ (s : AgentState). length s.operations) next in
-    ap (λ s. is_legal s (entry.Granted number 0)) next ∙ queued_waits agent.schema agent.objects a agent.operations (agent.entries + 1) (asked_in apdu) number (e ∙ size) h
+    ap (λ s. is_legal s (entry.Granted number 0)) next ∙ queued_waits agent.schema agent.objects a agent.operations (agent.entries + 1) (invocation_in apdu) number (e ∙ size) h
 
 -- the association is finished and closed
 finished_to : (schema : Set) (objects : List NamedObject) (a : Association) (operations : List Operation) (entries : ℕ) → a.state ≡ Live → step (state_of schema objects a operations entries) (entry.Finished sole) ≡ state_of schema objects (with_state Finished a) operations (entries + 1)

@@ -8,13 +8,13 @@ ghost use Rattle.term_model.specs.Operation.{exec, get_reply, name_of, object_at
 ghost use Rattle.one_manager_agent.specs.Playing.{with_placed_taken};
 ghost use Rattle.term_model.specs.Step.{bound, changed_association, changed_operation, is_legal, queued, reply_bytes, step, with_placed, with_state};
 
-use cmip_apdus::apdu_reading::{M_GET, asked_in, title_in};
+use cmip_apdus::apdu_reading::{M_GET, invocation_in, title_in};
 use cmip_apdus::apdu_writing::{bind_answer_frame, reply_frame};
 use op_object::object_reading::get_one;
 use std::alloc::{AllocError, Global};
 use term_model::reply::NO_SUCH_OBJECT_INSTANCE;
 use term_model::{
-    AgentState, Asked, Association, AssociationState, CmisError, Entry, Instance, Name, Named,
+    AgentState, Association, AssociationState, CmisError, Entry, Instance, Invocation, Name, Named,
     Object, Objects, Operation, OperationState, Operations, Reply, Request, Set, Why,
 };
 use term_values::{Bytes, Oid};
@@ -77,18 +77,22 @@ pub fn open(
 }
 
 /// Adds the operation that an APDU of an association asked for, where it asked for one, under the next number.
-fn queue(agent: &mut AgentState, number: u64, asked: Option<Asked>) -> Result<(), AllocError>
+fn queue(
+    agent: &mut AgentState,
+    number: u64,
+    invocation: Option<Invocation>,
+) -> Result<(), AllocError>
     ensures { OnOk result (agent.new ≡ record agent.old {
-      operations = agent.old.operations ++ queued number asked;
+      operations = agent.old.operations ++ queued number invocation;
     }) }
 {
-    match asked {
+    match invocation {
         None => Ok(()),
-        Some(asked) => {
+        Some(invocation) => {
             agent.operations.items.push(Operation {
                 association: number,
-                invoke: asked.id,
-                request: asked.request,
+                invoke: invocation.id,
+                request: invocation.request,
                 state: OperationState::Waiting,
             })?;
             Ok(())
@@ -108,8 +112,8 @@ pub fn arrive(
     requires room { agent.old.entries + 1 < 2 ^ 64 }
     ensures { OnOk result (agent.new ≡ step agent.old (Entry.Arrived number apdu.now)) }
 {
-    let asked = asked_in(alloc, apdu)?;
-    queue(agent, number, asked)?;
+    let invocation = invocation_in(alloc, apdu)?;
+    queue(agent, number, invocation)?;
     agent.entries += 1;
     Ok(())
 }

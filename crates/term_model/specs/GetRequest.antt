@@ -12,7 +12,7 @@ use Rattle.term_values.specs.Tag.{context}
 use Rattle.term_values.specs.Tree.{TreeValue, TreeValues}
 use Rattle.term_values.specs.Tree.TreeValues.{Nothing, Then}
 use Rattle.term_model.specs.declared.name.Rdn.{Rdn}
-use Rattle.term_model.specs.declared.request.Asked.{Asked}
+use Rattle.term_model.specs.declared.request.Invocation.{Invocation}
 use Rattle.term_model.specs.declared.request.IdRef.{IdRef}
 use Rattle.term_model.specs.declared.request.IdRef.TheVariants.{Global}
 use Rattle.term_model.specs.declared.request.Instance.{Instance}
@@ -62,13 +62,13 @@ get_parts parts = option_and_then (λ class. option_map (λ base. Get (record { 
 abbrev pub get_of : TreeValue → Option Request
 get_of tree = option_and_then get_parts (two_under SEQUENCE tree)
 
-abbrev pub asked_by : Invoke → Option Asked
-asked_by invoke =
+abbrev pub invocation_by : Invoke → Option Invocation
+invocation_by invoke =
     if int_eq invoke.operation m_get then option_map (λ request. record { id = invoke.id; request = request }) (get_of invoke.argument) else None
 
 -- the request that an APDU brings
-abbrev pub asked_in : List ℕ → Option Asked
-asked_in bytes = option_and_then asked_by (option_and_then invoke_of (tree_in bytes))
+abbrev pub invocation_in : List ℕ → Option Invocation
+invocation_in bytes = option_and_then invocation_by (option_and_then invoke_of (tree_in bytes))
 
 -- the written encoding of names
 abbrev pub rdn_octets : Rdn → List ℕ

@@ -15,8 +15,8 @@ use Rattle.term_model.specs.declared.entry.Why.{Why}
 use Rattle.term_model.specs.declared.entry.Why.TheVariants as why
 use Rattle.term_model.specs.AgentState.{association_of, operation_of, outstanding, left_to_take, is_live_state, is_finished_state, is_closed_state, is_waiting_state, is_ended_state, granted_moment}
 use Rattle.term_model.specs.Bind.{title_in, bind_answer, accepted, bad_bind}
-use Rattle.term_model.specs.declared.request.Asked.{Asked}
-use Rattle.term_model.specs.GetRequest.{asked_in}
+use Rattle.term_model.specs.declared.request.Invocation.{Invocation}
+use Rattle.term_model.specs.GetRequest.{invocation_in}
 use Rattle.term_model.specs.Operation.{Outcome, exec, operation_number, reply_frame}
 use Rattle.term_model.specs.RemoteOperation.{frame}
 
@@ -56,8 +56,8 @@ bound number (Some title) = record { title = Some title; state = association.Liv
 bound number None = record { title = None; state = association.Finished; placed = frame (bind_answer bad_bind number); taken = 0 }
 
 -- an operation is queued where the APDU brings one
-abbrev pub queued : ℕ → Option Asked → List Operation
-queued number (Some asked) = record { association = number; invoke = asked.id; request = asked.request; state = operation.Waiting } ∷ []
+abbrev pub queued : ℕ → Option Invocation → List Operation
+queued number (Some invocation) = record { association = number; invoke = invocation.id; request = invocation.request; state = operation.Waiting } ∷ []
 queued number None = []
 
 -- the associations with a change of the one under a number
@@ -98,7 +98,7 @@ ended_with number place o = if o.association == number && not (is_ended_state o.
 -- what the entry does
 abbrev pub effect : AgentState → Entry → AgentState
 effect agent (entry.Opened number bind) = record agent { associations = agent.associations ++ bound number (title_in bind) ∷ [] }
-effect agent (entry.Arrived number apdu) = record agent { operations = agent.operations ++ queued number (asked_in apdu) }
+effect agent (entry.Arrived number apdu) = record agent { operations = agent.operations ++ queued number (invocation_in apdu) }
 effect agent (entry.Granted number moment) = record agent { operations = changed_operation agent.operations number (operation.Granted moment) }
 effect agent (entry.Committed number) =
     option_map_or (λ (o : Operation). option_map_or (performed agent number o) (granted_moment o.state) agent) (operation_of agent number) agent

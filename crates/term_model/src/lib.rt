@@ -19,7 +19,7 @@ pub use entry::{Entries, Entry, Why};
 pub use name::{Name, Rdn};
 pub use object::{Attribute, Attrs, Object, Oids};
 pub use reply::{CmisError, Reply};
-pub use request::{Asked, Head, IdRef, Instance, Named, Request};
+pub use request::{Head, IdRef, Instance, Invocation, Named, Request};
 pub use schema::{
     AttrRec, AttrRecs, ClassRec, ClassRecs, InstRec, InstRecs, Properties, Property, Rules, Set,
     SystemName,

@@ -47,7 +47,7 @@ pub enum Request {
 
 /// A request with its invoke id: X.229, section 9.
 #[derive(Drop)]
-pub struct Asked {
+pub struct Invocation {
     /// The invoke id.
     pub id: i32,
     /// The request.

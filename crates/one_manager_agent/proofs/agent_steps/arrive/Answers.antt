@@ -9,5 +9,5 @@ returns c =
     let agent = c.args.agent.now in
     let number = c.args.number in
     ap counted c.in_ok-queue.ensures
-    ∙ (ap (λ asked. counted (record agent { operations = agent.operations ++ queued number asked })) c.in_ok-asked.ensures
+    ∙ (ap (λ invocation. counted (record agent { operations = agent.operations ++ queued number invocation })) c.in_ok-invocation.ensures
     ∙ sym (step_legal agent (Arrived number c.args.apdu.now) c.requires.legal))
