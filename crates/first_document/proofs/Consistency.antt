@@ -3,7 +3,7 @@ use Rattle.std.proofs.Common.{◌≡◌, ℕ, ◌≤◌, true, pos, List, [], �
 use Rattle.std.specs.Prelude.{IsSome, find}
 use Rattle.std.specs.Option.{is_some, option_map, unwrap_or}
 use Rattle.std.proofs.lemmas.List.Elements.{All-cons, All-contains, All-head, All-map, All-tail, All-weaker}
-use Rattle.text_lex.specs.TokenTests.{is_word_of}
+use Rattle.token_grammar.specs.TokenTests.{is_word_of}
 use Rattle.term_values.specs.Fits.{der}
 use Rattle.term_values.specs.Typed.TypedValue.{Int}
 use Rattle.term_model.specs.declared.object.Attribute.{Attribute}

@@ -1,11 +1,11 @@
 -- Which tokens the ends of lists and of optional parts are apart from.
 use Rattle.std.proofs.Common.{◌≡◌, ℕ, Bool, true, false, ◌||◌, List, [], ◌∷◌, refl, codes}
 use Rattle.text_lex.specs.declared.token.Token.{Token}
-use Rattle.text_lex.specs.Form.{Marks}
-use Rattle.text_lex.specs.TokenTests.{is_word_of, is_sign_of, is_number}
-use Rattle.text_lex.proofs.Heads.{starts, unknown, heads_unknown}
-use Rattle.text_lex.proofs.Sequences.{Apart, apart_by}
-use Rattle.text_lex.proofs.Known.{at_word, at_sign, at_number, token_of}
+use Rattle.token_grammar.specs.Form.{Marks}
+use Rattle.token_grammar.specs.TokenTests.{is_word_of, is_sign_of, is_number}
+use Rattle.token_grammar.proofs.Heads.{starts, unknown, heads_unknown}
+use Rattle.token_grammar.proofs.Sequences.{Apart, apart_by}
+use Rattle.token_grammar.proofs.Known.{at_word, at_sign, at_number, token_of}
 use Rattle.first_document.specs.DocumentForm.{no_names, is_mark_of, marks, comma, registration_form}
 
 -- a test at the word or the sign with this text

@@ -2,8 +2,8 @@
 use Rattle.std.proofs.Common.{◌≡◌, Bool, true, false, List, [], ◌∷◌, ◌++◌, map, refl, sym, ◌∙◌, ap, append_assoc}
 use Rattle.std.proofs.lemmas.List.{append-nil}
 use Rattle.text_lex.specs.declared.token.Token.{Token}
-use Rattle.text_lex.specs.Form.{Tree, Leaf, Pair, Empty, After}
-use Rattle.text_lex.specs.Parts.{list_tree}
+use Rattle.token_grammar.specs.Form.{Tree, Leaf, Pair, Empty, After}
+use Rattle.token_grammar.specs.Parts.{list_tree}
 use Rattle.first_document.specs.declared.parts.ModulePart.{ModulePart}
 use Rattle.first_document.specs.declared.parts.AttributePart.{AttributePart}
 use Rattle.first_document.specs.declared.parts.AttributeUse.{AttributeUse}

@@ -2,7 +2,7 @@
 use Rattle.std.proofs.Common.{◌≡◌, ℕ, true, false, pos, List, [], ◌∷◌, refl, codes}
 use Rattle.text_lex.specs.declared.token.Token.{Token}
 use Rattle.text_lex.specs.declared.token.TheConstants.{WORD, NUMBER}
-use Rattle.text_lex.proofs.Known.{token_of}
+use Rattle.token_grammar.proofs.Known.{token_of}
 use Rattle.term_values.specs.Der.{identifier_octets, length_octets}
 use Rattle.term_values.specs.Octets.{integer_contents}
 use Rattle.term_values.specs.Typed.TypeSyntax.{Integer}

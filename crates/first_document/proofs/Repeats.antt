@@ -2,15 +2,15 @@
 -- other stops no further.
 use Rattle.std.proofs.Common.{◌≡◌, ℕ, ◌≤◌, List, ◌⊎◌, inl, inr, ap, subst}
 use Rattle.text_lex.specs.declared.token.Token.{Token}
-use Rattle.text_lex.specs.Form.{Form, Tree, Then, Many, Pair, After}
-use Rattle.text_lex.specs.Spelling as S
-use Rattle.text_lex.specs.Spelling.{At, Spells}
-use Rattle.text_lex.specs.Beginning as B
-use Rattle.text_lex.specs.Beginning.{Begins}
-use Rattle.text_lex.specs.Outcome.{closed, Stops, IsFault, IsSpelt}
-use Rattle.text_lex.proofs.Places.{spells_from, begins_from}
-use Rattle.text_lex.proofs.Sequences.{not_closed, spelt_order}
-use Rattle.text_lex.proofs.Turns.{Leads}
+use Rattle.token_grammar.specs.Form.{Form, Tree, Then, Many, Pair, After}
+use Rattle.token_grammar.specs.Spelling as S
+use Rattle.token_grammar.specs.Spelling.{At, Spells}
+use Rattle.token_grammar.specs.Beginning as B
+use Rattle.token_grammar.specs.Beginning.{Begins}
+use Rattle.token_grammar.specs.Outcome.{closed, Stops, IsFault, IsSpelt}
+use Rattle.token_grammar.proofs.Places.{spells_from, begins_from}
+use Rattle.token_grammar.proofs.Sequences.{not_closed, spelt_order}
+use Rattle.token_grammar.proofs.Turns.{Leads}
 
 -- the same parts with an equal tree for the one before them
 many_at : {tokens : List Token} {grammar : ℕ → Form} {f : Form} {s a b : Tree} {i k : ℕ} {c : Tree} → a ≡ b → Spells tokens grammar (Many (After s a) f) i k c → Spells tokens grammar (Many (After s b) f) i k c

@@ -2,10 +2,10 @@
 use Rattle.std.proofs.Common.{◌≡◌, ℕ, true, false, List, [], ◌∷◌, refl, codes}
 use Rattle.text_lex.specs.declared.token.Token.{Token}
 use Rattle.text_lex.specs.declared.token.TheConstants.{WORD, NUMBER, SIGN}
-use Rattle.text_lex.specs.Form.{Maybe}
-use Rattle.text_lex.specs.Spelling as S
-use Rattle.text_lex.specs.Spelling.{At, Spells}
-use Rattle.text_lex.proofs.Known.{token_of}
+use Rattle.token_grammar.specs.Form.{Maybe}
+use Rattle.token_grammar.specs.Spelling as S
+use Rattle.token_grammar.specs.Spelling.{At, Spells}
+use Rattle.token_grammar.proofs.Known.{token_of}
 use Rattle.first_document.specs.DocumentForm.{no_names, is_mark_of, module_form, rules_form, given_form}
 use Rattle.first_document.specs.DocumentTree.{module_tree, rules_tree, given_tree}
 

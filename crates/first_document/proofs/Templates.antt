@@ -2,18 +2,18 @@
 -- them.
 use Rattle.std.proofs.Common.{◌≡◌, ℕ, ◌+◌, ◌≤◌, ◌<◌, Bool, true, false, List, [], ◌∷◌, ◌++◌, refl, sym, ◌∙◌, ap, subst, arith, slice_get, length, codes}
 use Rattle.text_lex.specs.declared.token.Token.{Token}
-use Rattle.text_lex.specs.Form.{Tree, Then, Maybe, Empty}
-use Rattle.text_lex.specs.Spelling.{passes}
-use Rattle.text_lex.specs.Beginning as B
-use Rattle.text_lex.specs.Beginning.{Begins}
-use Rattle.text_lex.specs.Outcome.{closed, Stops, IsFault, IsSpelt}
-use Rattle.text_lex.specs.TokenTests.{is_label, is_word_of}
-use Rattle.text_lex.specs.Parts.{words, list_tree}
-use Rattle.text_lex.proofs.Sequences.{apart_closed, fault_front, stops_later}
-use Rattle.text_lex.proofs.Turns.{Leads, leads_start, leads_on}
-use Rattle.text_lex.proofs.Known.{first_so}
-use Rattle.text_lex.proofs.Parts.{list_tree-append, at_within}
-use Rattle.text_lex.proofs.References.{is_template, template_stops, other_keyword}
+use Rattle.token_grammar.specs.Form.{Tree, Then, Maybe, Empty}
+use Rattle.token_grammar.specs.Spelling.{passes}
+use Rattle.token_grammar.specs.Beginning as B
+use Rattle.token_grammar.specs.Beginning.{Begins}
+use Rattle.token_grammar.specs.Outcome.{closed, Stops, IsFault, IsSpelt}
+use Rattle.token_grammar.specs.TokenTests.{is_label, is_word_of}
+use Rattle.token_grammar.specs.Parts.{words, list_tree}
+use Rattle.token_grammar.proofs.Sequences.{apart_closed, fault_front, stops_later}
+use Rattle.token_grammar.proofs.Turns.{Leads, leads_start, leads_on}
+use Rattle.token_grammar.proofs.Known.{first_so}
+use Rattle.token_grammar.proofs.Parts.{list_tree-append, at_within}
+use Rattle.token_grammar.proofs.References.{is_template, template_stops, other_keyword}
 use Rattle.first_document.specs.declared.parts.AttributePart.{AttributePart}
 use Rattle.first_document.specs.DocumentForm.{no_names, syntax_form, rules_form, registration_form, attribute_form, package_form, class_form, instances_form, templates_form}
 use Rattle.first_document.specs.DocumentTree.{attribute_tree}

@@ -2,9 +2,9 @@
 -- (docs/PROFILE.md, section 6; X.722, sections 8.3, 8.4 and 8.7; X.680, sections 13, 16 and 19).
 use Rattle.std.specs.Prelude.{ℕ, Bool, false, List, [], ◌∷◌, ◌||◌, codes}
 use Rattle.text_lex.specs.declared.token.Token.{Token}
-use Rattle.text_lex.specs.Form.{Form, Tree, Marks, Keep, Then, Maybe, Listed, Many, Empty}
-use Rattle.text_lex.specs.TokenTests.{is_word_of, is_sign_of, is_one_of, is_label, is_word, is_number}
-use Rattle.text_lex.specs.Parts.{words, sign}
+use Rattle.token_grammar.specs.Form.{Form, Tree, Marks, Keep, Then, Maybe, Listed, Many, Empty}
+use Rattle.token_grammar.specs.TokenTests.{is_word_of, is_sign_of, is_one_of, is_label, is_word, is_number}
+use Rattle.token_grammar.specs.Parts.{words, sign}
 
 -- the grammar of names: no form has one, and no token begins what a name stands for
 abbrev pub no_names : ℕ → Form

@@ -2,7 +2,7 @@
 use Rattle.std.specs.Prelude.{◌≡◌, ◌≢◌, ◌≤◌, ◌<◌, ◌^◌, ℕ, List, ◌∷◌, All, AllPairs, Contains, IsTrue, length, map}
 use Rattle.std.specs.Str.Parse.{IsNumeral}
 use Rattle.text_lex.specs.declared.token.Token.{Token}
-use Rattle.text_lex.specs.Spelling.{Spells}
+use Rattle.token_grammar.specs.Spelling.{Spells}
 use Rattle.term_values.specs.Oid.{is_oid}
 use Rattle.term_model.specs.declared.schema.Set.{Set}
 use Rattle.term_model.specs.AgentState.{opened_object}

@@ -6,7 +6,7 @@ use Rattle.std.specs.Cmp.Lexicographic.{slice_cmp}
 use Rattle.std.specs.List.{list_any}
 use Rattle.std.specs.Option.{option_map, unwrap_or}
 use Rattle.std.specs.Ordering.{nat_cmp}
-use Rattle.text_lex.specs.TokenTests.{is_word_of}
+use Rattle.token_grammar.specs.TokenTests.{is_word_of}
 use Rattle.term_values.specs.Fits.{der}
 use Rattle.term_values.specs.Typed.TypedValue.{Int}
 use Rattle.term_model.specs.declared.name.Rdn.{Rdn}

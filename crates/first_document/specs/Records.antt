@@ -6,7 +6,7 @@ use Rattle.std.specs.Option.{option_map_or}
 use Rattle.std.specs.Ordering.{match_ordering, nat_cmp}
 use Rattle.std.specs.Str.Parse.{digits_value}
 use Rattle.text_lex.specs.declared.token.Token.{Token}
-use Rattle.text_lex.specs.TokenTests.{is_word_of}
+use Rattle.token_grammar.specs.TokenTests.{is_word_of}
 use Rattle.term_values.specs.Fits.{der}
 use Rattle.term_values.specs.Typed.TypeSyntax.{Integer}
 use Rattle.term_values.specs.Typed.TypedValue.{Int}

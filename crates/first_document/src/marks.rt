@@ -2,12 +2,12 @@
 //! sign's.
 
 ghost use Rattle.std.specs.Prelude.{◌≡◌, ℕ, [], ◌∷◌, map, slice_get};
-ghost use Rattle.text_lex.specs.Form.{Form, Marks, Bare};
-ghost use Rattle.text_lex.specs.Outcome.{Skips, closed};
-ghost use Rattle.text_lex.specs.Spelling.{passes};
+ghost use Rattle.token_grammar.specs.Form.{Form, Marks, Bare};
+ghost use Rattle.token_grammar.specs.Outcome.{Skips, closed};
+ghost use Rattle.token_grammar.specs.Spelling.{passes};
 ghost use Rattle.first_document.specs.DocumentForm.{is_mark_of};
 
-use text_lex::token_tests::{is_sign_of, is_word_of, token_at};
+use token_grammar::token_tests::{is_sign_of, is_word_of, token_at};
 use text_lex::{SyntaxRefusal, Token};
 
 /// Whether a token is the word or the sign with this text.

@@ -2,9 +2,9 @@
 //! what it read and the place behind it, or the one place of the fault.
 
 ghost use Rattle.std.specs.Prelude.{◌≡◌, ℕ, codes};
-ghost use Rattle.text_lex.specs.Form.{Form, Maybe, Empty};
-ghost use Rattle.text_lex.specs.Outcome.{Reads, closed};
-ghost use Rattle.text_lex.specs.TokenTests.{is_number};
+ghost use Rattle.token_grammar.specs.Form.{Form, Maybe, Empty};
+ghost use Rattle.token_grammar.specs.Outcome.{Reads, closed};
+ghost use Rattle.token_grammar.specs.TokenTests.{is_number};
 ghost use Rattle.first_document.specs.DocumentForm.{no_names, is_mark_of, comma, module_form, syntax_form, rules_form, arcs_form, registration_form, attribute_form, use_form, uses_form, package_form, class_form, given_form, givens_form, values_form, instances_form, templates_form, document_form};
 ghost use Rattle.first_document.specs.DocumentTree.{module_tree, syntax_tree, rules_tree, arcs_tree, registration_tree, attribute_tree, use_tree, uses_tree, package_tree, class_tree, given_tree, givens_tree, values_tree, root_tree, templates_tree, document_tree};
 
@@ -13,10 +13,10 @@ use super::parts::{
     AttributePart, AttributeUse, ClassPart, DocumentParts, GivenValue, ModulePart, RootPart,
 };
 use std::alloc::Global;
-use text_lex::token_reading::{
+use token_grammar::token_reading::{
     place_behind, read_any_word, read_label, read_number, read_one_of, skip_sign, skip_words,
 };
-use text_lex::token_tests::{is_number_at, is_template_at};
+use token_grammar::token_tests::{is_number_at, is_template_at};
 use text_lex::{SyntaxRefusal, Token};
 
 /// The names of a module and its type.

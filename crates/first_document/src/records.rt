@@ -16,7 +16,7 @@ use crate::parts::{AttributePart, AttributeUse, DocumentParts, ModulePart};
 use crate::root_values::{root_record, system_name};
 use std::alloc::Global;
 use term_model::{AttrRecs, ClassRec, ClassRecs, InstRecs, Properties, Property, Set};
-use text_lex::token_tests::is_word_of;
+use token_grammar::token_tests::is_word_of;
 
 /// The word of a use that lets managers replace the attribute's value.
 const GET_REPLACE: &str = "GET-REPLACE";

@@ -2,10 +2,10 @@
 use Rattle.std.proofs.Common.{◌≡◌, ℕ, Bool, true, false, ◌&&◌, is_some, List, None, Some, option_map, refl, ◌∙◌, ap}
 use Rattle.text_lex.specs.declared.token.Token.{Token}
 use Rattle.text_lex.specs.declared.syntax_refusal.SyntaxRefusal.TheVariants.{Syntax}
-use Rattle.text_lex.specs.Form.{Tree, Bare, Pair, Present, AnyOrder, Slots, option_tree}
-use Rattle.text_lex.specs.Turns.{Leads, IsOver}
-use Rattle.text_lex.specs.Outcome.{IsSpelt, Fails}
-use Rattle.text_lex.proofs.Clauses.{clauses_done, clauses_missing, needed_some, needed_none, came_tree}
+use Rattle.token_grammar.specs.Form.{Tree, Bare, Pair, Present, AnyOrder, Slots, option_tree}
+use Rattle.token_grammar.specs.Turns.{Leads, IsOver}
+use Rattle.token_grammar.specs.Outcome.{IsSpelt, Fails}
+use Rattle.token_grammar.proofs.Clauses.{clauses_done, clauses_missing, needed_some, needed_none, came_tree}
 use Rattle.gdmo_members.specs.declared.attribute.AttributeReference.{AttributeReference}
 use Rattle.gdmo_members.specs.Trees.{clause_tree}
 use Rattle.gdmo_members.specs.Templates.{templates, name_binding_clauses}

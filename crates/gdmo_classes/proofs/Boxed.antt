@@ -3,8 +3,8 @@ use Rattle.std.proofs.Common.{◌≡◌, List, Option, None, Some, refl, ◌∙�
 use Rattle.std.specs.declared.alloc.Global.{Global}
 use Rattle.std.specs.declared.boxed.Box.{Box}
 use Rattle.std.specs.declared.vec.Vec.{Vec}
-use Rattle.text_lex.specs.Form.{Tree, Bare, Pair, Present, Second, Empty, After}
-use Rattle.text_lex.specs.Parts.{list_tree}
+use Rattle.token_grammar.specs.Form.{Tree, Bare, Pair, Present, Second, Empty, After}
+use Rattle.token_grammar.specs.Parts.{list_tree}
 use Rattle.gdmo_members.specs.Trees.{registered_ending_tree}
 use Rattle.gdmo_members.specs.MemberTrees.{template_tree}
 use Rattle.gdmo_classes.specs.declared.class.ObjectClassTemplate.{ObjectClassTemplate, Row_of-ClassReference, end_of-ClassReference, more_of-ClassReference, items-the_row-ClassReference, items_hidden-the_row-ClassReference-0, back-ObjectClassTemplate-superclasses}

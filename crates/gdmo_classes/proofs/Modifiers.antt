@@ -1,10 +1,10 @@
 -- Laws on the modifiers of the clauses CREATE and DELETE.
 use Rattle.std.proofs.Common.{◌≡◌, ℕ, Bool, true, false, ◌||◌, List, [], ◌∷◌, refl, codes}
 use Rattle.text_lex.specs.declared.token.Token.{Token}
-use Rattle.text_lex.specs.Spelling.{At}
-use Rattle.text_lex.specs.TokenTests.{is_word_of, is_one_of}
-use Rattle.text_lex.proofs.Heads.{at_wider}
-use Rattle.text_lex.proofs.Known.{at_word, at_one_of, token_of}
+use Rattle.token_grammar.specs.Spelling.{At}
+use Rattle.token_grammar.specs.TokenTests.{is_word_of, is_one_of}
+use Rattle.token_grammar.proofs.Heads.{at_wider}
+use Rattle.token_grammar.proofs.Known.{at_word, at_one_of, token_of}
 use Rattle.gdmo_members.specs.Clauses.{comma}
 use Rattle.gdmo_classes.specs.ClassForms.{is_further, is_keyword, is_modifier_end}
 

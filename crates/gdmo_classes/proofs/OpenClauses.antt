@@ -3,18 +3,18 @@
 use Rattle.std.proofs.Common.{◌≡◌, ◌≢◌, ℕ, zero, suc, ◌≤◌, Bool, true, false, ◌||◌, List, ◌⊎◌, inl, inr, refl, ◌∙◌, ap, subst, arith, slice_get}
 use Rattle.text_lex.specs.declared.token.Token.{Token}
 use Rattle.text_lex.specs.declared.syntax_refusal.SyntaxRefusal.{SyntaxRefusal}
-use Rattle.text_lex.specs.Form.{Form, Tree, AnyOrder, Slots, Slot, NoSlots, form_at, is_open, filled}
-use Rattle.text_lex.specs.Spelling as S
-use Rattle.text_lex.specs.Spelling.{At, passes, Spells}
-use Rattle.text_lex.specs.Beginning as B
-use Rattle.text_lex.specs.Beginning.{Begins}
-use Rattle.text_lex.specs.Turns.{Leads, IsTaken}
-use Rattle.text_lex.specs.Outcome.{IsFault, IsSpelt, Fails}
-use Rattle.text_lex.proofs.Places.{spells_begins, spells_from, begins_from}
-use Rattle.text_lex.proofs.Heads.{Firsts, Heads, skips, starts, opens, advances, at_wider}
-use Rattle.text_lex.proofs.Sequences.{not_closed, spelt_order, fails_by}
-use Rattle.text_lex.proofs.Parts.{at_within}
-use Rattle.text_lex.proofs.Clauses.{OthersStop, same_place, others_stop_by, opens_but}
+use Rattle.token_grammar.specs.Form.{Form, Tree, AnyOrder, Slots, Slot, NoSlots, form_at, is_open, filled}
+use Rattle.token_grammar.specs.Spelling as S
+use Rattle.token_grammar.specs.Spelling.{At, passes, Spells}
+use Rattle.token_grammar.specs.Beginning as B
+use Rattle.token_grammar.specs.Beginning.{Begins}
+use Rattle.token_grammar.specs.Turns.{Leads, IsTaken}
+use Rattle.token_grammar.specs.Outcome.{IsFault, IsSpelt, Fails}
+use Rattle.token_grammar.proofs.Places.{spells_begins, spells_from, begins_from}
+use Rattle.token_grammar.proofs.Heads.{Firsts, Heads, skips, starts, opens, advances, at_wider}
+use Rattle.token_grammar.proofs.Sequences.{not_closed, spelt_order, fails_by}
+use Rattle.token_grammar.proofs.Parts.{at_within}
+use Rattle.token_grammar.proofs.Clauses.{OthersStop, same_place, others_stop_by, opens_but}
 use Rattle.gdmo_classes.proofs.OpenParts.{Meets, meets_by}
 
 opens_filled : (named : Firsts) (n : ℕ) (a : Tree) (s : Slots) (t : Token) → opens named (filled n a s) t ≡ opens named s t

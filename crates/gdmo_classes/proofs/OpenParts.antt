@@ -3,15 +3,15 @@
 use Rattle.std.proofs.Common.{◌≡◌, ℕ, ◌≤◌, Bool, true, false, List, ◌⊎◌, inl, inr, sym, arith, slice_get}
 use Rattle.text_lex.specs.declared.token.Token.{Token}
 use Rattle.text_lex.specs.declared.syntax_refusal.SyntaxRefusal.{SyntaxRefusal}
-use Rattle.text_lex.specs.Form.{Form, Then, Tree, Pair}
-use Rattle.text_lex.specs.Spelling as S
-use Rattle.text_lex.specs.Spelling.{At, passes, Spells}
-use Rattle.text_lex.specs.Beginning as B
-use Rattle.text_lex.specs.Beginning.{Begins}
-use Rattle.text_lex.specs.Outcome.{Stops, IsFault, IsSpelt, Fails}
-use Rattle.text_lex.proofs.Places.{spells_begins, spells_from, begins_from, at_from}
-use Rattle.text_lex.proofs.Heads.{Firsts, Heads, starts, SpellsFirst, BeginsFirst, spells_first, begins_first, at_not, at_wider}
-use Rattle.text_lex.proofs.Sequences.{passes_false, fails_by, spelt_order}
+use Rattle.token_grammar.specs.Form.{Form, Then, Tree, Pair}
+use Rattle.token_grammar.specs.Spelling as S
+use Rattle.token_grammar.specs.Spelling.{At, passes, Spells}
+use Rattle.token_grammar.specs.Beginning as B
+use Rattle.token_grammar.specs.Beginning.{Begins}
+use Rattle.token_grammar.specs.Outcome.{Stops, IsFault, IsSpelt, Fails}
+use Rattle.token_grammar.proofs.Places.{spells_begins, spells_from, begins_from, at_from}
+use Rattle.token_grammar.proofs.Heads.{Firsts, Heads, starts, SpellsFirst, BeginsFirst, spells_first, begins_first, at_not, at_wider}
+use Rattle.token_grammar.proofs.Sequences.{passes_false, fails_by, spelt_order}
 
 -- At a token of `on` no tokens of g come, and g may be spelt by none; the whole might go on with it.
 pub record Meets (tokens : List Token) (grammar : ℕ → Form) (on on' : Token → Bool) (g : Form) : Type 0 where

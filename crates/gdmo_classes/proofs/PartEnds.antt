@@ -1,14 +1,14 @@
 -- Which parts are apart from the tokens with which the parts before them go on.
 use Rattle.std.proofs.Common.{◌≡◌, ℕ, Bool, true, false, not, ◌||◌, List, [], ◌∷◌, refl, codes}
 use Rattle.text_lex.specs.declared.token.Token.{Token}
-use Rattle.text_lex.specs.Form.{Form}
-use Rattle.text_lex.specs.Spelling.{At}
-use Rattle.text_lex.specs.TokenTests.{is_word_of, is_word, is_string, is_label}
-use Rattle.text_lex.proofs.Heads.{starts, opens, or_left, or_right, at_wider}
-use Rattle.text_lex.proofs.Sequences.{Apart, apart_by}
-use Rattle.text_lex.proofs.Known.{at_word, at_sign, at_any_word, at_string, at_one_of, token_of, first_so, second_so}
-use Rattle.text_lex.proofs.Parts.{apart_either, separates_by}
-use Rattle.text_lex.proofs.Turns.{Separates}
+use Rattle.token_grammar.specs.Form.{Form}
+use Rattle.token_grammar.specs.Spelling.{At}
+use Rattle.token_grammar.specs.TokenTests.{is_word_of, is_word, is_string, is_label}
+use Rattle.token_grammar.proofs.Heads.{starts, opens, or_left, or_right, at_wider}
+use Rattle.token_grammar.proofs.Sequences.{Apart, apart_by}
+use Rattle.token_grammar.proofs.Known.{at_word, at_sign, at_any_word, at_string, at_one_of, token_of, first_so, second_so}
+use Rattle.token_grammar.proofs.Parts.{apart_either, separates_by}
+use Rattle.token_grammar.proofs.Turns.{Separates}
 use Rattle.gdmo_members.specs.Clauses.{parameters, semicolon, comma, ending, registered_ending, reference_row}
 use Rattle.gdmo_members.specs.Templates.{templates}
 use Rattle.gdmo_members.proofs.FirstTokens.{labels, labels_lead}

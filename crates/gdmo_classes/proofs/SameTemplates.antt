@@ -1,10 +1,10 @@
 -- Values that agree have one tree: packages, classes, each with classes in line, name bindings, and the
 -- templates of all three kinds.
 use Rattle.std.proofs.Common.{◌≡◌, refl, ap}
-use Rattle.text_lex.specs.Form.{Tree, Bare, Leaf, Pair, First, Second, Present, Empty, After}
-use Rattle.text_lex.specs.Parts.{optional_tree, label_reference_tree}
-use Rattle.text_lex.specs.PartLaws.{OneTreeBy, OptionsAgree, IdentifiersAgree}
-use Rattle.text_lex.proofs.Values.{options_alike, identifiers_alike}
+use Rattle.token_grammar.specs.Form.{Tree, Bare, Leaf, Pair, First, Second, Present, Empty, After}
+use Rattle.token_grammar.specs.Parts.{optional_tree, label_reference_tree}
+use Rattle.token_grammar.specs.PartLaws.{OneTreeBy, OptionsAgree, IdentifiersAgree}
+use Rattle.token_grammar.proofs.Values.{options_alike, identifiers_alike}
 use Rattle.gdmo_members.specs.Trees.{clause_tree, vector_tree, registration_tree, ending_tree}
 use Rattle.gdmo_members.specs.MemberTrees.{attribute_reference_tree, template_tree}
 use Rattle.gdmo_members.specs.Agreement.{AttributeReferencesAgree, VectorsAgree}

@@ -2,9 +2,9 @@
 use Rattle.std.proofs.Common.{List, [], ◌∷◌, refl, codes}
 use Rattle.text_lex.specs.declared.token.Token.{Token}
 use Rattle.text_lex.specs.declared.token.TheConstants.{WORD, NUMBER, SIGN}
-use Rattle.text_lex.specs.Form.{Named, Bare, Leaf, Pair, First, Absent, Empty, After, Numbered}
-use Rattle.text_lex.specs.Spelling.{Spells, no_marks, marks, keep, both, first, no_more, another, enough, named}
-use Rattle.text_lex.proofs.Known.{token_of}
+use Rattle.token_grammar.specs.Form.{Named, Bare, Leaf, Pair, First, Absent, Empty, After, Numbered}
+use Rattle.token_grammar.specs.Spelling.{Spells, no_marks, marks, keep, both, first, no_more, another, enough, named}
+use Rattle.token_grammar.proofs.Known.{token_of}
 use Rattle.gdmo_members.specs.Clauses.{classes}
 use Rattle.gdmo_members.specs.Templates.{templates}
 

@@ -1,8 +1,8 @@
 -- No two values have one tree: what a package says of its attributes, groups, actions and notifications.
 use Rattle.std.proofs.Common.{◌≡◌, ap}
-use Rattle.text_lex.specs.Form.{Tree, Bare, Leaf, Pair}
-use Rattle.text_lex.specs.PartLaws.{OneValue, OneValueBy}
-use Rattle.text_lex.proofs.Values.{pair_same, first_same, second_same, first_not_second, second_not_first, one_option, one_token, one_label_reference, one_qualified_name}
+use Rattle.token_grammar.specs.Form.{Tree, Bare, Leaf, Pair}
+use Rattle.token_grammar.specs.PartLaws.{OneValue, OneValueBy}
+use Rattle.token_grammar.proofs.Values.{pair_same, first_same, second_same, first_not_second, second_not_first, one_option, one_token, one_label_reference, one_qualified_name}
 use Rattle.gdmo_members.specs.MemberTrees.{attribute_reference_tree, parameter_reference_tree}
 use Rattle.gdmo_members.specs.Agreement.{AttributeReferencesAgree, ParameterReferencesAgree, VectorsAgree}
 use Rattle.gdmo_members.specs.Trees.{vector_tree}

@@ -1,19 +1,19 @@
 -- Laws on the value of a property: the words DERIVATION RULE tell a rule from the name of a value.
 use Rattle.std.proofs.Common.{◌≡◌, ℕ, ◌+◌, ◌≤◌, Bool, true, false, ◌&&◌, List, [], ◌∷◌, Some, refl, slice_get, codes}
 use Rattle.text_lex.specs.declared.token.Token.{Token}
-use Rattle.text_lex.specs.Form.{Form, Then, Marks}
-use Rattle.text_lex.specs.Spelling.{passes}
-use Rattle.text_lex.specs.Beginning as B
-use Rattle.text_lex.specs.Beginning.{Begins}
-use Rattle.text_lex.specs.Outcome.{Stops}
-use Rattle.text_lex.specs.TokenTests.{is_name, is_word_of, is_sign_of}
-use Rattle.text_lex.specs.Parts.{words, qualified_name}
-use Rattle.text_lex.proofs.Heads.{stops_unless, passes_wider}
-use Rattle.text_lex.proofs.Sequences.{apart_closed, passes_false, fault_front, fault_rest, stops_later, stops_wider}
-use Rattle.text_lex.proofs.Tokens.{keep_spelt, marks_fault}
-use Rattle.text_lex.proofs.Known.{at_word, first_so, second_so}
-use Rattle.text_lex.proofs.Parts.{token_there}
-use Rattle.text_lex.proofs.Clauses.{first_word_begins, second_word_stops}
+use Rattle.token_grammar.specs.Form.{Form, Then, Marks}
+use Rattle.token_grammar.specs.Spelling.{passes}
+use Rattle.token_grammar.specs.Beginning as B
+use Rattle.token_grammar.specs.Beginning.{Begins}
+use Rattle.token_grammar.specs.Outcome.{Stops}
+use Rattle.token_grammar.specs.TokenTests.{is_name, is_word_of, is_sign_of}
+use Rattle.token_grammar.specs.Parts.{words, qualified_name}
+use Rattle.token_grammar.proofs.Heads.{stops_unless, passes_wider}
+use Rattle.token_grammar.proofs.Sequences.{apart_closed, passes_false, fault_front, fault_rest, stops_later, stops_wider}
+use Rattle.token_grammar.proofs.Tokens.{keep_spelt, marks_fault}
+use Rattle.token_grammar.proofs.Known.{at_word, first_so, second_so}
+use Rattle.token_grammar.proofs.Parts.{token_there}
+use Rattle.token_grammar.proofs.Clauses.{first_word_begins, second_word_stops}
 use Rattle.gdmo_members.specs.Clauses.{behaviours, reference}
 use Rattle.gdmo_members.specs.Templates.{templates}
 use Rattle.gdmo_members.proofs.FirstTokens.{labels, labels_lead}

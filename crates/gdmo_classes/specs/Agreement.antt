@@ -1,7 +1,7 @@
 -- Agreement: two templates are equal in all but the place and the capacity of the memory of their lists
 -- and of their templates in line, which no text says (X.722, sections 8.3, 8.4 and 8.6).
 use Rattle.std.specs.Prelude.{◌≡◌}
-use Rattle.text_lex.specs.PartLaws.{IdentifiersAgree, OptionsAgree}
+use Rattle.token_grammar.specs.PartLaws.{IdentifiersAgree, OptionsAgree}
 use Rattle.gdmo_members.specs.Agreement.{VectorsEqual, VectorsAgree, AttributeReferencesAgree, ParameterReferencesAgree, GroupsAgree, ActionsAgree, NotificationsAgree}
 use Rattle.gdmo_classes.specs.declared.references.GroupReference.{GroupReference}
 use Rattle.gdmo_classes.specs.declared.references.GroupReference.TheVariants.{Label as GLabel, Template as GTemplate}

@@ -2,9 +2,9 @@
 -- one of these (X.722, sections 8.3, 8.4 and 8.6), with the tokens with which their open parts go on.
 use Rattle.std.specs.Prelude.{ℕ, Bool, List, [], ◌∷◌, codes, not, ◌&&◌, ◌||◌}
 use Rattle.text_lex.specs.declared.token.Token.{Token}
-use Rattle.text_lex.specs.Form.{Form, Marks, Keep, Then, Or, Maybe, Listed, Named, Empty}
-use Rattle.text_lex.specs.TokenTests.{is_word_of, is_one_of, is_label, is_word, is_string}
-use Rattle.text_lex.specs.Parts.{words, either, qualified_name}
+use Rattle.token_grammar.specs.Form.{Form, Marks, Keep, Then, Or, Maybe, Listed, Named, Empty}
+use Rattle.token_grammar.specs.TokenTests.{is_word_of, is_one_of, is_label, is_word, is_string}
+use Rattle.token_grammar.specs.Parts.{words, either, qualified_name}
 use Rattle.gdmo_members.specs.Clauses.{attributes, parameters, groups, actions, notifications, packages, classes, name_bindings, comma, clause, reference, references, reference_row}
 use Rattle.gdmo_members.specs.Templates.{property_value, valued, attribute_use, member_use, conditional_package, class_with_subclasses, create_modifiers, delete_modifier}
 

@@ -1,9 +1,9 @@
 -- PackageTrees: what a package template says, and which of its clauses came (X.722, section 8.4).
 use Rattle.std.specs.Prelude.{Bool, false, [], ◌∷◌, option_map, codes}
 use Rattle.text_lex.specs.declared.token.Token.{Token}
-use Rattle.text_lex.specs.Form.{Tree, Bare, Leaf, Pair, First, Second, Slots, Slot, NoSlots, slots_tree}
-use Rattle.text_lex.specs.TokenTests.{is_one_of}
-use Rattle.text_lex.specs.Parts.{label_reference_tree}
+use Rattle.token_grammar.specs.Form.{Tree, Bare, Leaf, Pair, First, Second, Slots, Slot, NoSlots, slots_tree}
+use Rattle.token_grammar.specs.TokenTests.{is_one_of}
+use Rattle.token_grammar.specs.Parts.{label_reference_tree}
 use Rattle.gdmo_members.specs.Clauses.{behaviour_clause}
 use Rattle.gdmo_members.specs.Trees.{clause_tree, vector_tree, behaviour_list_tree, ending_tree}
 use Rattle.gdmo_members.specs.MemberTrees.{template_tree}

@@ -1,5 +1,5 @@
 -- TemplateTree: what a template that holds others says (X.722, sections 8.3, 8.4 and 8.6).
-use Rattle.text_lex.specs.Form.{Tree, First, Second}
+use Rattle.token_grammar.specs.Form.{Tree, First, Second}
 use Rattle.gdmo_classes.specs.declared.template.ClassTemplate.{ClassTemplate}
 use Rattle.gdmo_classes.specs.declared.template.ClassTemplate.TheVariants.{Class, Package, NameBinding}
 use Rattle.gdmo_classes.specs.PackageTrees.{package_tree}

@@ -1,8 +1,8 @@
 //! The attributes of a package, each with its properties and its parameters (X.722, section 8.4).
 
 ghost use Rattle.std.specs.Prelude.{◌≡◌, ℕ};
-ghost use Rattle.text_lex.specs.Form.{Listed, Empty};
-ghost use Rattle.text_lex.specs.Outcome.{Reads, closed};
+ghost use Rattle.token_grammar.specs.Form.{Listed, Empty};
+ghost use Rattle.token_grammar.specs.Outcome.{Reads, closed};
 ghost use Rattle.gdmo_members.specs.Clauses.{comma};
 ghost use Rattle.gdmo_members.specs.Templates.{templates, attribute_use};
 ghost use Rattle.gdmo_members.specs.Trees.{clause_tree, vector_tree};
@@ -14,7 +14,7 @@ use super::rows::read_parameter_row;
 use gdmo_members::attribute::{AttributeReference, read_attribute_reference};
 use gdmo_members::parameter::ParameterReference;
 use std::alloc::Global;
-use text_lex::token_reading::{place_behind, skip_sign, skip_words};
+use token_grammar::token_reading::{place_behind, skip_sign, skip_words};
 use text_lex::{SyntaxRefusal, Token};
 
 /// An attribute of a package.

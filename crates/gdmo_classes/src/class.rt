@@ -2,11 +2,11 @@
 //! in line.
 
 ghost use Rattle.std.specs.Prelude.{◌≡◌, ℕ, codes, IfOk};
-ghost use Rattle.text_lex.specs.Form.{AnyOrder, Named, Listed, Empty};
-ghost use Rattle.text_lex.specs.Outcome.{Reads, closed};
-ghost use Rattle.text_lex.specs.Parts.{either};
-ghost use Rattle.text_lex.specs.Turns.{TakesClause};
-ghost use Rattle.text_lex.specs.TokenTests.{is_word_of};
+ghost use Rattle.token_grammar.specs.Form.{AnyOrder, Named, Listed, Empty};
+ghost use Rattle.token_grammar.specs.Outcome.{Reads, closed};
+ghost use Rattle.token_grammar.specs.Parts.{either};
+ghost use Rattle.token_grammar.specs.Turns.{TakesClause};
+ghost use Rattle.token_grammar.specs.TokenTests.{is_word_of};
 ghost use Rattle.gdmo_members.specs.Clauses.{classes, comma, reference, references, registered_ending};
 ghost use Rattle.gdmo_members.specs.Templates.{templates, class_clauses, conditional_package};
 ghost use Rattle.gdmo_members.specs.Trees.{clause_tree, vector_tree, registered_ending_tree};
@@ -18,10 +18,10 @@ ghost use Rattle.gdmo_classes.specs.ClassTrees.{class_tree, class_slots, class_c
 use super::package::{PackageReference, read_package_list, read_package_reference};
 use gdmo_members::registration::read_registered_ending;
 use std::alloc::Global;
-use text_lex::label_reference::{LabelReference, read_label_reference};
-use text_lex::object_identifier::ObjectIdentifier;
-use text_lex::token_reading::{place_behind, read_label, read_string, skip_sign, skip_words};
-use text_lex::token_tests::{is_template_at, is_word_at};
+use token_grammar::label_reference::{LabelReference, read_label_reference};
+use token_grammar::object_identifier::ObjectIdentifier;
+use token_grammar::token_reading::{place_behind, read_label, read_string, skip_sign, skip_words};
+use token_grammar::token_tests::{is_template_at, is_word_at};
 use text_lex::{SyntaxRefusal, Token};
 
 /// A package that some objects of a class have.

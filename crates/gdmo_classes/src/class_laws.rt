@@ -1,6 +1,6 @@
 //! What holds of each template that holds others and its tree (X.722, sections 8.3, 8.4 and 8.6).
 
-ghost use Rattle.text_lex.specs.PartLaws.{OneTreeBy, OneValue, OneValueBy};
+ghost use Rattle.token_grammar.specs.PartLaws.{OneTreeBy, OneValue, OneValueBy};
 ghost use Rattle.gdmo_classes.specs.UseTrees.{group_reference_tree, action_reference_tree, notification_reference_tree, properties_tree};
 ghost use Rattle.gdmo_classes.specs.PackageTrees.{package_tree, package_reference_tree};
 ghost use Rattle.gdmo_classes.specs.ClassTrees.{class_tree, class_reference_tree};

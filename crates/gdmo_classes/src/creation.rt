@@ -1,10 +1,10 @@
 //! How objects of a name binding are created and deleted (X.722, section 8.6).
 
 ghost use Rattle.std.specs.Prelude.{◌≡◌, ℕ, slice_get, [], ◌∷◌};
-ghost use Rattle.text_lex.specs.Form.{Leaf, Maybe, Keep, Then};
-ghost use Rattle.text_lex.specs.Spelling.{passes};
-ghost use Rattle.text_lex.specs.Outcome.{Reads, closed};
-ghost use Rattle.text_lex.specs.Parts.{optional_tree};
+ghost use Rattle.token_grammar.specs.Form.{Leaf, Maybe, Keep, Then};
+ghost use Rattle.token_grammar.specs.Spelling.{passes};
+ghost use Rattle.token_grammar.specs.Outcome.{Reads, closed};
+ghost use Rattle.token_grammar.specs.Parts.{optional_tree};
 ghost use Rattle.gdmo_members.specs.Clauses.{comma};
 ghost use Rattle.gdmo_members.specs.Templates.{templates, modifier_before, create_modifiers, delete_modifier};
 ghost use Rattle.gdmo_members.specs.Trees.{clause_tree};
@@ -14,8 +14,8 @@ ghost use Rattle.gdmo_classes.specs.BindingTrees.{further_tree, modifier_row_tre
 use super::rows::read_parameter_row;
 use gdmo_members::parameter::ParameterReference;
 use std::alloc::Global;
-use text_lex::token_reading::{read_one_of, read_sign, skip_sign, skip_words};
-use text_lex::token_tests::{is_one_of_at, is_sign_at, is_sign_of, is_word_at, is_word_of};
+use token_grammar::token_reading::{read_one_of, read_sign, skip_sign, skip_words};
+use token_grammar::token_tests::{is_one_of_at, is_sign_at, is_sign_of, is_word_at, is_word_of};
 use text_lex::{SyntaxRefusal, Token};
 
 /// The second create modifier.

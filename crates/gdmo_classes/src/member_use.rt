@@ -2,8 +2,8 @@
 //! (X.722, section 8.4).
 
 ghost use Rattle.std.specs.Prelude.{◌≡◌, ℕ};
-ghost use Rattle.text_lex.specs.Form.{Listed, Empty};
-ghost use Rattle.text_lex.specs.Outcome.{Reads, closed};
+ghost use Rattle.token_grammar.specs.Form.{Listed, Empty};
+ghost use Rattle.token_grammar.specs.Outcome.{Reads, closed};
 ghost use Rattle.gdmo_members.specs.Clauses.{attributes, parameters, groups, actions, notifications, comma};
 ghost use Rattle.gdmo_members.specs.Templates.{templates, member_use};
 ghost use Rattle.gdmo_members.specs.Trees.{clause_tree, vector_tree};
@@ -18,7 +18,7 @@ use super::rows::{read_attribute_row, read_parameter_row};
 use gdmo_members::attribute::AttributeReference;
 use gdmo_members::parameter::ParameterReference;
 use std::alloc::Global;
-use text_lex::token_reading::{place_behind, skip_sign, skip_words};
+use token_grammar::token_reading::{place_behind, skip_sign, skip_words};
 use text_lex::{SyntaxRefusal, Token};
 
 /// An attribute group of a package.

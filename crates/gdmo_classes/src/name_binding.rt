@@ -1,10 +1,10 @@
 //! The name binding template (X.722, section 8.6).
 
 ghost use Rattle.std.specs.Prelude.{◌≡◌, ℕ};
-ghost use Rattle.text_lex.specs.Form.{AnyOrder, Named, Maybe};
-ghost use Rattle.text_lex.specs.Outcome.{Reads, closed};
-ghost use Rattle.text_lex.specs.Parts.{optional_tree};
-ghost use Rattle.text_lex.specs.Turns.{TakesClause};
+ghost use Rattle.token_grammar.specs.Form.{AnyOrder, Named, Maybe};
+ghost use Rattle.token_grammar.specs.Outcome.{Reads, closed};
+ghost use Rattle.token_grammar.specs.Parts.{optional_tree};
+ghost use Rattle.token_grammar.specs.Turns.{TakesClause};
 ghost use Rattle.gdmo_members.specs.Clauses.{name_bindings};
 ghost use Rattle.gdmo_members.specs.Templates.{templates, class_with_subclasses, name_binding_clauses};
 ghost use Rattle.gdmo_members.specs.Trees.{clause_tree};
@@ -18,9 +18,9 @@ use gdmo_members::attribute::{AttributeReference, read_attribute_reference};
 use gdmo_members::behaviour::{BehaviourReference, read_behaviour_clause};
 use gdmo_members::registration::read_registered_ending;
 use std::alloc::Global;
-use text_lex::object_identifier::ObjectIdentifier;
-use text_lex::token_reading::{read_label, read_one_of, skip_sign, skip_words};
-use text_lex::token_tests::is_word_at;
+use token_grammar::object_identifier::ObjectIdentifier;
+use token_grammar::token_reading::{read_label, read_one_of, skip_sign, skip_words};
+use token_grammar::token_tests::is_word_at;
 use text_lex::{SyntaxRefusal, Token};
 
 /// A class of a name binding, alone or with its subclasses.

@@ -1,11 +1,11 @@
 //! The package template (X.722, section 8.4) and references to it.
 
 ghost use Rattle.std.specs.Prelude.{◌≡◌, ℕ, codes};
-ghost use Rattle.text_lex.specs.Form.{AnyOrder, Named, Listed, Empty};
-ghost use Rattle.text_lex.specs.Outcome.{Reads, closed};
-ghost use Rattle.text_lex.specs.Parts.{either};
-ghost use Rattle.text_lex.specs.Turns.{TakesClause};
-ghost use Rattle.text_lex.specs.TokenTests.{is_word_of};
+ghost use Rattle.token_grammar.specs.Form.{AnyOrder, Named, Listed, Empty};
+ghost use Rattle.token_grammar.specs.Outcome.{Reads, closed};
+ghost use Rattle.token_grammar.specs.Parts.{either};
+ghost use Rattle.token_grammar.specs.Turns.{TakesClause};
+ghost use Rattle.token_grammar.specs.TokenTests.{is_word_of};
 ghost use Rattle.gdmo_members.specs.Clauses.{packages, comma, reference, references};
 ghost use Rattle.gdmo_members.specs.Templates.{templates, package_clauses};
 ghost use Rattle.gdmo_members.specs.Trees.{vector_tree};
@@ -19,10 +19,10 @@ use super::member_use::{
 use gdmo_members::behaviour::{BehaviourReference, read_behaviour_clause};
 use gdmo_members::registration::read_ending;
 use std::alloc::Global;
-use text_lex::label_reference::{LabelReference, read_label_reference};
-use text_lex::object_identifier::ObjectIdentifier;
-use text_lex::token_reading::{place_behind, read_label, skip_words};
-use text_lex::token_tests::{is_template_at, is_word_at};
+use token_grammar::label_reference::{LabelReference, read_label_reference};
+use token_grammar::object_identifier::ObjectIdentifier;
+use token_grammar::token_reading::{place_behind, read_label, skip_words};
+use token_grammar::token_tests::{is_template_at, is_word_at};
 use text_lex::{SyntaxRefusal, Token};
 
 /// A package template.

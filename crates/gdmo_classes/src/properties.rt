@@ -1,19 +1,19 @@
 //! The properties of an attribute in a package, in any order and each at most once (X.722, section 8.4).
 
 ghost use Rattle.std.specs.Prelude.{◌≡◌, ℕ, codes};
-ghost use Rattle.text_lex.specs.Form.{AnyOrder};
-ghost use Rattle.text_lex.specs.Outcome.{Reads, closed};
-ghost use Rattle.text_lex.specs.Turns.{TakesClause};
-ghost use Rattle.text_lex.specs.TokenTests.{is_word_of};
+ghost use Rattle.token_grammar.specs.Form.{AnyOrder};
+ghost use Rattle.token_grammar.specs.Outcome.{Reads, closed};
+ghost use Rattle.token_grammar.specs.Turns.{TakesClause};
+ghost use Rattle.token_grammar.specs.TokenTests.{is_word_of};
 ghost use Rattle.gdmo_members.specs.Templates.{templates, property_value, property_slots};
 ghost use Rattle.gdmo_classes.specs.ClassForms.{is_keyword, default_property, initial_property, permitted_property, required_property};
 ghost use Rattle.gdmo_classes.specs.UseTrees.{property_value_tree, valued_tree, named_type_tree, properties_slots, properties_tree};
 
 use gdmo_members::behaviour::{BehaviourReference, read_behaviour_reference};
 use std::alloc::Global;
-use text_lex::qualified_name::{QualifiedName, read_qualified_name};
-use text_lex::token_reading::{read_one_of, skip_words};
-use text_lex::token_tests::{is_one_of_at, is_pair_at, is_word_at};
+use token_grammar::qualified_name::{QualifiedName, read_qualified_name};
+use token_grammar::token_reading::{read_one_of, skip_words};
+use token_grammar::token_tests::{is_one_of_at, is_pair_at, is_word_at};
 use text_lex::{SyntaxRefusal, Token};
 
 /// A default or an initial value.

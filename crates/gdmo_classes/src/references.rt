@@ -2,8 +2,8 @@
 //! (X.722, section 8.2).
 
 ghost use Rattle.std.specs.Prelude.{◌≡◌, ℕ, codes};
-ghost use Rattle.text_lex.specs.Outcome.{Reads, closed};
-ghost use Rattle.text_lex.specs.TokenTests.{is_word_of};
+ghost use Rattle.token_grammar.specs.Outcome.{Reads, closed};
+ghost use Rattle.token_grammar.specs.TokenTests.{is_word_of};
 ghost use Rattle.gdmo_members.specs.Clauses.{groups, actions, notifications, reference};
 ghost use Rattle.gdmo_members.specs.Templates.{templates};
 ghost use Rattle.gdmo_classes.specs.UseTrees.{group_reference_tree, action_reference_tree, notification_reference_tree};
@@ -12,8 +12,8 @@ use gdmo_members::action::{ActionTemplate, read_action};
 use gdmo_members::group::{GroupTemplate, read_group};
 use gdmo_members::notification::{NotificationTemplate, read_notification};
 use std::alloc::Global;
-use text_lex::label_reference::{LabelReference, read_label_reference};
-use text_lex::token_tests::is_template_at;
+use token_grammar::label_reference::{LabelReference, read_label_reference};
+use token_grammar::token_tests::is_template_at;
 use text_lex::{SyntaxRefusal, Token};
 
 /// What names an attribute group.

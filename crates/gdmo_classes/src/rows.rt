@@ -1,8 +1,8 @@
 //! References with nothing between them, which stand behind what they belong to (X.722, section 8.2).
 
 ghost use Rattle.std.specs.Prelude.{◌≡◌, ℕ, slice_get};
-ghost use Rattle.text_lex.specs.Spelling.{passes};
-ghost use Rattle.text_lex.specs.Outcome.{Reads};
+ghost use Rattle.token_grammar.specs.Spelling.{passes};
+ghost use Rattle.token_grammar.specs.Outcome.{Reads};
 ghost use Rattle.gdmo_members.specs.Clauses.{attributes, parameters, reference_row};
 ghost use Rattle.gdmo_members.specs.Templates.{templates};
 ghost use Rattle.gdmo_members.specs.Trees.{vector_tree};
@@ -13,7 +13,7 @@ use gdmo_members::attribute::{AttributeReference, read_attribute_reference};
 use gdmo_members::parameter::{ParameterReference, read_parameter_reference};
 use std::alloc::Global;
 use text_lex::token::STRING;
-use text_lex::token_tests::is_label;
+use token_grammar::token_tests::is_label;
 use text_lex::{SyntaxRefusal, Token};
 
 /// Whether a reference begins at a place: a label, or the name of a document.

@@ -2,7 +2,7 @@
 //! 8.3, 8.4 and 8.6).
 
 ghost use Rattle.std.specs.Prelude.{◌≡◌, ℕ};
-ghost use Rattle.text_lex.specs.Outcome.{Reads, closed};
+ghost use Rattle.token_grammar.specs.Outcome.{Reads, closed};
 ghost use Rattle.gdmo_members.specs.Templates.{templates};
 ghost use Rattle.gdmo_classes.specs.ClassForms.{class_level};
 ghost use Rattle.gdmo_classes.specs.TemplateTree.{class_template_tree};
@@ -11,7 +11,7 @@ use super::class::{ObjectClassTemplate, read_class};
 use super::name_binding::{NameBindingTemplate, read_name_binding};
 use super::package::{PackageTemplate, read_package};
 use std::alloc::Global;
-use text_lex::token_tests::is_template_at;
+use token_grammar::token_tests::is_template_at;
 use text_lex::{SyntaxRefusal, Token};
 
 /// A template that holds the others.

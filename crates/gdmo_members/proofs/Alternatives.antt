@@ -1,19 +1,19 @@
 -- Laws on the six templates, which begin alike: the words behind the label part them.
 use Rattle.std.proofs.Common.{◌≡◌, ℕ, ◌+◌, ◌≤◌, Bool, true, false, ◌&&◌, ◌||◌, List, Some, refl, arith, slice_get, codes}
 use Rattle.text_lex.specs.declared.token.Token.{Token}
-use Rattle.text_lex.specs.Form.{Then, AnyOrder, Named}
-use Rattle.text_lex.specs.Spelling.{At, passes}
-use Rattle.text_lex.specs.Beginning as B
-use Rattle.text_lex.specs.Beginning.{Begins}
-use Rattle.text_lex.specs.Outcome.{closed, Stops}
-use Rattle.text_lex.specs.TokenTests.{is_label, is_word_of}
-use Rattle.text_lex.proofs.Heads.{starts, skips}
-use Rattle.text_lex.proofs.Sequences.{apart_closed, fault_front, fault_rest, stops_later, stops_named}
-use Rattle.text_lex.proofs.Tokens.{keep_spelt, mark_spelt, marks_fault, marks_rest_fault}
-use Rattle.text_lex.proofs.Known.{at_word, first_so, second_so}
-use Rattle.text_lex.proofs.Parts.{token_there}
-use Rattle.text_lex.proofs.Clauses.{stops_by}
-use Rattle.text_lex.proofs.References.{is_template, fault_here}
+use Rattle.token_grammar.specs.Form.{Then, AnyOrder, Named}
+use Rattle.token_grammar.specs.Spelling.{At, passes}
+use Rattle.token_grammar.specs.Beginning as B
+use Rattle.token_grammar.specs.Beginning.{Begins}
+use Rattle.token_grammar.specs.Outcome.{closed, Stops}
+use Rattle.token_grammar.specs.TokenTests.{is_label, is_word_of}
+use Rattle.token_grammar.proofs.Heads.{starts, skips}
+use Rattle.token_grammar.proofs.Sequences.{apart_closed, fault_front, fault_rest, stops_later, stops_named}
+use Rattle.token_grammar.proofs.Tokens.{keep_spelt, mark_spelt, marks_fault, marks_rest_fault}
+use Rattle.token_grammar.proofs.Known.{at_word, first_so, second_so}
+use Rattle.token_grammar.proofs.Parts.{token_there}
+use Rattle.token_grammar.proofs.Clauses.{stops_by}
+use Rattle.token_grammar.proofs.References.{is_template, fault_here}
 use Rattle.gdmo_members.specs.Clauses.{attributes, groups, ending}
 use Rattle.gdmo_members.specs.Templates.{templates, attribute_clauses}
 use Rattle.gdmo_members.proofs.FirstTokens.{labels, labels_lead}

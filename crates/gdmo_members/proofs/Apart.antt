@@ -1,14 +1,14 @@
 -- Which tokens the ends of clauses and templates are apart from.
 use Rattle.std.proofs.Common.{◌≡◌, ℕ, false, List, [], ◌∷◌, refl, codes}
 use Rattle.text_lex.specs.declared.token.Token.{Token}
-use Rattle.text_lex.specs.Form.{Form}
-use Rattle.text_lex.specs.Parts.{either}
-use Rattle.text_lex.specs.TokenTests.{is_word_of, is_sign_of}
-use Rattle.text_lex.proofs.Heads.{starts, skips}
-use Rattle.text_lex.proofs.Sequences.{Apart, apart_by}
-use Rattle.text_lex.proofs.Known.{at_word, at_sign, at_any_word, at_one_of, token_of}
-use Rattle.text_lex.proofs.Parts.{apart_either, separates_by}
-use Rattle.text_lex.proofs.Turns.{Separates}
+use Rattle.token_grammar.specs.Form.{Form}
+use Rattle.token_grammar.specs.Parts.{either}
+use Rattle.token_grammar.specs.TokenTests.{is_word_of, is_sign_of}
+use Rattle.token_grammar.proofs.Heads.{starts, skips}
+use Rattle.token_grammar.proofs.Sequences.{Apart, apart_by}
+use Rattle.token_grammar.proofs.Known.{at_word, at_sign, at_any_word, at_one_of, token_of}
+use Rattle.token_grammar.proofs.Parts.{apart_either, separates_by}
+use Rattle.token_grammar.proofs.Turns.{Separates}
 use Rattle.gdmo_members.specs.Clauses.{semicolon, comma, ending, is_context_start}
 use Rattle.gdmo_members.specs.MemberTrees.{is_attribute_clause, is_parameter_clause}
 use Rattle.gdmo_members.specs.Templates.{templates}

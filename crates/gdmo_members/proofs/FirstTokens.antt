@@ -1,8 +1,8 @@
 -- Each template begins with a label.
 use Rattle.std.proofs.Common.{◌≡◌, ℕ, zero, suc, true, false}
 use Rattle.text_lex.specs.declared.token.Token.{Token}
-use Rattle.text_lex.specs.TokenTests.{is_label}
-use Rattle.text_lex.proofs.Heads.{Firsts, Heads, skips, starts}
+use Rattle.token_grammar.specs.TokenTests.{is_label}
+use Rattle.token_grammar.proofs.Heads.{Firsts, Heads, skips, starts}
 use Rattle.gdmo_members.specs.Templates.{templates}
 
 -- a template begins with a label, and isn't spelt by no tokens

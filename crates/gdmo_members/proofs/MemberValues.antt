@@ -1,9 +1,9 @@
 -- No two values have one tree: attribute and parameter templates, each in the other.
 use Rattle.std.proofs.Common.{◌≡◌, ℕ, ◌+◌, suc, ◌∙◌, ap, arith}
-use Rattle.text_lex.specs.Form.{Tree, Empty, After}
-use Rattle.text_lex.specs.PartLaws.{OneValue, OneValueBy, OptionsAgree}
-use Rattle.text_lex.specs.Parts.{qualified_name_tree}
-use Rattle.text_lex.proofs.Values.{parts_of, pair_same, first_same, second_same, present_same, after_same, first_not_second, second_not_first, absent_not_present, present_not_absent, options_agree, one_label_reference, one_qualified_name}
+use Rattle.token_grammar.specs.Form.{Tree, Empty, After}
+use Rattle.token_grammar.specs.PartLaws.{OneValue, OneValueBy, OptionsAgree}
+use Rattle.token_grammar.specs.Parts.{qualified_name_tree}
+use Rattle.token_grammar.proofs.Values.{parts_of, pair_same, first_same, second_same, present_same, after_same, first_not_second, second_not_first, absent_not_present, present_not_absent, options_agree, one_label_reference, one_qualified_name}
 use Rattle.gdmo_members.specs.declared.attribute.AttributeTemplate.{Row_of-ParameterReference, end_of-ParameterReference, more_of-ParameterReference, Held-AttributeTemplate-parameters, None', Some'}
 use Rattle.gdmo_members.specs.declared.attribute.AttributeSyntax.{AttributeSyntax}
 use Rattle.gdmo_members.specs.declared.attribute.AttributeSyntax.TheVariants.{TypeReference as AType, Derived}

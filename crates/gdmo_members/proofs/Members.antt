@@ -4,15 +4,15 @@ use Rattle.std.specs.declared.alloc.Global.{Global}
 use Rattle.std.specs.declared.boxed.Box.{Box}
 use Rattle.std.specs.declared.vec.Vec.{Vec}
 use Rattle.text_lex.specs.declared.token.Token.{Token}
-use Rattle.text_lex.specs.Form.{Tree, Bare, Pair, Present, Second, Empty, After, AnyOrder, Slots, option_tree}
+use Rattle.token_grammar.specs.Form.{Tree, Bare, Pair, Present, Second, Empty, After, AnyOrder, Slots, option_tree}
 use Rattle.text_lex.specs.declared.syntax_refusal.SyntaxRefusal.TheVariants.{Syntax}
 use Rattle.gdmo_members.specs.declared.context.Context.{Context}
 use Rattle.gdmo_members.specs.declared.parameter.ParameterDraft.{ParameterDraft}
 use Rattle.gdmo_members.specs.declared.parameter.ParameterSyntax.{ParameterSyntax}
-use Rattle.text_lex.specs.Turns.{Leads, IsOver}
-use Rattle.text_lex.specs.Outcome.{IsSpelt, Fails}
-use Rattle.text_lex.specs.Parts.{list_tree}
-use Rattle.text_lex.proofs.Clauses.{clauses_done, clauses_missing, needed_some, needed_none, came_tree}
+use Rattle.token_grammar.specs.Turns.{Leads, IsOver}
+use Rattle.token_grammar.specs.Outcome.{IsSpelt, Fails}
+use Rattle.token_grammar.specs.Parts.{list_tree}
+use Rattle.token_grammar.proofs.Clauses.{clauses_done, clauses_missing, needed_some, needed_none, came_tree}
 use Rattle.gdmo_members.specs.declared.attribute.AttributeTemplate.{AttributeTemplate, Row_of-ParameterReference, end_of-ParameterReference, more_of-ParameterReference, items-the_row-ParameterReference, items_hidden-the_row-ParameterReference-0, back-AttributeTemplate-parameters}
 use Rattle.gdmo_members.specs.declared.attribute.AttributeReference.TheBlock.{hidden-the_row-ParameterReference-0}
 use Rattle.gdmo_members.specs.declared.attribute.AttributeSyntax.{AttributeSyntax}

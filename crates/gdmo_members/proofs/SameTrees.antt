@@ -1,9 +1,9 @@
 -- Values that agree have one tree: the parts of templates, and attribute and parameter templates.
 use Rattle.std.proofs.Common.{◌≡◌, refl, ap}
-use Rattle.text_lex.specs.Form.{Tree, Bare, Leaf, Pair, First, Second, Present, Empty, After}
-use Rattle.text_lex.specs.Parts.{optional_tree, list_tree, label_reference_tree, qualified_name_tree}
-use Rattle.text_lex.specs.PartLaws.{OneTreeBy, OptionsAgree, IdentifiersAgree}
-use Rattle.text_lex.proofs.Values.{lists_alike, options_alike, identifiers_alike}
+use Rattle.token_grammar.specs.Form.{Tree, Bare, Leaf, Pair, First, Second, Present, Empty, After}
+use Rattle.token_grammar.specs.Parts.{optional_tree, list_tree, label_reference_tree, qualified_name_tree}
+use Rattle.token_grammar.specs.PartLaws.{OneTreeBy, OptionsAgree, IdentifiersAgree}
+use Rattle.token_grammar.proofs.Values.{lists_alike, options_alike, identifiers_alike}
 use Rattle.gdmo_members.specs.declared.attribute.AttributeTemplate.{Row_of-ParameterReference, end_of-ParameterReference, more_of-ParameterReference, Held-AttributeTemplate-parameters, None', Some'}
 use Rattle.gdmo_members.specs.declared.attribute.AttributeSyntax.{AttributeSyntax}
 use Rattle.gdmo_members.specs.declared.attribute.AttributeSyntax.TheVariants.{TypeReference as AType, Derived}

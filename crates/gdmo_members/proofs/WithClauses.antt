@@ -2,13 +2,13 @@
 -- behind a notification's information.
 use Rattle.std.proofs.Common.{◌≡◌, ℕ, Bool, true, false, not, ◌&&◌, List, [], ◌∷◌, refl, codes}
 use Rattle.text_lex.specs.declared.token.Token.{Token}
-use Rattle.text_lex.specs.Spelling.{At}
-use Rattle.text_lex.specs.TokenTests.{is_word_of}
-use Rattle.text_lex.specs.Parts.{either}
-use Rattle.text_lex.proofs.Heads.{starts, at_wider, or_left, or_right}
-use Rattle.text_lex.proofs.Sequences.{Apart, apart_by}
-use Rattle.text_lex.proofs.Known.{at_one_of}
-use Rattle.text_lex.proofs.Parts.{apart_either}
+use Rattle.token_grammar.specs.Spelling.{At}
+use Rattle.token_grammar.specs.TokenTests.{is_word_of}
+use Rattle.token_grammar.specs.Parts.{either}
+use Rattle.token_grammar.proofs.Heads.{starts, at_wider, or_left, or_right}
+use Rattle.token_grammar.proofs.Sequences.{Apart, apart_by}
+use Rattle.token_grammar.proofs.Known.{at_one_of}
+use Rattle.token_grammar.proofs.Parts.{apart_either}
 use Rattle.gdmo_members.specs.Clauses.{comma, semicolon, registered_ending}
 use Rattle.gdmo_members.specs.Templates.{templates}
 use Rattle.gdmo_members.specs.FurtherTrees.{is_field_end, is_group_clause, is_action_clause, is_notification_clause}

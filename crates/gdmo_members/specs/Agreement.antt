@@ -3,7 +3,7 @@
 use Rattle.std.specs.Prelude.{◌≡◌}
 use Rattle.std.specs.declared.alloc.Global.{Global}
 use Rattle.std.specs.declared.vec.Vec.{Vec}
-use Rattle.text_lex.specs.PartLaws.{IdentifiersAgree, ListsAgree, OptionsAgree}
+use Rattle.token_grammar.specs.PartLaws.{IdentifiersAgree, ListsAgree, OptionsAgree}
 use Rattle.gdmo_members.specs.declared.behaviour.BehaviourTemplate.{BehaviourTemplate}
 use Rattle.gdmo_members.specs.declared.context.Context.{Context}
 use Rattle.gdmo_members.specs.declared.attribute.AttributeTemplate.{AttributeTemplate, Row_of-ParameterReference, end_of-ParameterReference, more_of-ParameterReference, Held-AttributeTemplate-parameters, None', Some'}

@@ -4,9 +4,9 @@ use Rattle.std.specs.Prelude.{Bool, false, [], ◌∷◌, option_map, codes}
 use Rattle.std.specs.declared.alloc.Global.{Global}
 use Rattle.std.specs.declared.vec.Vec.{Vec}
 use Rattle.text_lex.specs.declared.token.Token.{Token}
-use Rattle.text_lex.specs.Form.{Keep, Tree, Bare, Leaf, Pair, Slots, Slot, NoSlots, slots_tree}
-use Rattle.text_lex.specs.TokenTests.{is_one_of, is_string, is_word_of}
-use Rattle.text_lex.specs.Parts.{either, optional_tree, qualified_name, qualified_name_tree}
+use Rattle.token_grammar.specs.Form.{Keep, Tree, Bare, Leaf, Pair, Slots, Slot, NoSlots, slots_tree}
+use Rattle.token_grammar.specs.TokenTests.{is_one_of, is_string, is_word_of}
+use Rattle.token_grammar.specs.Parts.{either, optional_tree, qualified_name, qualified_name_tree}
 use Rattle.gdmo_members.specs.declared.group.GroupTemplate.{GroupTemplate}
 use Rattle.gdmo_members.specs.declared.group.GroupClauses.{GroupClauses}
 use Rattle.gdmo_members.specs.declared.action.ActionTemplate.{ActionTemplate}

@@ -1,5 +1,5 @@
 -- MemberTree: what a template of a package's member says (X.722, section 8).
-use Rattle.text_lex.specs.Form.{Tree, First, Second}
+use Rattle.token_grammar.specs.Form.{Tree, First, Second}
 use Rattle.gdmo_members.specs.declared.member.MemberTemplate.{MemberTemplate}
 use Rattle.gdmo_members.specs.declared.member.MemberTemplate.TheVariants.{Attribute, Group, Action, Notification, Parameter, Behaviour}
 use Rattle.gdmo_members.specs.Trees.{behaviour_tree}

@@ -4,9 +4,9 @@ use Rattle.std.specs.Prelude.{ℕ, Bool, true, false, [], ◌∷◌, Option, opt
 use Rattle.std.specs.declared.alloc.Global.{Global}
 use Rattle.std.specs.declared.vec.Vec.{Vec}
 use Rattle.text_lex.specs.declared.token.Token.{Token}
-use Rattle.text_lex.specs.Form.{Tree, Bare, Leaf, Pair, First, Second, Absent, Present, Empty, After, Numbered, Slots, Slot, NoSlots}
-use Rattle.text_lex.specs.TokenTests.{is_one_of}
-use Rattle.text_lex.specs.Parts.{optional_tree, label_reference_tree, qualified_name_tree}
+use Rattle.token_grammar.specs.Form.{Tree, Bare, Leaf, Pair, First, Second, Absent, Present, Empty, After, Numbered, Slots, Slot, NoSlots}
+use Rattle.token_grammar.specs.TokenTests.{is_one_of}
+use Rattle.token_grammar.specs.Parts.{optional_tree, label_reference_tree, qualified_name_tree}
 use Rattle.gdmo_members.specs.declared.behaviour.BehaviourReference.{BehaviourReference}
 use Rattle.gdmo_members.specs.declared.attribute.AttributeTemplate.{AttributeTemplate, Row_of-ParameterReference, end_of-ParameterReference, more_of-ParameterReference, Held-AttributeTemplate-parameters, None', Some'}
 use Rattle.gdmo_members.specs.declared.attribute.AttributeSyntax.{AttributeSyntax}

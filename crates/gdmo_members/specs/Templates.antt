@@ -1,9 +1,9 @@
 -- Templates: the forms of the nine templates of GDMO, in one table, since each may stand in line in
 -- another one (X.722, sections 8.3 to 8.11; docs/PROFILE.md, section 2).
 use Rattle.std.specs.Prelude.{ℕ, zero, suc, true, false, List, [], ◌∷◌, None, codes}
-use Rattle.text_lex.specs.Form.{Form, Marks, Keep, Then, Or, Maybe, Listed, AnyOrder, Named, Slots, Slot, NoSlots, Empty}
-use Rattle.text_lex.specs.TokenTests.{is_one_of, is_label, is_string, is_name}
-use Rattle.text_lex.specs.Parts.{words, qualified_name}
+use Rattle.token_grammar.specs.Form.{Form, Marks, Keep, Then, Or, Maybe, Listed, AnyOrder, Named, Slots, Slot, NoSlots, Empty}
+use Rattle.token_grammar.specs.TokenTests.{is_one_of, is_label, is_string, is_name}
+use Rattle.token_grammar.specs.Parts.{words, qualified_name}
 use Rattle.gdmo_members.specs.Clauses.{behaviours, attributes, parameters, groups, actions, notifications, packages, classes, semicolon, comma, clause, flag, word_clause, reference, references, reference_row, behaviour_clause, parameters_clause, ending, registered_ending, context, matching_rule}
 
 -- Behaviour (X.722, section 8.9):

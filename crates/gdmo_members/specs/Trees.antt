@@ -2,9 +2,9 @@
 use Rattle.std.specs.Prelude.{Option}
 use Rattle.std.specs.declared.alloc.Global.{Global}
 use Rattle.std.specs.declared.vec.Vec.{Vec}
-use Rattle.text_lex.specs.declared.object_identifier.ObjectIdentifier.{ObjectIdentifier}
-use Rattle.text_lex.specs.Form.{Tree, Bare, Leaf, Pair, First, Second, Empty, Numbered}
-use Rattle.text_lex.specs.Parts.{optional_tree, list_tree, label_reference_tree, object_identifier_tree}
+use Rattle.token_grammar.specs.declared.object_identifier.ObjectIdentifier.{ObjectIdentifier}
+use Rattle.token_grammar.specs.Form.{Tree, Bare, Leaf, Pair, First, Second, Empty, Numbered}
+use Rattle.token_grammar.specs.Parts.{optional_tree, list_tree, label_reference_tree, object_identifier_tree}
 use Rattle.gdmo_members.specs.declared.behaviour.BehaviourTemplate.{BehaviourTemplate}
 use Rattle.gdmo_members.specs.declared.behaviour.BehaviourReference.{BehaviourReference}
 use Rattle.gdmo_members.specs.declared.behaviour.BehaviourReference.TheVariants.{Label, Template}

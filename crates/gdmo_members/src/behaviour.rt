@@ -2,18 +2,18 @@
 //! have for it.
 
 ghost use Rattle.std.specs.Prelude.{◌≡◌, ℕ, codes};
-ghost use Rattle.text_lex.specs.Form.{Form, Named};
-ghost use Rattle.text_lex.specs.Outcome.{Reads, closed};
-ghost use Rattle.text_lex.specs.Parts.{either};
-ghost use Rattle.text_lex.specs.TokenTests.{is_word_of};
+ghost use Rattle.token_grammar.specs.Form.{Form, Named};
+ghost use Rattle.token_grammar.specs.Outcome.{Reads, closed};
+ghost use Rattle.token_grammar.specs.Parts.{either};
+ghost use Rattle.token_grammar.specs.TokenTests.{is_word_of};
 ghost use Rattle.gdmo_members.specs.Clauses.{behaviours, comma, reference, references, behaviour_clause};
 ghost use Rattle.gdmo_members.specs.Templates.{templates};
 ghost use Rattle.gdmo_members.specs.Trees.{behaviour_tree, behaviour_reference_tree, behaviour_list_tree, clause_tree};
 
 use std::alloc::Global;
-use text_lex::label_reference::{LabelReference, read_label_reference};
-use text_lex::token_reading::{place_behind, read_label, read_string, skip_sign, skip_words};
-use text_lex::token_tests::is_template_at;
+use token_grammar::label_reference::{LabelReference, read_label_reference};
+use token_grammar::token_reading::{place_behind, read_label, read_string, skip_sign, skip_words};
+use token_grammar::token_tests::is_template_at;
 use text_lex::{SyntaxRefusal, Token};
 
 /// A behaviour template, `label BEHAVIOUR DEFINED AS string;`.

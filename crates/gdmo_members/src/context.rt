@@ -2,19 +2,19 @@
 //! `Module.Type.field` (X.722, section 8.5). It is not looked up.
 
 ghost use Rattle.std.specs.Prelude.{◌≡◌, ℕ, codes, slice_get};
-ghost use Rattle.text_lex.specs.Form.{Form, Keep, Leaf, Maybe, Many, Empty};
-ghost use Rattle.text_lex.specs.Outcome.{Reads, closed};
-ghost use Rattle.text_lex.specs.Parts.{list_tree, optional_tree};
-ghost use Rattle.text_lex.specs.Spelling.{passes};
-ghost use Rattle.text_lex.specs.TokenTests.{is_sign_of};
+ghost use Rattle.token_grammar.specs.Form.{Form, Keep, Leaf, Maybe, Many, Empty};
+ghost use Rattle.token_grammar.specs.Outcome.{Reads, closed};
+ghost use Rattle.token_grammar.specs.Parts.{list_tree, optional_tree};
+ghost use Rattle.token_grammar.specs.Spelling.{passes};
+ghost use Rattle.token_grammar.specs.TokenTests.{is_sign_of};
 ghost use Rattle.gdmo_members.specs.Clauses.{context, context_word, is_context_start};
 ghost use Rattle.gdmo_members.specs.Templates.{templates};
 ghost use Rattle.gdmo_members.specs.Trees.{context_tree, context_word_tree};
 
 use std::alloc::Global;
 use text_lex::token::WORD;
-use text_lex::token_reading::{read_any_word, read_sign};
-use text_lex::token_tests::{is_sign_at, is_sign_of};
+use token_grammar::token_reading::{read_any_word, read_sign};
+use token_grammar::token_tests::{is_sign_at, is_sign_of};
 use text_lex::{SyntaxRefusal, Token};
 
 /// A word of a context behind the first one.

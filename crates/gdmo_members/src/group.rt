@@ -1,11 +1,11 @@
 //! The attribute group template (X.722, section 8.8).
 
 ghost use Rattle.std.specs.Prelude.{◌≡◌, ℕ, [], ◌∷◌, codes};
-ghost use Rattle.text_lex.specs.Form.{Form, AnyOrder, Keep, Leaf, Listed, Empty, Maybe, Named, Then};
-ghost use Rattle.text_lex.specs.Outcome.{Reads, closed};
-ghost use Rattle.text_lex.specs.Parts.{either, optional_tree, qualified_name};
-ghost use Rattle.text_lex.specs.Turns.{TakesClause};
-ghost use Rattle.text_lex.specs.TokenTests.{is_string, is_word_of};
+ghost use Rattle.token_grammar.specs.Form.{Form, AnyOrder, Keep, Leaf, Listed, Empty, Maybe, Named, Then};
+ghost use Rattle.token_grammar.specs.Outcome.{Reads, closed};
+ghost use Rattle.token_grammar.specs.Parts.{either, optional_tree, qualified_name};
+ghost use Rattle.token_grammar.specs.Turns.{TakesClause};
+ghost use Rattle.token_grammar.specs.TokenTests.{is_string, is_word_of};
 ghost use Rattle.gdmo_members.specs.Clauses.{attributes, groups, clause, comma, references, word_clause};
 ghost use Rattle.gdmo_members.specs.Templates.{templates, group_clauses};
 ghost use Rattle.gdmo_members.specs.Trees.{clause_tree, vector_tree};
@@ -15,11 +15,11 @@ ghost use Rattle.gdmo_members.specs.FurtherTrees.{group_tree, group_slots, group
 use super::attribute::{AttributeReference, read_attribute_reference};
 use super::registration::read_registered_ending;
 use std::alloc::Global;
-use text_lex::object_identifier::ObjectIdentifier;
-use text_lex::token_reading::{
+use token_grammar::object_identifier::ObjectIdentifier;
+use token_grammar::token_reading::{
     place_behind, read_label, read_one_of, read_string, skip_sign, skip_words,
 };
-use text_lex::token_tests::is_word_at;
+use token_grammar::token_tests::is_word_at;
 use text_lex::{SyntaxRefusal, Token};
 
 /// An attribute group template.

@@ -1,14 +1,14 @@
 //! The clause that says by which rules an attribute's values are matched (X.722, section 8.7).
 
 ghost use Rattle.std.specs.Prelude.{◌≡◌, ℕ, codes};
-ghost use Rattle.text_lex.specs.Form.{Form, Listed, Empty, Leaf};
-ghost use Rattle.text_lex.specs.Outcome.{Reads, closed};
+ghost use Rattle.token_grammar.specs.Form.{Form, Listed, Empty, Leaf};
+ghost use Rattle.token_grammar.specs.Outcome.{Reads, closed};
 ghost use Rattle.gdmo_members.specs.Clauses.{comma, matching_rule};
 ghost use Rattle.gdmo_members.specs.Templates.{templates, rules_clause};
 ghost use Rattle.gdmo_members.specs.Trees.{clause_tree, vector_tree};
 
 use std::alloc::Global;
-use text_lex::token_reading::{place_behind, read_one_of, skip_sign, skip_words};
+use token_grammar::token_reading::{place_behind, read_one_of, skip_sign, skip_words};
 use text_lex::{SyntaxRefusal, Token};
 
 /// Reads matching rules with commas between them.

@@ -2,7 +2,7 @@
 //! (X.722, sections 8.5 and 8.7 to 8.11).
 
 ghost use Rattle.std.specs.Prelude.{◌≡◌, ℕ};
-ghost use Rattle.text_lex.specs.Outcome.{Reads, closed};
+ghost use Rattle.token_grammar.specs.Outcome.{Reads, closed};
 ghost use Rattle.gdmo_members.specs.Templates.{templates, member};
 ghost use Rattle.gdmo_members.specs.MemberTree.{member_tree};
 
@@ -13,7 +13,7 @@ use super::group::{GroupTemplate, read_group};
 use super::notification::{NotificationTemplate, read_notification};
 use super::parameter::{ParameterTemplate, read_parameter};
 use std::alloc::Global;
-use text_lex::token_tests::{is_pair_template_at, is_template_at};
+use token_grammar::token_tests::{is_pair_template_at, is_template_at};
 use text_lex::{SyntaxRefusal, Token};
 
 /// A template of a package's member.

@@ -1,6 +1,6 @@
 //! What holds of each template of a package's member and its tree (X.722, section 8).
 
-ghost use Rattle.text_lex.specs.PartLaws.{OneTreeBy, OneValue, OneValueBy};
+ghost use Rattle.token_grammar.specs.PartLaws.{OneTreeBy, OneValue, OneValueBy};
 ghost use Rattle.gdmo_members.specs.Trees.{behaviour_tree, behaviour_reference_tree};
 ghost use Rattle.gdmo_members.specs.MemberTrees.{attribute_tree, attribute_reference_tree, parameter_tree, parameter_reference_tree};
 ghost use Rattle.gdmo_members.specs.FurtherTrees.{action_tree, group_tree, notification_tree};

@@ -1,11 +1,11 @@
 //! The notification template (X.722, section 8.11).
 
 ghost use Rattle.std.specs.Prelude.{◌≡◌, ℕ, [], ◌∷◌, codes};
-ghost use Rattle.text_lex.specs.Form.{Form, AnyOrder, Keep, Leaf, Listed, Empty, Maybe, Named, Then};
-ghost use Rattle.text_lex.specs.Outcome.{Reads, closed};
-ghost use Rattle.text_lex.specs.Parts.{either, optional_tree, qualified_name};
-ghost use Rattle.text_lex.specs.Turns.{TakesClause};
-ghost use Rattle.text_lex.specs.TokenTests.{is_string, is_word_of};
+ghost use Rattle.token_grammar.specs.Form.{Form, AnyOrder, Keep, Leaf, Listed, Empty, Maybe, Named, Then};
+ghost use Rattle.token_grammar.specs.Outcome.{Reads, closed};
+ghost use Rattle.token_grammar.specs.Parts.{either, optional_tree, qualified_name};
+ghost use Rattle.token_grammar.specs.Turns.{TakesClause};
+ghost use Rattle.token_grammar.specs.TokenTests.{is_string, is_word_of};
 ghost use Rattle.gdmo_members.specs.Clauses.{notifications, comma};
 ghost use Rattle.gdmo_members.specs.Templates.{templates, notification_clauses, field, fields, information_clause};
 ghost use Rattle.gdmo_members.specs.Trees.{clause_tree, vector_tree};
@@ -18,10 +18,10 @@ use super::parameter::{ParameterReference, read_parameters_clause};
 use super::registration::read_registered_ending;
 use super::type_clause::read_type_clause;
 use std::alloc::Global;
-use text_lex::object_identifier::ObjectIdentifier;
-use text_lex::qualified_name::{QualifiedName, read_qualified_name};
-use text_lex::token_reading::{place_behind, read_label, read_name, skip_sign, skip_words};
-use text_lex::token_tests::{is_pair_at, is_word_at};
+use token_grammar::object_identifier::ObjectIdentifier;
+use token_grammar::qualified_name::{QualifiedName, read_qualified_name};
+use token_grammar::token_reading::{place_behind, read_label, read_name, skip_sign, skip_words};
+use token_grammar::token_tests::{is_pair_at, is_word_at};
 use text_lex::{SyntaxRefusal, Token};
 
 /// A component of a notification's information that is an attribute.

@@ -2,11 +2,11 @@
 //! have for it.
 
 ghost use Rattle.std.specs.Prelude.{◌≡◌, ℕ, [], ◌∷◌, codes, IfOk};
-ghost use Rattle.text_lex.specs.Form.{Form, AnyOrder, Named};
-ghost use Rattle.text_lex.specs.Outcome.{Reads, closed};
-ghost use Rattle.text_lex.specs.Parts.{either};
-ghost use Rattle.text_lex.specs.Turns.{TakesClause};
-ghost use Rattle.text_lex.specs.TokenTests.{is_word_of};
+ghost use Rattle.token_grammar.specs.Form.{Form, AnyOrder, Named};
+ghost use Rattle.token_grammar.specs.Outcome.{Reads, closed};
+ghost use Rattle.token_grammar.specs.Parts.{either};
+ghost use Rattle.token_grammar.specs.Turns.{TakesClause};
+ghost use Rattle.token_grammar.specs.TokenTests.{is_word_of};
 ghost use Rattle.gdmo_members.specs.Clauses.{ending, comma, parameters, reference, references, parameters_clause, context, clause};
 ghost use Rattle.gdmo_members.specs.Templates.{templates, parameter_syntax, parameter_clauses};
 ghost use Rattle.gdmo_members.specs.Trees.{clause_tree, context_tree, ending_tree, vector_tree};
@@ -18,11 +18,11 @@ use super::context::{Context, read_context};
 use super::registration::read_ending;
 use super::type_clause::read_type_clause;
 use std::alloc::Global;
-use text_lex::label_reference::{LabelReference, read_label_reference};
-use text_lex::object_identifier::ObjectIdentifier;
-use text_lex::qualified_name::QualifiedName;
-use text_lex::token_reading::{place_behind, read_label, skip_sign, skip_words};
-use text_lex::token_tests::{is_one_of_at, is_template_at, is_word_at};
+use token_grammar::label_reference::{LabelReference, read_label_reference};
+use token_grammar::object_identifier::ObjectIdentifier;
+use token_grammar::qualified_name::QualifiedName;
+use token_grammar::token_reading::{place_behind, read_label, skip_sign, skip_words};
+use token_grammar::token_tests::{is_one_of_at, is_template_at, is_word_at};
 use text_lex::{SyntaxRefusal, Token};
 
 /// A parameter template.

@@ -1,18 +1,18 @@
 //! The end of a template, with the identifier under which it is registered (X.722, section 8.2).
 
 ghost use Rattle.std.specs.Prelude.{◌≡◌, ℕ, codes};
-ghost use Rattle.text_lex.specs.Form.{Form, Maybe};
-ghost use Rattle.text_lex.specs.Outcome.{Reads, closed};
-ghost use Rattle.text_lex.specs.Parts.{optional_tree};
-ghost use Rattle.text_lex.specs.TokenTests.{is_word_of};
+ghost use Rattle.token_grammar.specs.Form.{Form, Maybe};
+ghost use Rattle.token_grammar.specs.Outcome.{Reads, closed};
+ghost use Rattle.token_grammar.specs.Parts.{optional_tree};
+ghost use Rattle.token_grammar.specs.TokenTests.{is_word_of};
 ghost use Rattle.gdmo_members.specs.Clauses.{registration, ending, registered_ending};
 ghost use Rattle.gdmo_members.specs.Templates.{templates};
 ghost use Rattle.gdmo_members.specs.Trees.{registration_tree, ending_tree, registered_ending_tree};
 
 use std::alloc::Global;
-use text_lex::object_identifier::{ObjectIdentifier, read_object_identifier};
-use text_lex::token_reading::{skip_sign, skip_words};
-use text_lex::token_tests::is_word_at;
+use token_grammar::object_identifier::{ObjectIdentifier, read_object_identifier};
+use token_grammar::token_reading::{skip_sign, skip_words};
+use token_grammar::token_tests::is_word_at;
 use text_lex::{SyntaxRefusal, Token};
 
 /// Reads `REGISTERED AS oid`.

@@ -1,17 +1,17 @@
 //! The clauses that name a type, as `WITH ATTRIBUTE SYNTAX Module.Type;` (X.722, section 8.2).
 
 ghost use Rattle.std.specs.Prelude.{◌≡◌, ℕ, map};
-ghost use Rattle.text_lex.specs.Form.{Form, Marks, Then};
-ghost use Rattle.text_lex.specs.Outcome.{Reads, closed};
-ghost use Rattle.text_lex.specs.Parts.{qualified_name, qualified_name_tree};
-ghost use Rattle.text_lex.specs.TokenTests.{is_word_of};
+ghost use Rattle.token_grammar.specs.Form.{Form, Marks, Then};
+ghost use Rattle.token_grammar.specs.Outcome.{Reads, closed};
+ghost use Rattle.token_grammar.specs.Parts.{qualified_name, qualified_name_tree};
+ghost use Rattle.token_grammar.specs.TokenTests.{is_word_of};
 ghost use Rattle.gdmo_members.specs.Clauses.{semicolon};
 ghost use Rattle.gdmo_members.specs.Templates.{templates};
 ghost use Rattle.gdmo_members.specs.Trees.{clause_tree};
 
 use std::alloc::Global;
-use text_lex::qualified_name::{QualifiedName, read_qualified_name};
-use text_lex::token_reading::{skip_sign, skip_words};
+use token_grammar::qualified_name::{QualifiedName, read_qualified_name};
+use token_grammar::token_reading::{skip_sign, skip_words};
 use text_lex::{SyntaxRefusal, Token};
 
 /// Reads the words, the name of a type and a semicolon.

@@ -1,14 +1,4 @@
 -- The lemmas of this crate.
-pub mod Places
-pub mod Heads
-pub mod Sequences
-pub mod Turns
-pub mod Clauses
-pub mod Tokens
-pub mod Exits
-pub mod Known
-pub mod Parts
-pub mod References
 pub mod Announced
 pub mod Digits
 pub mod Ends
@@ -16,6 +6,4 @@ pub mod Once
 pub mod Pieces
 pub mod Reading
 pub mod Slices
-pub mod Values
 pub mod StandardFacts
-pub mod GrammarFacts

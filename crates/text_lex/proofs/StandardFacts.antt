@@ -19,9 +19,7 @@ use Rattle.text_lex.specs.declared.token.Token.{Token}
 use Rattle.text_lex.specs.declared.token.TheConstants.{WORD}
 use Rattle.text_lex.specs.declared.lexing_octets.Start.TheVariants.{Delimiter, Nothing}
 use Rattle.text_lex.specs.declared.lex_refusal.LexKind.TheVariants.{BadByte}
-use Rattle.text_lex.specs.TokenTests.{is_label, is_name}
 use Rattle.text_lex.proofs.Pieces.{spelt_word, spelt_nothing}
-use Rattle.text_lex.proofs.Known.{token_of}
 
 -- an exclamation mark opens a string behind the words that announce one, and is nothing elsewhere
 announced_delimiter : start_of true 33 ≡ Delimiter
@@ -31,20 +29,6 @@ announced_delimiter = refl
 other_delimiter : start_of false 33 ≡ Nothing
 unfolding start_of is_one_of
 other_delimiter = refl
-
--- a label has a lower-case letter; a word in capitals is none, whatever else it has
-label_example : is_label (token_of WORD 0 (codes "aB")) ≡ true
-label_example = refl
-
-no_label_example : is_label (token_of WORD 0 (codes "A/B1")) ≡ false
-no_label_example = refl
-
--- a keyword of templates may be a name, a word of ASN.1 may not
-name_example : is_name (token_of WORD 0 (codes "PACKAGE")) ≡ true
-name_example = refl
-
-no_name_example : is_name (token_of WORD 0 (codes "INTEGER")) ≡ false
-no_name_example = refl
 
 -- the comment of `--b--c` ends before the c
 comment_example : CommentRest (codes "--b--c") 2 5

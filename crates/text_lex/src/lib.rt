@@ -3,20 +3,14 @@
 #![tactic(auto)]
 
 pub mod bytes;
-pub mod label_reference;
 pub mod lex_refusal;
 pub mod lexing;
 mod lexing_ends;
 pub mod lexing_laws;
 mod lexing_octets;
 mod lexing_pieces;
-pub mod object_identifier;
-pub mod part_laws;
-pub mod qualified_name;
 pub mod syntax_refusal;
 pub mod token;
-pub mod token_reading;
-pub mod token_tests;
 
 pub use bytes::Bytes;
 pub use lex_refusal::{LexKind, LexRefusal};
@@ -24,9 +18,5 @@ pub use lexing::lex;
 pub use syntax_refusal::SyntaxRefusal;
 pub use token::Token;
 
-#[cfg(test)]
-mod form_tests;
-#[cfg(test)]
-mod small_grammar;
 #[cfg(test)]
 mod tests;

@@ -1,17 +1,17 @@
 -- Attribute and parameter templates, each in the other: one part after the other, one clause after the
 -- other, and one parameter after the other.
 use Rattle.std.proofs.Common.{◌∙◌, ◌||◌, sym, refl, true, false, arith, codes, [], ◌∷◌}
-use Rattle.text_lex.proofs.Sequences.{apart_closed, spelt_then, spelt_first, spelt_second, fault_first, fault_second, spelt_named, fails_by, fails_front, fails_rest, fails_named, spelt_order}
-use Rattle.text_lex.proofs.Heads.{skips, starts, stops_unless, advances}
-use Rattle.text_lex.proofs.Known.{at_word, at_one_of}
-use Rattle.text_lex.proofs.Exits.{exit_reads}
-use Rattle.text_lex.proofs.Turns.{spelt_led, fault_led, list_fault}
-use Rattle.text_lex.proofs.Clauses.{no_slots_stop, slot_stops, opens_but, stops_by, fails_clause, clause_taken, fails_clause, came_not, comes_here, comes_not, exit_clause, over, fails_led}
-use Rattle.text_lex.proofs.References.{spelt_label, spelt_template, fails_label, fails_template}
-use Rattle.text_lex.specs.Form.{Empty, Leaf}
-use Rattle.text_lex.specs.TokenTests.{is_word_of, is_one_of}
-use Rattle.text_lex.specs.Parts.{qualified_name}
-use Rattle.text_lex.proofs.Parts.{list_push, list_last, at_within, spelt_within, spelt_as, one_of_two}
+use Rattle.token_grammar.proofs.Sequences.{apart_closed, spelt_then, spelt_first, spelt_second, fault_first, fault_second, spelt_named, fails_by, fails_front, fails_rest, fails_named, spelt_order}
+use Rattle.token_grammar.proofs.Heads.{skips, starts, stops_unless, advances}
+use Rattle.token_grammar.proofs.Known.{at_word, at_one_of}
+use Rattle.token_grammar.proofs.Exits.{exit_reads}
+use Rattle.token_grammar.proofs.Turns.{spelt_led, fault_led, list_fault}
+use Rattle.token_grammar.proofs.Clauses.{no_slots_stop, slot_stops, opens_but, stops_by, fails_clause, clause_taken, fails_clause, came_not, comes_here, comes_not, exit_clause, over, fails_led}
+use Rattle.token_grammar.proofs.References.{spelt_label, spelt_template, fails_label, fails_template}
+use Rattle.token_grammar.specs.Form.{Empty, Leaf}
+use Rattle.token_grammar.specs.TokenTests.{is_word_of, is_one_of}
+use Rattle.token_grammar.specs.Parts.{qualified_name}
+use Rattle.token_grammar.proofs.Parts.{list_push, list_last, at_within, spelt_within, spelt_as, one_of_two}
 use Rattle.gdmo_members.proofs.Apart.{word_apart, semicolon_apart, comma_separates, attribute_apart, parameter_apart}
 use Rattle.gdmo_members.proofs.FirstTokens.{labels, labels_lead}
 use Rattle.gdmo_members.specs.Clauses.{attributes, parameters, comma, semicolon, reference, behaviour_clause, parameters_clause, context, clause}

@@ -1,8 +1,8 @@
 -- The token is there and is wanted, or one of the two fails.
 use Rattle.std.proofs.Common.{◌∙◌, ap, sym}
-use Rattle.text_lex.specs.Spelling.{passes}
-use Rattle.text_lex.proofs.Sequences.{fails_at}
-use Rattle.text_lex.proofs.Tokens.{mark_spelt, marks_fault, spelt_to}
+use Rattle.token_grammar.specs.Spelling.{passes}
+use Rattle.token_grammar.proofs.Sequences.{fails_at}
+use Rattle.token_grammar.proofs.Tokens.{mark_spelt, marks_fault, spelt_to}
 use Rattle.first_document.specs.DocumentForm.{is_mark_of}
 use Rattle.first_document.proofs.marks.skip_mark.Goals as goal
 

@@ -1,9 +1,9 @@
 -- One more was read, or it isn't there.
-use Rattle.text_lex.specs.Form.{Bare}
+use Rattle.token_grammar.specs.Form.{Bare}
 use Rattle.first_document.specs.DocumentForm.{is_mark_of}
-use Rattle.text_lex.proofs.Turns.{words_lead, words_fault, words_end}
-use Rattle.text_lex.proofs.Sequences.{fails_by}
-use Rattle.text_lex.proofs.Exits.{exit_skips}
+use Rattle.token_grammar.proofs.Turns.{words_lead, words_fault, words_end}
+use Rattle.token_grammar.proofs.Sequences.{fails_by}
+use Rattle.token_grammar.proofs.Exits.{exit_skips}
 use Rattle.first_document.proofs.marks.skip_marks.Goals as goal
 
 pub loop-text-preserved : goal.loop-text-preserved

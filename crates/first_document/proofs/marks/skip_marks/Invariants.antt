@@ -1,8 +1,8 @@
 use Rattle.std.proofs.Common.{ℕ, map, drop}
-use Rattle.text_lex.specs.Form.{Form, Marks}
-use Rattle.text_lex.specs.Outcome.{closed}
+use Rattle.token_grammar.specs.Form.{Form, Marks}
+use Rattle.token_grammar.specs.Outcome.{closed}
 use Rattle.first_document.specs.DocumentForm.{is_mark_of}
-use Rattle.text_lex.proofs.Turns.{Leads}
+use Rattle.token_grammar.proofs.Turns.{Leads}
 use Rattle.first_document.proofs.marks.skip_marks.Given as goal
 
 -- the words and signs from the next one on are left to be read

@@ -1,12 +1,12 @@
 -- As many arcs as come.
 use Rattle.std.proofs.Common.{◌∙◌, sym, refl, arith}
-use Rattle.text_lex.proofs.Sequences.{apart_closed, fails_by, not_closed}
-use Rattle.text_lex.proofs.Heads.{unknown, heads_unknown, stops_unless, advances}
-use Rattle.text_lex.proofs.Exits.{exit_reads}
-use Rattle.text_lex.proofs.Turns.{spelt_led, fault_led, many_ends, many_fault}
-use Rattle.text_lex.proofs.Parts.{many_start, many_push, at_within}
-use Rattle.text_lex.specs.Form.{Keep, Leaf, Empty}
-use Rattle.text_lex.specs.TokenTests.{is_number}
+use Rattle.token_grammar.proofs.Sequences.{apart_closed, fails_by, not_closed}
+use Rattle.token_grammar.proofs.Heads.{unknown, heads_unknown, stops_unless, advances}
+use Rattle.token_grammar.proofs.Exits.{exit_reads}
+use Rattle.token_grammar.proofs.Turns.{spelt_led, fault_led, many_ends, many_fault}
+use Rattle.token_grammar.proofs.Parts.{many_start, many_push, at_within}
+use Rattle.token_grammar.specs.Form.{Keep, Leaf, Empty}
+use Rattle.token_grammar.specs.TokenTests.{is_number}
 use Rattle.first_document.specs.DocumentForm.{no_names}
 use Rattle.first_document.proofs.reading.read_arcs.Goals as goal
 

@@ -1,8 +1,8 @@
 use Rattle.std.proofs.Common.{◌-◌, length}
-use Rattle.text_lex.specs.Form.{Keep, Leaf, Many, Empty}
-use Rattle.text_lex.specs.Parts.{list_tree}
-use Rattle.text_lex.specs.TokenTests.{is_number}
-use Rattle.text_lex.proofs.Turns.{Leads}
+use Rattle.token_grammar.specs.Form.{Keep, Leaf, Many, Empty}
+use Rattle.token_grammar.specs.Parts.{list_tree}
+use Rattle.token_grammar.specs.TokenTests.{is_number}
+use Rattle.token_grammar.proofs.Turns.{Leads}
 use Rattle.first_document.specs.DocumentForm.{no_names}
 use Rattle.first_document.proofs.reading.read_arcs.Given as goal
 

@@ -1,11 +1,11 @@
 -- One part more, as long as a comma is behind it.
 use Rattle.std.proofs.Common.{refl, arith}
-use Rattle.text_lex.proofs.Sequences.{fails_by}
-use Rattle.text_lex.proofs.Heads.{unknown, heads_unknown, advances}
-use Rattle.text_lex.proofs.Exits.{exit_reads}
-use Rattle.text_lex.proofs.Turns.{spelt_led, fault_led, list_fault}
-use Rattle.text_lex.proofs.Parts.{list_start, list_push, list_last, at_within, separates_closed}
-use Rattle.text_lex.specs.Form.{Empty}
+use Rattle.token_grammar.proofs.Sequences.{fails_by}
+use Rattle.token_grammar.proofs.Heads.{unknown, heads_unknown, advances}
+use Rattle.token_grammar.proofs.Exits.{exit_reads}
+use Rattle.token_grammar.proofs.Turns.{spelt_led, fault_led, list_fault}
+use Rattle.token_grammar.proofs.Parts.{list_start, list_push, list_last, at_within, separates_closed}
+use Rattle.token_grammar.specs.Form.{Empty}
 use Rattle.first_document.specs.DocumentForm.{comma}
 use Rattle.first_document.specs.DocumentTree.{given_tree}
 use Rattle.first_document.proofs.reading.read_givens.Goals as goal

@@ -1,6 +1,6 @@
 -- The keywords, the label, the brace and the values.
-use Rattle.text_lex.proofs.Sequences.{apart_closed, spelt_then, fails_front, fails_rest}
-use Rattle.text_lex.proofs.Exits.{exit_reads}
+use Rattle.token_grammar.proofs.Sequences.{apart_closed, spelt_then, fails_front, fails_rest}
+use Rattle.token_grammar.proofs.Exits.{exit_reads}
 use Rattle.first_document.specs.DocumentForm.{no_names}
 use Rattle.first_document.proofs.reading.read_instances.Goals as goal
 

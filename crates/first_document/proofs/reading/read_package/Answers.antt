@@ -1,7 +1,7 @@
 -- The label, the keywords, the uses and the semicolons.
 use Rattle.std.proofs.Common.{[], ◌∷◌, codes}
-use Rattle.text_lex.proofs.Sequences.{apart_closed, spelt_then, fails_front, fails_rest}
-use Rattle.text_lex.proofs.Exits.{exit_reads}
+use Rattle.token_grammar.proofs.Sequences.{apart_closed, spelt_then, fails_front, fails_rest}
+use Rattle.token_grammar.proofs.Exits.{exit_reads}
 use Rattle.first_document.specs.DocumentForm.{no_names}
 use Rattle.first_document.proofs.Ends.{list_end}
 use Rattle.first_document.proofs.reading.read_package.Goals as goal

@@ -1,6 +1,6 @@
 -- The module, and what stands behind it.
-use Rattle.text_lex.proofs.Sequences.{apart_closed, spelt_then, fails_front, fails_rest}
-use Rattle.text_lex.proofs.Exits.{exit_reads}
+use Rattle.token_grammar.proofs.Sequences.{apart_closed, spelt_then, fails_front, fails_rest}
+use Rattle.token_grammar.proofs.Exits.{exit_reads}
 use Rattle.first_document.proofs.reading.read_parts.Goals as goal
 
 pub returns-in_err-module : goal.returns-in_err-module

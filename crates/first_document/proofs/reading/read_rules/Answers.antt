@@ -1,8 +1,8 @@
 -- The clause comes, or it does not.
 use Rattle.std.proofs.Common.{◌∙◌, sym, refl, arith, codes}
-use Rattle.text_lex.proofs.Sequences.{spelt_wider, fails_wider, spelt_present, spelt_absent, fails_present}
-use Rattle.text_lex.proofs.Heads.{unknown, heads_unknown, stops_unless}
-use Rattle.text_lex.proofs.Exits.{exit_reads}
+use Rattle.token_grammar.proofs.Sequences.{spelt_wider, fails_wider, spelt_present, spelt_absent, fails_present}
+use Rattle.token_grammar.proofs.Heads.{unknown, heads_unknown, stops_unless}
+use Rattle.token_grammar.proofs.Exits.{exit_reads}
 use Rattle.first_document.specs.DocumentForm.{no_names, is_mark_of, rules_form}
 use Rattle.first_document.proofs.reading.read_rules.Goals as goal
 

@@ -1,9 +1,9 @@
 -- As many attributes as come, the class and the instance.
 use Rattle.std.proofs.Common.{◌∙◌, sym, refl, arith}
-use Rattle.text_lex.proofs.Sequences.{apart_closed, spelt_then, fails_by, fails_front, fails_rest}
-use Rattle.text_lex.proofs.Heads.{unknown, heads_unknown, advances}
-use Rattle.text_lex.proofs.Exits.{exit_reads}
-use Rattle.text_lex.proofs.Turns.{spelt_led, fault_led}
+use Rattle.token_grammar.proofs.Sequences.{apart_closed, spelt_then, fails_by, fails_front, fails_rest}
+use Rattle.token_grammar.proofs.Heads.{unknown, heads_unknown, advances}
+use Rattle.token_grammar.proofs.Exits.{exit_reads}
+use Rattle.token_grammar.proofs.Turns.{spelt_led, fault_led}
 use Rattle.first_document.proofs.Repeats.{end_spelt, end_fault}
 use Rattle.first_document.proofs.Templates.{attributes_start, attributes_push, attribute_fault, attribute_stops, attribute_within}
 use Rattle.first_document.proofs.reading.read_templates.Goals as goal

@@ -1,8 +1,8 @@
 use Rattle.std.proofs.Common.{◌-◌, length}
-use Rattle.text_lex.specs.Form.{Empty}
-use Rattle.text_lex.specs.Outcome.{closed}
-use Rattle.text_lex.specs.Parts.{list_tree}
-use Rattle.text_lex.proofs.Turns.{Leads}
+use Rattle.token_grammar.specs.Form.{Empty}
+use Rattle.token_grammar.specs.Outcome.{closed}
+use Rattle.token_grammar.specs.Parts.{list_tree}
+use Rattle.token_grammar.proofs.Turns.{Leads}
 use Rattle.first_document.specs.DocumentForm.{no_names, templates_form}
 use Rattle.first_document.specs.DocumentTree.{attribute_tree}
 use Rattle.first_document.proofs.reading.read_templates.Given as goal

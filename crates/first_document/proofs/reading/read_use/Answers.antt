@@ -1,6 +1,6 @@
 -- The label and the access.
-use Rattle.text_lex.proofs.Sequences.{apart_closed, spelt_then, fails_front, fails_rest}
-use Rattle.text_lex.proofs.Exits.{exit_reads}
+use Rattle.token_grammar.proofs.Sequences.{apart_closed, spelt_then, fails_front, fails_rest}
+use Rattle.token_grammar.proofs.Exits.{exit_reads}
 use Rattle.first_document.specs.DocumentForm.{no_names}
 use Rattle.first_document.proofs.reading.read_use.Goals as goal
 

@@ -1,7 +1,7 @@
 use Rattle.std.proofs.Common.{◌-◌, length}
-use Rattle.text_lex.specs.Form.{Listed, Empty}
-use Rattle.text_lex.specs.Parts.{list_tree}
-use Rattle.text_lex.proofs.Turns.{Leads}
+use Rattle.token_grammar.specs.Form.{Listed, Empty}
+use Rattle.token_grammar.specs.Parts.{list_tree}
+use Rattle.token_grammar.proofs.Turns.{Leads}
 use Rattle.first_document.specs.DocumentForm.{no_names, comma, use_form}
 use Rattle.first_document.specs.DocumentTree.{use_tree}
 use Rattle.first_document.proofs.reading.read_uses.Given as goal

@@ -1,7 +1,7 @@
 -- The attribute, its properties and its parameters.
 use Rattle.std.proofs.Common.{refl, codes}
-use Rattle.text_lex.proofs.Exits.{exit_reads}
-use Rattle.text_lex.specs.Form.{Then, AnyOrder}
+use Rattle.token_grammar.proofs.Exits.{exit_reads}
+use Rattle.token_grammar.specs.Form.{Then, AnyOrder}
 use Rattle.gdmo_members.specs.Clauses.{parameters, reference_row}
 use Rattle.gdmo_members.specs.Templates.{property_slots}
 use Rattle.gdmo_classes.proofs.OpenParts.{spelt_then_on, fails_front_on, fails_rest_on}

@@ -1,11 +1,11 @@
 -- One part more, as long as a comma is behind it.
 use Rattle.std.proofs.Common.{refl, arith}
-use Rattle.text_lex.proofs.Sequences.{fails_by}
-use Rattle.text_lex.proofs.Heads.{advances}
-use Rattle.text_lex.proofs.Exits.{exit_reads}
-use Rattle.text_lex.proofs.Turns.{spelt_led, fault_led, list_fault}
-use Rattle.text_lex.proofs.Parts.{list_start, list_push, list_last, at_within}
-use Rattle.text_lex.specs.Form.{Empty}
+use Rattle.token_grammar.proofs.Sequences.{fails_by}
+use Rattle.token_grammar.proofs.Heads.{advances}
+use Rattle.token_grammar.proofs.Exits.{exit_reads}
+use Rattle.token_grammar.proofs.Turns.{spelt_led, fault_led, list_fault}
+use Rattle.token_grammar.proofs.Parts.{list_start, list_push, list_last, at_within}
+use Rattle.token_grammar.specs.Form.{Empty}
 use Rattle.gdmo_members.proofs.FirstTokens.{labels, labels_lead}
 use Rattle.gdmo_members.specs.Clauses.{comma}
 use Rattle.gdmo_classes.proofs.PartEnds.{part_separates}

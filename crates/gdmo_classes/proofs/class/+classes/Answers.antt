@@ -1,16 +1,16 @@
 -- Class templates, each in others: one part after the other, one clause after the other, and one reference
 -- after the other.
 use Rattle.std.proofs.Common.{◌∙◌, sym, refl, true, false, arith, codes}
-use Rattle.text_lex.proofs.Sequences.{apart_closed, spelt_then, spelt_named, fails_by, fails_front, fails_rest, fails_named, spelt_order}
-use Rattle.text_lex.proofs.Heads.{stops_unless, advances}
-use Rattle.text_lex.proofs.Known.{at_word}
-use Rattle.text_lex.proofs.Exits.{exit_reads}
-use Rattle.text_lex.proofs.Turns.{spelt_led, fault_led, list_fault}
-use Rattle.text_lex.proofs.Clauses.{no_slots_stop, slot_stops, opens_but, fails_clause, clause_taken, came_not, comes_here, comes_not, exit_clause, over, clauses_done, fails_led}
-use Rattle.text_lex.proofs.References.{spelt_label, spelt_template, fails_label, fails_template}
-use Rattle.text_lex.proofs.Parts.{list_push, list_last, at_within, spelt_within, spelt_as}
-use Rattle.text_lex.specs.Form.{Empty}
-use Rattle.text_lex.specs.TokenTests.{is_word_of}
+use Rattle.token_grammar.proofs.Sequences.{apart_closed, spelt_then, spelt_named, fails_by, fails_front, fails_rest, fails_named, spelt_order}
+use Rattle.token_grammar.proofs.Heads.{stops_unless, advances}
+use Rattle.token_grammar.proofs.Known.{at_word}
+use Rattle.token_grammar.proofs.Exits.{exit_reads}
+use Rattle.token_grammar.proofs.Turns.{spelt_led, fault_led, list_fault}
+use Rattle.token_grammar.proofs.Clauses.{no_slots_stop, slot_stops, opens_but, fails_clause, clause_taken, came_not, comes_here, comes_not, exit_clause, over, clauses_done, fails_led}
+use Rattle.token_grammar.proofs.References.{spelt_label, spelt_template, fails_label, fails_template}
+use Rattle.token_grammar.proofs.Parts.{list_push, list_last, at_within, spelt_within, spelt_as}
+use Rattle.token_grammar.specs.Form.{Empty}
+use Rattle.token_grammar.specs.TokenTests.{is_word_of}
 use Rattle.gdmo_members.proofs.Apart.{semicolon_apart, comma_separates}
 use Rattle.gdmo_members.proofs.FirstTokens.{labels, labels_lead}
 use Rattle.gdmo_members.specs.Clauses.{classes, comma}

@@ -1,8 +1,8 @@
 use Rattle.std.proofs.Common.{◌+◌, ◌-◌, ◌*◌, length, codes}
-use Rattle.text_lex.specs.Form.{AnyOrder, Listed, Empty}
-use Rattle.text_lex.specs.Parts.{either, list_tree}
-use Rattle.text_lex.specs.TokenTests.{is_word_of}
-use Rattle.text_lex.specs.Turns.{Leads}
+use Rattle.token_grammar.specs.Form.{AnyOrder, Listed, Empty}
+use Rattle.token_grammar.specs.Parts.{either, list_tree}
+use Rattle.token_grammar.specs.TokenTests.{is_word_of}
+use Rattle.token_grammar.specs.Turns.{Leads}
 use Rattle.gdmo_members.specs.Clauses.{classes, comma, reference}
 use Rattle.gdmo_members.specs.Templates.{templates, class_clauses}
 use Rattle.gdmo_classes.specs.ClassTrees.{class_slots, class_reference_tree, is_class_clause}

@@ -1,7 +1,7 @@
 -- The end, and the parts with the document number 0.
 use Rattle.std.proofs.Common.{◌≡◌, sym, ap, subst, refl}
-use Rattle.text_lex.proofs.Exits.{exit_reads}
-use Rattle.text_lex.proofs.Parts.{spelt_as}
+use Rattle.token_grammar.proofs.Exits.{exit_reads}
+use Rattle.token_grammar.proofs.Parts.{spelt_as}
 use Rattle.gdmo_members.specs.Trees.{registered_ending_tree}
 use Rattle.gdmo_members.specs.MemberTrees.{template_tree}
 use Rattle.gdmo_classes.specs.ClassTrees.{class_tree, class_clauses_tree}

@@ -1,7 +1,7 @@
 use Rattle.std.proofs.Common.{◌-◌, length}
-use Rattle.text_lex.specs.Form.{Listed, Empty}
-use Rattle.text_lex.specs.Parts.{list_tree}
-use Rattle.text_lex.specs.Turns.{Leads}
+use Rattle.token_grammar.specs.Form.{Listed, Empty}
+use Rattle.token_grammar.specs.Parts.{list_tree}
+use Rattle.token_grammar.specs.Turns.{Leads}
 use Rattle.gdmo_members.specs.Clauses.{comma}
 use Rattle.gdmo_members.specs.Templates.{templates, conditional_package}
 use Rattle.gdmo_classes.specs.PackageTrees.{conditional_tree}

@@ -1,13 +1,13 @@
 -- The package, the keywords and the string.
 use Rattle.std.proofs.Common.{refl, codes, [], ◌∷◌}
-use Rattle.text_lex.proofs.Sequences.{apart_closed, spelt_then, fails_front, fails_rest}
-use Rattle.text_lex.proofs.Exits.{exit_reads}
-use Rattle.text_lex.specs.Form.{Keep, Then}
-use Rattle.text_lex.specs.TokenTests.{is_string}
+use Rattle.token_grammar.proofs.Sequences.{apart_closed, spelt_then, fails_front, fails_rest}
+use Rattle.token_grammar.proofs.Exits.{exit_reads}
+use Rattle.token_grammar.specs.Form.{Keep, Then}
+use Rattle.token_grammar.specs.TokenTests.{is_string}
 use Rattle.gdmo_members.proofs.Apart.{word_apart}
 use Rattle.gdmo_members.specs.Templates.{templates}
-use Rattle.text_lex.specs.Form.{Marks}
-use Rattle.text_lex.specs.Parts.{words}
+use Rattle.token_grammar.specs.Form.{Marks}
+use Rattle.token_grammar.specs.Parts.{words}
 use Rattle.gdmo_classes.proofs.class.read_conditional_package.Goals as goal
 
 pub returns-in_err-package : goal.returns-in_err-package

@@ -1,7 +1,7 @@
 -- The keywords, the list and the semicolon.
 use Rattle.std.proofs.Common.{codes}
-use Rattle.text_lex.proofs.Sequences.{apart_closed, spelt_then, fails_front, fails_rest}
-use Rattle.text_lex.proofs.Exits.{exit_reads}
+use Rattle.token_grammar.proofs.Sequences.{apart_closed, spelt_then, fails_front, fails_rest}
+use Rattle.token_grammar.proofs.Exits.{exit_reads}
 use Rattle.gdmo_members.proofs.Apart.{semicolon_apart}
 use Rattle.gdmo_members.specs.Templates.{templates}
 use Rattle.gdmo_classes.proofs.class.read_packages_clause.Goals as goal

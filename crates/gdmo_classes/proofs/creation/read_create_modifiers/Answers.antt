@@ -1,12 +1,12 @@
 -- The first word tells the two orders apart.
 use Rattle.std.proofs.Common.{◌∙◌, ◌||◌, sym, refl, false, codes}
-use Rattle.text_lex.proofs.Sequences.{spelt_first, spelt_second, fault_first, fault_second, spelt_on, fails_by, fails_on, spelt_order}
-use Rattle.text_lex.proofs.Heads.{skips, starts, stops_unless}
-use Rattle.text_lex.proofs.Known.{at_word}
-use Rattle.text_lex.proofs.Exits.{exit_reads}
-use Rattle.text_lex.proofs.Clauses.{stops_by}
-use Rattle.text_lex.proofs.Parts.{one_word}
-use Rattle.text_lex.specs.TokenTests.{is_word_of}
+use Rattle.token_grammar.proofs.Sequences.{spelt_first, spelt_second, fault_first, fault_second, spelt_on, fails_by, fails_on, spelt_order}
+use Rattle.token_grammar.proofs.Heads.{skips, starts, stops_unless}
+use Rattle.token_grammar.proofs.Known.{at_word}
+use Rattle.token_grammar.proofs.Exits.{exit_reads}
+use Rattle.token_grammar.proofs.Clauses.{stops_by}
+use Rattle.token_grammar.proofs.Parts.{one_word}
+use Rattle.token_grammar.specs.TokenTests.{is_word_of}
 use Rattle.gdmo_members.proofs.FirstTokens.{labels, labels_lead}
 use Rattle.gdmo_members.specs.Templates.{modifier_before}
 use Rattle.gdmo_classes.proofs.Modifiers.{further_wider}

@@ -1,6 +1,6 @@
 -- The modifiers and the parameters.
-use Rattle.text_lex.proofs.Sequences.{spelt_on, fails_on}
-use Rattle.text_lex.proofs.Exits.{exit_reads}
+use Rattle.token_grammar.proofs.Sequences.{spelt_on, fails_on}
+use Rattle.token_grammar.proofs.Exits.{exit_reads}
 use Rattle.gdmo_classes.proofs.OpenParts.{spelt_then_on, fails_front_on, fails_rest_on}
 use Rattle.gdmo_classes.proofs.PartEnds.{part_wider, modifiers_meet}
 use Rattle.gdmo_classes.proofs.creation.read_creation.Goals as goal

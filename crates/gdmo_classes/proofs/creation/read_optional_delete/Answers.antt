@@ -1,9 +1,9 @@
 -- A delete modifier comes, or none.
 use Rattle.std.proofs.Common.{◌∙◌, sym, refl, arith, codes, [], ◌∷◌}
-use Rattle.text_lex.proofs.Sequences.{spelt_present, spelt_absent, spelt_wider, fails_present, fails_wider}
-use Rattle.text_lex.proofs.Heads.{stops_unless}
-use Rattle.text_lex.proofs.Exits.{exit_reads}
-use Rattle.text_lex.specs.TokenTests.{is_one_of}
+use Rattle.token_grammar.proofs.Sequences.{spelt_present, spelt_absent, spelt_wider, fails_present, fails_wider}
+use Rattle.token_grammar.proofs.Heads.{stops_unless}
+use Rattle.token_grammar.proofs.Exits.{exit_reads}
+use Rattle.token_grammar.specs.TokenTests.{is_one_of}
 use Rattle.gdmo_members.proofs.FirstTokens.{labels, labels_lead}
 use Rattle.gdmo_members.specs.Templates.{templates, delete_modifier}
 use Rattle.gdmo_classes.proofs.Modifiers.{delete_comes}

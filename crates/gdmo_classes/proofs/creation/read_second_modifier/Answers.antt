@@ -1,8 +1,8 @@
 -- A comma or the word comes, or neither.
 use Rattle.std.proofs.Common.{◌∙◌, sym, refl, arith}
-use Rattle.text_lex.proofs.Sequences.{spelt_present, spelt_absent, spelt_wider, fails_present, fails_wider}
-use Rattle.text_lex.proofs.Heads.{stops_unless}
-use Rattle.text_lex.proofs.Exits.{exit_reads}
+use Rattle.token_grammar.proofs.Sequences.{spelt_present, spelt_absent, spelt_wider, fails_present, fails_wider}
+use Rattle.token_grammar.proofs.Heads.{stops_unless}
+use Rattle.token_grammar.proofs.Exits.{exit_reads}
 use Rattle.gdmo_members.proofs.FirstTokens.{labels, labels_lead}
 use Rattle.gdmo_classes.specs.ClassForms.{is_further, further_modifier}
 use Rattle.gdmo_classes.proofs.Modifiers.{further_starts}

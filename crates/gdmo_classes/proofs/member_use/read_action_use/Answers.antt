@@ -1,6 +1,6 @@
 -- What names it, and the references behind it.
 use Rattle.std.proofs.Common.{refl, codes}
-use Rattle.text_lex.proofs.Exits.{exit_reads}
+use Rattle.token_grammar.proofs.Exits.{exit_reads}
 use Rattle.gdmo_members.specs.Clauses.{parameters, reference_row}
 use Rattle.gdmo_classes.proofs.OpenParts.{spelt_then_on, fails_front_on, fails_rest_on}
 use Rattle.gdmo_classes.proofs.PartEnds.{word_meets}

@@ -1,6 +1,6 @@
 -- The keywords, the list and the semicolon.
-use Rattle.text_lex.proofs.Sequences.{apart_closed, spelt_then, fails_front, fails_rest}
-use Rattle.text_lex.proofs.Exits.{exit_reads}
+use Rattle.token_grammar.proofs.Sequences.{apart_closed, spelt_then, fails_front, fails_rest}
+use Rattle.token_grammar.proofs.Exits.{exit_reads}
 use Rattle.gdmo_members.specs.Templates.{templates}
 use Rattle.gdmo_classes.proofs.PartEnds.{part_end_apart}
 use Rattle.gdmo_classes.proofs.member_use.read_groups_clause.Goals as goal

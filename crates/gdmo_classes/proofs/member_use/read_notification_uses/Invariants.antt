@@ -1,7 +1,7 @@
 use Rattle.std.proofs.Common.{◌-◌, length}
-use Rattle.text_lex.specs.Form.{Listed, Empty}
-use Rattle.text_lex.specs.Parts.{list_tree}
-use Rattle.text_lex.specs.Turns.{Leads}
+use Rattle.token_grammar.specs.Form.{Listed, Empty}
+use Rattle.token_grammar.specs.Parts.{list_tree}
+use Rattle.token_grammar.specs.Turns.{Leads}
 use Rattle.gdmo_members.specs.Clauses.{parameters, notifications, comma}
 use Rattle.gdmo_members.specs.Templates.{templates, member_use}
 use Rattle.gdmo_classes.specs.ClassForms.{is_part_end}

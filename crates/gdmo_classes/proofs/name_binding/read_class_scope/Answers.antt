@@ -1,7 +1,7 @@
 -- The class, and whether its subclasses too.
 use Rattle.std.proofs.Common.{refl, codes}
-use Rattle.text_lex.proofs.Exits.{exit_reads}
-use Rattle.text_lex.specs.Form.{Maybe}
+use Rattle.token_grammar.proofs.Exits.{exit_reads}
+use Rattle.token_grammar.specs.Form.{Maybe}
 use Rattle.gdmo_classes.proofs.OpenParts.{spelt_then_on, fails_front_on, fails_rest_on}
 use Rattle.gdmo_classes.proofs.PartEnds.{word_meets}
 use Rattle.gdmo_classes.specs.ClassForms.{is_part_end, subclasses}

@@ -1,6 +1,6 @@
 -- One clause after the other, until none comes; then those that are needed.
-use Rattle.text_lex.proofs.Exits.{exit_reads}
-use Rattle.text_lex.proofs.Clauses.{over, fails_led}
+use Rattle.token_grammar.proofs.Exits.{exit_reads}
+use Rattle.token_grammar.proofs.Clauses.{over, fails_led}
 use Rattle.gdmo_classes.specs.BindingTrees.{name_binding_slots, is_name_binding_clause}
 use Rattle.gdmo_classes.proofs.Bindings.{binding_done, missing_subordinate, missing_superior, missing_attribute}
 use Rattle.gdmo_classes.proofs.name_binding.read_name_binding_clauses.Goals as goal

@@ -1,6 +1,6 @@
 use Rattle.std.proofs.Common.{◌-◌, length}
-use Rattle.text_lex.specs.Form.{AnyOrder}
-use Rattle.text_lex.specs.Turns.{Leads}
+use Rattle.token_grammar.specs.Form.{AnyOrder}
+use Rattle.token_grammar.specs.Turns.{Leads}
 use Rattle.gdmo_members.specs.Templates.{templates, name_binding_clauses}
 use Rattle.gdmo_classes.specs.BindingTrees.{name_binding_slots, is_name_binding_clause}
 use Rattle.gdmo_classes.proofs.name_binding.read_name_binding_clauses.Given as goal

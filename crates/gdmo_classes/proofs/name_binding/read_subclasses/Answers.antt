@@ -1,14 +1,14 @@
 -- The words come, or they do not.
 use Rattle.std.proofs.Common.{◌∙◌, sym, refl, true, arith, codes}
-use Rattle.text_lex.proofs.Sequences.{apart_closed, spelt_then, spelt_present, spelt_absent, spelt_wider, fails_front, fails_rest, fails_present, fails_wider}
-use Rattle.text_lex.proofs.Heads.{stops_unless}
-use Rattle.text_lex.proofs.Known.{at_word}
-use Rattle.text_lex.proofs.Exits.{exit_reads}
-use Rattle.text_lex.specs.TokenTests.{is_word_of}
+use Rattle.token_grammar.proofs.Sequences.{apart_closed, spelt_then, spelt_present, spelt_absent, spelt_wider, fails_front, fails_rest, fails_present, fails_wider}
+use Rattle.token_grammar.proofs.Heads.{stops_unless}
+use Rattle.token_grammar.proofs.Known.{at_word}
+use Rattle.token_grammar.proofs.Exits.{exit_reads}
+use Rattle.token_grammar.specs.TokenTests.{is_word_of}
 use Rattle.gdmo_members.proofs.FirstTokens.{labels, labels_lead}
 use Rattle.gdmo_members.specs.Templates.{templates}
 use Rattle.gdmo_classes.specs.ClassForms.{is_part_end, subclasses}
-use Rattle.text_lex.proofs.Heads.{at_wider}
+use Rattle.token_grammar.proofs.Heads.{at_wider}
 use Rattle.gdmo_classes.proofs.name_binding.read_subclasses.Goals as goal
 
 pub returns-in_err-next : goal.returns-in_err-next

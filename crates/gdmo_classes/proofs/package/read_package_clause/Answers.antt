@@ -1,9 +1,9 @@
 -- Each clause comes with its first word, and comes once.
 use Rattle.std.proofs.Common.{◌∙◌, sym, refl, true, false, arith, codes}
-use Rattle.text_lex.proofs.Heads.{stops_unless}
-use Rattle.text_lex.proofs.Known.{at_word}
-use Rattle.text_lex.proofs.Clauses.{no_slots_stop, slot_stops, opens_but, fails_clause, clause_taken, came_not, comes_here, comes_not, exit_clause}
-use Rattle.text_lex.specs.TokenTests.{is_word_of}
+use Rattle.token_grammar.proofs.Heads.{stops_unless}
+use Rattle.token_grammar.proofs.Known.{at_word}
+use Rattle.token_grammar.proofs.Clauses.{no_slots_stop, slot_stops, opens_but, fails_clause, clause_taken, came_not, comes_here, comes_not, exit_clause}
+use Rattle.token_grammar.specs.TokenTests.{is_word_of}
 use Rattle.gdmo_members.proofs.FirstTokens.{labels, labels_lead}
 use Rattle.gdmo_members.specs.Clauses.{behaviour_clause}
 use Rattle.gdmo_members.specs.Trees.{clause_tree, vector_tree, behaviour_list_tree}

@@ -1,7 +1,7 @@
 -- One clause after the other, until none comes.
 use Rattle.std.proofs.Common.{refl}
-use Rattle.text_lex.proofs.Exits.{exit_reads}
-use Rattle.text_lex.proofs.Clauses.{over, clauses_done, fails_led}
+use Rattle.token_grammar.proofs.Exits.{exit_reads}
+use Rattle.token_grammar.proofs.Clauses.{over, clauses_done, fails_led}
 use Rattle.gdmo_classes.specs.PackageTrees.{package_slots, is_package_clause}
 use Rattle.gdmo_classes.proofs.package.read_package_clauses.Goals as goal
 

@@ -1,6 +1,6 @@
 use Rattle.std.proofs.Common.{◌-◌, length}
-use Rattle.text_lex.specs.Form.{AnyOrder}
-use Rattle.text_lex.specs.Turns.{Leads}
+use Rattle.token_grammar.specs.Form.{AnyOrder}
+use Rattle.token_grammar.specs.Turns.{Leads}
 use Rattle.gdmo_members.specs.Templates.{templates, package_clauses}
 use Rattle.gdmo_classes.specs.PackageTrees.{package_slots, is_package_clause}
 use Rattle.gdmo_classes.proofs.package.read_package_clauses.Given as goal

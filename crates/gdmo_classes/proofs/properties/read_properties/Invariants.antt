@@ -1,6 +1,6 @@
 use Rattle.std.proofs.Common.{◌-◌, length}
-use Rattle.text_lex.specs.Form.{AnyOrder}
-use Rattle.text_lex.specs.Turns.{Leads}
+use Rattle.token_grammar.specs.Form.{AnyOrder}
+use Rattle.token_grammar.specs.Turns.{Leads}
 use Rattle.gdmo_members.specs.Templates.{templates, property_slots}
 use Rattle.gdmo_classes.specs.ClassForms.{is_keyword}
 use Rattle.gdmo_classes.specs.UseTrees.{properties_slots}

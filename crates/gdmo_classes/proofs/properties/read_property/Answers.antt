@@ -1,11 +1,11 @@
 -- Each property comes with its first word, and comes once.
 use Rattle.std.proofs.Common.{◌∙◌, sym, refl, true, false, arith, codes, [], ◌∷◌}
-use Rattle.text_lex.proofs.Sequences.{spelt_wider, fails_wider}
-use Rattle.text_lex.proofs.Heads.{stops_unless}
-use Rattle.text_lex.proofs.Known.{at_word, at_one_of}
-use Rattle.text_lex.proofs.Clauses.{no_slots_stop, slot_stops, opens_but, came_not, comes_here, comes_not, exit_clause}
-use Rattle.text_lex.specs.Form.{Leaf}
-use Rattle.text_lex.specs.TokenTests.{is_word_of, is_one_of}
+use Rattle.token_grammar.proofs.Sequences.{spelt_wider, fails_wider}
+use Rattle.token_grammar.proofs.Heads.{stops_unless}
+use Rattle.token_grammar.proofs.Known.{at_word, at_one_of}
+use Rattle.token_grammar.proofs.Clauses.{no_slots_stop, slot_stops, opens_but, came_not, comes_here, comes_not, exit_clause}
+use Rattle.token_grammar.specs.Form.{Leaf}
+use Rattle.token_grammar.specs.TokenTests.{is_word_of, is_one_of}
 use Rattle.gdmo_members.proofs.FirstTokens.{labels, labels_lead}
 use Rattle.gdmo_members.specs.Templates.{templates}
 use Rattle.gdmo_classes.proofs.OpenClauses.{open_clause_taken, fails_open_clause}

@@ -1,8 +1,8 @@
 -- The words DERIVATION RULE tell a rule from a name.
 use Rattle.std.proofs.Common.{◌∙◌, sym, codes}
-use Rattle.text_lex.proofs.Sequences.{apart_closed, spelt_then, spelt_first, spelt_second, fault_first, fault_second, spelt_wider, fails_by, fails_front, fails_rest, fails_wider}
-use Rattle.text_lex.proofs.Exits.{exit_reads}
-use Rattle.text_lex.specs.TokenTests.{is_word_of}
+use Rattle.token_grammar.proofs.Sequences.{apart_closed, spelt_then, spelt_first, spelt_second, fault_first, fault_second, spelt_wider, fails_by, fails_front, fails_rest, fails_wider}
+use Rattle.token_grammar.proofs.Exits.{exit_reads}
+use Rattle.token_grammar.specs.TokenTests.{is_word_of}
 use Rattle.gdmo_members.specs.Templates.{templates}
 use Rattle.gdmo_classes.proofs.Values.{value_stops, rule_stops}
 use Rattle.gdmo_classes.proofs.properties.read_property_value.Goals as goal

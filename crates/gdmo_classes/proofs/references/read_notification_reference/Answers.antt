@@ -1,7 +1,7 @@
 -- The word behind the label tells a template from a label.
 use Rattle.std.proofs.Common.{◌∙◌, sym, refl}
-use Rattle.text_lex.proofs.Exits.{exit_reads}
-use Rattle.text_lex.proofs.References.{spelt_label, spelt_template, fails_label, fails_template}
+use Rattle.token_grammar.proofs.Exits.{exit_reads}
+use Rattle.token_grammar.proofs.References.{spelt_label, spelt_template, fails_label, fails_template}
 use Rattle.gdmo_members.specs.Templates.{templates}
 use Rattle.gdmo_classes.proofs.references.read_notification_reference.Goals as goal
 

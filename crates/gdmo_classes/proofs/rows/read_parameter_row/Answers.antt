@@ -1,19 +1,19 @@
 -- As many references as come.
 use Rattle.std.proofs.Common.{◌∙◌, sym, refl, true, arith, codes}
-use Rattle.text_lex.proofs.Sequences.{fails_by}
-use Rattle.text_lex.proofs.Heads.{stops_unless, advances}
-use Rattle.text_lex.proofs.Known.{at_word}
-use Rattle.text_lex.proofs.Exits.{exit_reads}
-use Rattle.text_lex.proofs.Turns.{spelt_led, fault_led, many_ends, many_fault}
-use Rattle.text_lex.proofs.Parts.{many_start, many_push, at_within}
-use Rattle.text_lex.specs.Form.{Empty}
+use Rattle.token_grammar.proofs.Sequences.{fails_by}
+use Rattle.token_grammar.proofs.Heads.{stops_unless, advances}
+use Rattle.token_grammar.proofs.Known.{at_word}
+use Rattle.token_grammar.proofs.Exits.{exit_reads}
+use Rattle.token_grammar.proofs.Turns.{spelt_led, fault_led, many_ends, many_fault}
+use Rattle.token_grammar.proofs.Parts.{many_start, many_push, at_within}
+use Rattle.token_grammar.specs.Form.{Empty}
 use Rattle.gdmo_members.proofs.Apart.{word_apart}
 use Rattle.gdmo_members.proofs.FirstTokens.{labels, labels_lead}
 use Rattle.gdmo_members.specs.Clauses.{parameters, reference}
 use Rattle.gdmo_members.specs.MemberTrees.{parameter_reference_tree}
 use Rattle.gdmo_classes.proofs.PartEnds.{reference_starts, start_wider}
 use Rattle.gdmo_classes.specs.ClassForms.{is_reference_start, is_word_or_string}
-use Rattle.text_lex.proofs.Heads.{at_wider}
+use Rattle.token_grammar.proofs.Heads.{at_wider}
 use Rattle.gdmo_classes.proofs.rows.read_parameter_row.Goals as goal
 
 pub turns-init : goal.turns-init

@@ -1,7 +1,7 @@
 use Rattle.std.proofs.Common.{◌-◌, length}
-use Rattle.text_lex.specs.Form.{Many, Empty}
-use Rattle.text_lex.specs.Parts.{list_tree}
-use Rattle.text_lex.specs.Turns.{Leads}
+use Rattle.token_grammar.specs.Form.{Many, Empty}
+use Rattle.token_grammar.specs.Parts.{list_tree}
+use Rattle.token_grammar.specs.Turns.{Leads}
 use Rattle.gdmo_members.specs.Clauses.{parameters, reference}
 use Rattle.gdmo_members.specs.Templates.{templates}
 use Rattle.gdmo_members.specs.MemberTrees.{parameter_reference_tree}

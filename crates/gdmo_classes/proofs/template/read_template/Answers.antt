@@ -1,10 +1,10 @@
 -- The words behind the label part the three templates.
 use Rattle.std.proofs.Common.{◌∙◌, sym, refl, codes, ◌+◌}
-use Rattle.text_lex.proofs.Sequences.{spelt_first, spelt_second, fault_first, fault_second, fails_by, stops_or}
-use Rattle.text_lex.proofs.Exits.{exit_reads}
-use Rattle.text_lex.proofs.References.{other_keyword, other_stops, label_first}
-use Rattle.text_lex.specs.Beginning.{no_tokens}
-use Rattle.text_lex.specs.TokenTests.{is_word_of}
+use Rattle.token_grammar.proofs.Sequences.{spelt_first, spelt_second, fault_first, fault_second, fails_by, stops_or}
+use Rattle.token_grammar.proofs.Exits.{exit_reads}
+use Rattle.token_grammar.proofs.References.{other_keyword, other_stops, label_first}
+use Rattle.token_grammar.specs.Beginning.{no_tokens}
+use Rattle.token_grammar.specs.TokenTests.{is_word_of}
 use Rattle.gdmo_members.specs.Clauses.{packages, classes, name_bindings}
 use Rattle.gdmo_classes.proofs.template.read_template.Goals as goal
 

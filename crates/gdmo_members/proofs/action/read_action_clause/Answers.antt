@@ -1,12 +1,12 @@
 -- Each clause comes with its first word, and comes once; the two that begin alike part at their second word.
 use Rattle.std.proofs.Common.{◌∙◌, ◌||◌, sym, ap, refl, true, false, arith, codes, [], ◌+◌, ◌∷◌, ◌&&◌, Bool}
-use Rattle.text_lex.proofs.Sequences.{passes_false}
-use Rattle.text_lex.proofs.Heads.{skips, starts, stops_unless}
-use Rattle.text_lex.proofs.Known.{at_word}
-use Rattle.text_lex.proofs.Clauses.{no_slots_stop, slot_stops, others_here, others_past, opens_but, stops_by, fails_clause, clause_taken, fails_clause, came_not, comes_here, comes_not, exit_clause, second_word_stops, first_word_begins, clause_taken_with, fails_clause_with, both_first, both_second, both_not, pair_not, pair_comes, open_and}
-use Rattle.text_lex.specs.Form.{Leaf}
-use Rattle.text_lex.specs.TokenTests.{is_word_of}
-use Rattle.text_lex.specs.Parts.{qualified_name, qualified_name_tree}
+use Rattle.token_grammar.proofs.Sequences.{passes_false}
+use Rattle.token_grammar.proofs.Heads.{skips, starts, stops_unless}
+use Rattle.token_grammar.proofs.Known.{at_word}
+use Rattle.token_grammar.proofs.Clauses.{no_slots_stop, slot_stops, others_here, others_past, opens_but, stops_by, fails_clause, clause_taken, fails_clause, came_not, comes_here, comes_not, exit_clause, second_word_stops, first_word_begins, clause_taken_with, fails_clause_with, both_first, both_second, both_not, pair_not, pair_comes, open_and}
+use Rattle.token_grammar.specs.Form.{Leaf}
+use Rattle.token_grammar.specs.TokenTests.{is_word_of}
+use Rattle.token_grammar.specs.Parts.{qualified_name, qualified_name_tree}
 use Rattle.gdmo_members.proofs.FirstTokens.{labels, labels_lead}
 use Rattle.gdmo_members.specs.Clauses.{behaviour_clause, parameters_clause, clause, flag}
 use Rattle.gdmo_members.specs.Templates.{reply_clause}
@@ -14,7 +14,7 @@ use Rattle.gdmo_members.specs.Trees.{clause_tree, vector_tree, behaviour_list_tr
 use Rattle.gdmo_members.specs.MemberTrees.{parameter_reference_tree}
 use Rattle.gdmo_members.proofs.WithClauses.{with_not, and_true}
 use Rattle.gdmo_members.specs.FurtherTrees.{action_slots, is_action_clause}
-use Rattle.text_lex.specs.Spelling.{passes}
+use Rattle.token_grammar.specs.Spelling.{passes}
 use Rattle.std.specs.Prelude.{slice_get}
 use Rattle.gdmo_members.proofs.action.read_action_clause.Goals as goal
 

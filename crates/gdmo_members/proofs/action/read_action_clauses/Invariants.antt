@@ -1,6 +1,6 @@
 use Rattle.std.proofs.Common.{◌-◌, length}
-use Rattle.text_lex.specs.Form.{AnyOrder}
-use Rattle.text_lex.specs.Turns.{Leads}
+use Rattle.token_grammar.specs.Form.{AnyOrder}
+use Rattle.token_grammar.specs.Turns.{Leads}
 use Rattle.gdmo_members.specs.Templates.{templates, action_clauses}
 use Rattle.gdmo_members.specs.FurtherTrees.{action_slots, is_action_clause}
 use Rattle.gdmo_members.proofs.action.read_action_clauses.Given as goal

@@ -1,6 +1,6 @@
 -- A label, the keywords, the string and the semicolon.
-use Rattle.text_lex.proofs.Sequences.{apart_closed, spelt_then, spelt_named, fails_front, fails_rest, fails_named}
-use Rattle.text_lex.proofs.Exits.{exit_reads}
+use Rattle.token_grammar.proofs.Sequences.{apart_closed, spelt_then, spelt_named, fails_front, fails_rest, fails_named}
+use Rattle.token_grammar.proofs.Exits.{exit_reads}
 use Rattle.gdmo_members.specs.Clauses.{behaviours}
 use Rattle.gdmo_members.specs.Templates.{templates}
 use Rattle.gdmo_members.proofs.behaviour.read_behaviour.Goals as goal

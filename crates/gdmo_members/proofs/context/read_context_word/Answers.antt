@@ -1,9 +1,9 @@
 -- The point, where it stands, and the word.
 use Rattle.std.proofs.Common.{refl, codes}
-use Rattle.text_lex.proofs.Sequences.{spelt_then, fails_front, fails_rest}
-use Rattle.text_lex.proofs.Exits.{exit_reads}
-use Rattle.text_lex.specs.Form.{Keep}
-use Rattle.text_lex.specs.TokenTests.{is_word}
+use Rattle.token_grammar.proofs.Sequences.{spelt_then, fails_front, fails_rest}
+use Rattle.token_grammar.proofs.Exits.{exit_reads}
+use Rattle.token_grammar.specs.Form.{Keep}
+use Rattle.token_grammar.specs.TokenTests.{is_word}
 use Rattle.gdmo_members.proofs.Apart.{sign_apart}
 use Rattle.gdmo_members.specs.Templates.{templates}
 use Rattle.gdmo_members.proofs.context.read_context_word.Goals as goal

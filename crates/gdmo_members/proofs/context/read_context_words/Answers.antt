@@ -1,11 +1,11 @@
 -- As many words as come.
 use Rattle.std.proofs.Common.{◌∙◌, sym, refl, arith}
-use Rattle.text_lex.proofs.Sequences.{apart_closed, fails_by, not_closed}
-use Rattle.text_lex.proofs.Heads.{stops_unless, advances}
-use Rattle.text_lex.proofs.Exits.{exit_reads}
-use Rattle.text_lex.proofs.Turns.{spelt_led, fault_led, many_ends, many_fault}
-use Rattle.text_lex.specs.Form.{Empty}
-use Rattle.text_lex.proofs.Parts.{many_start, many_push, at_within}
+use Rattle.token_grammar.proofs.Sequences.{apart_closed, fails_by, not_closed}
+use Rattle.token_grammar.proofs.Heads.{stops_unless, advances}
+use Rattle.token_grammar.proofs.Exits.{exit_reads}
+use Rattle.token_grammar.proofs.Turns.{spelt_led, fault_led, many_ends, many_fault}
+use Rattle.token_grammar.specs.Form.{Empty}
+use Rattle.token_grammar.proofs.Parts.{many_start, many_push, at_within}
 use Rattle.gdmo_members.proofs.FirstTokens.{labels, labels_lead}
 use Rattle.gdmo_members.specs.Clauses.{context_word, is_context_start}
 use Rattle.gdmo_members.specs.Trees.{context_word_tree}

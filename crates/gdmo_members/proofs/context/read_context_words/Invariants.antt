@@ -1,7 +1,7 @@
 use Rattle.std.proofs.Common.{◌-◌, length}
-use Rattle.text_lex.specs.Form.{Many, Empty}
-use Rattle.text_lex.specs.Parts.{list_tree}
-use Rattle.text_lex.proofs.Turns.{Leads}
+use Rattle.token_grammar.specs.Form.{Many, Empty}
+use Rattle.token_grammar.specs.Parts.{list_tree}
+use Rattle.token_grammar.proofs.Turns.{Leads}
 use Rattle.gdmo_members.specs.Clauses.{context_word, is_context_start}
 use Rattle.gdmo_members.specs.Templates.{templates}
 use Rattle.gdmo_members.specs.Trees.{context_word_tree}

@@ -1,10 +1,10 @@
 -- A point comes, or it does not.
 use Rattle.std.proofs.Common.{◌∙◌, sym, refl, arith, codes}
-use Rattle.text_lex.proofs.Sequences.{spelt_wider, fails_wider, spelt_present, spelt_absent, fails_present}
-use Rattle.text_lex.proofs.Heads.{stops_unless}
-use Rattle.text_lex.proofs.Exits.{exit_reads}
-use Rattle.text_lex.specs.Form.{Keep}
-use Rattle.text_lex.specs.TokenTests.{is_sign_of}
+use Rattle.token_grammar.proofs.Sequences.{spelt_wider, fails_wider, spelt_present, spelt_absent, fails_present}
+use Rattle.token_grammar.proofs.Heads.{stops_unless}
+use Rattle.token_grammar.proofs.Exits.{exit_reads}
+use Rattle.token_grammar.specs.Form.{Keep}
+use Rattle.token_grammar.specs.TokenTests.{is_sign_of}
 use Rattle.gdmo_members.proofs.FirstTokens.{labels, labels_lead}
 use Rattle.gdmo_members.specs.Templates.{templates}
 use Rattle.gdmo_members.proofs.context.read_point.Goals as goal

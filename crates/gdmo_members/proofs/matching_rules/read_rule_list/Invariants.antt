@@ -1,7 +1,7 @@
 use Rattle.std.proofs.Common.{◌-◌, length}
-use Rattle.text_lex.specs.Form.{Listed, Empty, Leaf}
-use Rattle.text_lex.specs.Parts.{list_tree}
-use Rattle.text_lex.proofs.Turns.{Leads}
+use Rattle.token_grammar.specs.Form.{Listed, Empty, Leaf}
+use Rattle.token_grammar.specs.Parts.{list_tree}
+use Rattle.token_grammar.proofs.Turns.{Leads}
 use Rattle.gdmo_members.specs.Clauses.{comma, matching_rule}
 use Rattle.gdmo_members.specs.Templates.{templates}
 use Rattle.gdmo_members.proofs.matching_rules.read_rule_list.Given as goal

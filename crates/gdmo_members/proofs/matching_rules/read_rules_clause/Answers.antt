@@ -1,7 +1,7 @@
 -- The keywords, the list and the semicolon.
 use Rattle.std.proofs.Common.{refl, codes}
-use Rattle.text_lex.proofs.Sequences.{apart_closed, spelt_then, fails_front, fails_rest}
-use Rattle.text_lex.proofs.Exits.{exit_reads}
+use Rattle.token_grammar.proofs.Sequences.{apart_closed, spelt_then, fails_front, fails_rest}
+use Rattle.token_grammar.proofs.Exits.{exit_reads}
 use Rattle.gdmo_members.proofs.Apart.{sign_apart}
 use Rattle.gdmo_members.specs.Clauses.{semicolon}
 use Rattle.gdmo_members.specs.Templates.{templates}

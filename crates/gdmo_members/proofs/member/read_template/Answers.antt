@@ -1,12 +1,12 @@
 -- The words behind the label part the six templates, which begin alike.
 use Rattle.std.proofs.Common.{◌∙◌, sym, refl, codes, ◌+◌}
-use Rattle.text_lex.proofs.Sequences.{stops_or, spelt_first, spelt_second, fault_first, fault_second, fails_by}
-use Rattle.text_lex.proofs.Exits.{exit_reads}
-use Rattle.text_lex.proofs.References.{other_keyword, other_stops, label_first}
-use Rattle.text_lex.specs.TokenTests.{is_word_of}
+use Rattle.token_grammar.proofs.Sequences.{stops_or, spelt_first, spelt_second, fault_first, fault_second, fails_by}
+use Rattle.token_grammar.proofs.Exits.{exit_reads}
+use Rattle.token_grammar.proofs.References.{other_keyword, other_stops, label_first}
+use Rattle.token_grammar.specs.TokenTests.{is_word_of}
 use Rattle.gdmo_members.specs.Clauses.{behaviours, attributes, parameters, groups, actions, notifications}
 use Rattle.gdmo_members.proofs.Alternatives.{third_not, group_not, attribute_not, pair_template}
-use Rattle.text_lex.specs.Beginning.{no_tokens}
+use Rattle.token_grammar.specs.Beginning.{no_tokens}
 use Rattle.gdmo_members.proofs.member.read_template.Goals as goal
 
 pub returns-then-is_pair_template_at : goal.returns-then-is_pair_template_at

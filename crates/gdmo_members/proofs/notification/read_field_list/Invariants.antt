@@ -1,8 +1,8 @@
 use Rattle.std.proofs.Common.{◌-◌, length, codes}
-use Rattle.text_lex.specs.Form.{Listed, Empty}
-use Rattle.text_lex.specs.Parts.{either, list_tree}
-use Rattle.text_lex.specs.TokenTests.{is_word_of}
-use Rattle.text_lex.proofs.Turns.{Leads}
+use Rattle.token_grammar.specs.Form.{Listed, Empty}
+use Rattle.token_grammar.specs.Parts.{either, list_tree}
+use Rattle.token_grammar.specs.TokenTests.{is_word_of}
+use Rattle.token_grammar.proofs.Turns.{Leads}
 use Rattle.gdmo_members.specs.Clauses.{comma}
 use Rattle.gdmo_members.specs.Templates.{templates, field}
 use Rattle.gdmo_members.specs.FurtherTrees.{field_tree}

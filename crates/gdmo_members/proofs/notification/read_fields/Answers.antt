@@ -1,9 +1,9 @@
 -- The words come, or they do not.
 use Rattle.std.proofs.Common.{◌∙◌, sym, refl, arith, codes}
-use Rattle.text_lex.proofs.Sequences.{apart_closed, spelt_then, spelt_present, spelt_absent, fails_front, fails_rest, fails_present, spelt_on, fails_on}
-use Rattle.text_lex.proofs.Heads.{stops_unless}
-use Rattle.text_lex.proofs.Exits.{exit_reads}
-use Rattle.text_lex.specs.TokenTests.{is_word_of}
+use Rattle.token_grammar.proofs.Sequences.{apart_closed, spelt_then, spelt_present, spelt_absent, fails_front, fails_rest, fails_present, spelt_on, fails_on}
+use Rattle.token_grammar.proofs.Heads.{stops_unless}
+use Rattle.token_grammar.proofs.Exits.{exit_reads}
+use Rattle.token_grammar.specs.TokenTests.{is_word_of}
 use Rattle.gdmo_members.proofs.FirstTokens.{labels, labels_lead}
 use Rattle.gdmo_members.specs.Templates.{templates, fields}
 use Rattle.gdmo_members.proofs.WithClauses.{field_first, field_later}

@@ -1,6 +1,6 @@
 use Rattle.std.proofs.Common.{◌-◌, length}
-use Rattle.text_lex.specs.Form.{AnyOrder}
-use Rattle.text_lex.specs.Turns.{Leads}
+use Rattle.token_grammar.specs.Form.{AnyOrder}
+use Rattle.token_grammar.specs.Turns.{Leads}
 use Rattle.gdmo_members.specs.Templates.{templates, notification_clauses}
 use Rattle.gdmo_members.specs.FurtherTrees.{notification_slots, is_notification_clause}
 use Rattle.gdmo_members.proofs.notification.read_notification_clauses.Given as goal

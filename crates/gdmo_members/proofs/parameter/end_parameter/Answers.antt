@@ -1,7 +1,7 @@
 -- The end, and the parts with the document number 0.
 use Rattle.std.proofs.Common.{◌≡◌, sym, ap, refl, subst}
-use Rattle.text_lex.proofs.Exits.{exit_reads}
-use Rattle.text_lex.proofs.Parts.{spelt_as}
+use Rattle.token_grammar.proofs.Exits.{exit_reads}
+use Rattle.token_grammar.proofs.Parts.{spelt_as}
 use Rattle.gdmo_members.specs.Trees.{ending_tree}
 use Rattle.gdmo_members.specs.MemberTrees.{parameter_tree, template_tree, parameter_clauses_tree}
 use Rattle.gdmo_members.specs.declared.parameter.ParameterTemplate.{ParameterTemplate}

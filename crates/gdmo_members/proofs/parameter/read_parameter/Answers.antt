@@ -1,7 +1,7 @@
 -- The template in the box.
 use Rattle.std.proofs.Common.{ap}
-use Rattle.text_lex.proofs.Exits.{exit_reads}
-use Rattle.text_lex.proofs.Parts.{spelt_as}
+use Rattle.token_grammar.proofs.Exits.{exit_reads}
+use Rattle.token_grammar.proofs.Parts.{spelt_as}
 use Rattle.gdmo_members.specs.MemberTrees.{parameter_tree}
 use Rattle.gdmo_members.proofs.parameter.read_parameter.Goals as goal
 

@@ -1,9 +1,9 @@
 -- The keyword comes, or it does not.
 use Rattle.std.proofs.Common.{◌∙◌, sym, refl, arith, codes}
-use Rattle.text_lex.proofs.Sequences.{spelt_wider, fails_wider, spelt_present, spelt_absent, fails_present}
-use Rattle.text_lex.proofs.Heads.{stops_unless}
-use Rattle.text_lex.proofs.Exits.{exit_reads}
-use Rattle.text_lex.specs.TokenTests.{is_word_of}
+use Rattle.token_grammar.proofs.Sequences.{spelt_wider, fails_wider, spelt_present, spelt_absent, fails_present}
+use Rattle.token_grammar.proofs.Heads.{stops_unless}
+use Rattle.token_grammar.proofs.Exits.{exit_reads}
+use Rattle.token_grammar.specs.TokenTests.{is_word_of}
 use Rattle.gdmo_members.proofs.FirstTokens.{labels, labels_lead}
 use Rattle.gdmo_members.specs.Clauses.{registration}
 use Rattle.gdmo_members.proofs.registration.read_optional_registration.Goals as goal

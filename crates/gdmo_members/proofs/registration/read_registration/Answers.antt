@@ -1,6 +1,6 @@
 -- The keywords, and what stands behind them.
-use Rattle.text_lex.proofs.Sequences.{apart_closed, spelt_then, fails_front, fails_rest}
-use Rattle.text_lex.proofs.Exits.{exit_reads}
+use Rattle.token_grammar.proofs.Sequences.{apart_closed, spelt_then, fails_front, fails_rest}
+use Rattle.token_grammar.proofs.Exits.{exit_reads}
 use Rattle.gdmo_members.specs.Templates.{templates}
 use Rattle.gdmo_members.proofs.registration.read_registration.Goals as goal
 

@@ -1,6 +1,0 @@
--- The token that is wanted is the sign.
-use Rattle.text_lex.specs.TokenTests.{is_sign_of}
-use Rattle.text_lex.proofs.token_reading.read_sign.Goals as goal
-
-pub returns : goal.returns
-returns c = λ grammar. c.keep_token.ensures grammar (is_sign_of c.args.sign.now) c.is_sign_at.ensures

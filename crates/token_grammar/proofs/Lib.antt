@@ -1,0 +1,13 @@
+-- The lemmas of this crate.
+pub mod Places
+pub mod Heads
+pub mod Sequences
+pub mod Turns
+pub mod Clauses
+pub mod Tokens
+pub mod Exits
+pub mod Known
+pub mod Parts
+pub mod References
+pub mod Values
+pub mod StandardFacts
