@@ -7,6 +7,7 @@ use Rattle.term_model.specs.declared.schema.ClassRec.{ClassRec}
 use Rattle.term_model.specs.declared.schema.Set.{Set}
 use Rattle.term_model.specs.History.{came, is_legal_journal, replay}
 use Rattle.term_model.specs.Played.{played}
+use Rattle.term_model.specs.Settled.{IsSettled}
 use Rattle.term_model.specs.TextLaws.{IsEntry}
 use Rattle.term_model.specs.Texts.{journal_text, outs, separator}
 use Rattle.term_model.specs.WellFormedMib.{IsWellFormedMib}
@@ -34,14 +35,16 @@ Obeys schema journal = (before after : List Entry) → journal ≡ before ++ aft
 
 -- The text is the journal of the script, a line of two dashes, and what the one-manager agent places on that journal. The
 -- association's frames stand in the journal in their order, and no others; each entry may stand where it stands; and every
--- object obeys its templates all along. Each entry is one that the program can hold, and the text is that of no other journal
--- of such entries.
+-- object obeys its templates all along. At the end the association is closed, all that was placed for it was taken, and none of
+-- its operations is outstanding. Each entry is one that the program can hold, and the text is that of no other journal of such
+-- entries.
 pub record IsPlayed (schema : Set) (bind : List ℕ) (sends : List (List ℕ)) (text : List ℕ) : Type 0 where
   pub journal : List Entry
   pub of_script : journal ≡ (played schema (script_lines bind sends)).journal
   pub frames : came sole journal ≡ bind ∷ sends
   pub legal : IsTrue (is_legal_journal schema journal)
   pub obeys : Obeys schema journal
+  pub settled : IsSettled (replay schema journal)
   pub printed : text ≡ journal_text journal ++ (separator ++ outs (replay schema journal))
   pub held : All IsEntry journal
   pub determined : (other : List Entry) (rest : List ℕ) → All IsEntry other → text ≡ journal_text other ++ (separator ++ rest) → other ≡ journal

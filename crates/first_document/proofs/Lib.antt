@@ -5,7 +5,6 @@ pub mod IndexLaws
 pub mod LabelLaws
 pub mod Labelled
 pub mod Loops
-pub mod Numerals
 pub mod OneTree
 pub mod RecordFacts
 pub mod Repeats

@@ -4,7 +4,7 @@ use Rattle.std.specs.declared.alloc.Global.{Global}
 use Rattle.std.specs.declared.vec.Vec.{Vec}
 use Rattle.text_lex.specs.declared.token.Token.{Token}
 use Rattle.token_grammar.specs.Form.{Tree, Bare, Leaf, Pair, Absent, Present, Empty}
-use Rattle.token_grammar.specs.Parts.{list_tree}
+use Rattle.token_grammar.specs.Parts.{vector_tree}
 use Rattle.first_document.specs.declared.parts.ModulePart.{ModulePart}
 use Rattle.first_document.specs.declared.parts.AttributePart.{AttributePart}
 use Rattle.first_document.specs.declared.parts.AttributeUse.{AttributeUse}
@@ -12,10 +12,6 @@ use Rattle.first_document.specs.declared.parts.ClassPart.{ClassPart}
 use Rattle.first_document.specs.declared.parts.GivenValue.{GivenValue}
 use Rattle.first_document.specs.declared.parts.RootPart.{RootPart}
 use Rattle.first_document.specs.declared.parts.DocumentParts.{DocumentParts}
-
--- a list of the parts in a vector
-abbrev pub vector_tree : {X : Type 0} → (X → Tree) → Vec X Global → Tree
-vector_tree view xs = list_tree view Empty xs.items
 
 abbrev pub module_tree : ModulePart → Tree
 module_tree x = Pair (Leaf x.name) (Pair Bare (Pair (Leaf x.type_name) Bare))

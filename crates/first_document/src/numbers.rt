@@ -1,7 +1,6 @@
 //! Numbers, and object identifiers, that tokens spell: X.722, section 8.7; X.660, clause 7; docs/PROFILE.md, section 6.
 
-ghost use Rattle.std.specs.Prelude.{◌≡◌, ◌<◌, ◌^◌, All, IfNone, IfOk, IfSome};
-ghost use Rattle.std.specs.Str.Parse.{IsNumeral, digits_value};
+ghost use Rattle.std.specs.Prelude.{◌≡◌, ◌^◌, All, IfNone, IfOk, IfSome};
 ghost use Rattle.first_document.specs.FirstDocument.{AreArcs, IsNumberBelow};
 ghost use Rattle.first_document.specs.Records.{arcs_of, number_of};
 
@@ -9,28 +8,10 @@ use crate::document_refusal::DocumentRefusal;
 use std::alloc::Global;
 use term_values::Oid;
 use text_lex::Token;
+use text_lex::numerals::decimal;
 
 /// Arcs are below this number.
 const ARCS: u64 = 1 << 32;
-
-/// The number that decimal digits spell; none where they are no number below 2 ^ 64.
-fn decimal(digits: &[u8]) -> Option<u64>
-    ensures found { IfSome result (λ n. IsNumeral 10 digits.now × (n ≡ digits_value 10 digits.now)) }
-    ensures none { IfNone result (IsNumeral 10 digits.now → digits_value 10 digits.now < 2 ^ 64 → ⊥) }
-{
-    if digits.is_empty() {
-        return None;
-    }
-    let mut number = 0u64;
-    for digit in digits {
-        if !digit.is_ascii_digit() {
-            return None;
-        }
-        let tens = number.checked_mul(10)?;
-        number = tens.checked_add(u64::from(*digit - b'0'))?;
-    }
-    Some(number)
-}
 
 /// The number of a token, where it is below the limit.
 pub(crate) fn number_below(token: &Token, limit: u64) -> Option<u64>

@@ -2,10 +2,10 @@
 -- templates of all three kinds.
 use Rattle.std.proofs.Common.{◌≡◌, refl, ap}
 use Rattle.token_grammar.specs.Form.{Tree, Bare, Leaf, Pair, First, Second, Present, Empty, After}
-use Rattle.token_grammar.specs.Parts.{optional_tree, label_reference_tree}
+use Rattle.token_grammar.specs.Parts.{optional_tree, label_reference_tree, vector_tree}
 use Rattle.token_grammar.specs.PartLaws.{OneTreeBy, OptionsAgree, IdentifiersAgree}
 use Rattle.token_grammar.proofs.Values.{options_alike, identifiers_alike}
-use Rattle.gdmo_members.specs.Trees.{clause_tree, vector_tree, registration_tree, ending_tree}
+use Rattle.gdmo_members.specs.Trees.{clause_tree, registration_tree, ending_tree}
 use Rattle.gdmo_members.specs.MemberTrees.{attribute_reference_tree, template_tree}
 use Rattle.gdmo_members.specs.Agreement.{AttributeReferencesAgree, VectorsAgree}
 use Rattle.gdmo_members.proofs.SameTrees.{vectors_alike, clauses_alike, optional_clause, behaviours_alike, registered_endings_alike, references_alike}

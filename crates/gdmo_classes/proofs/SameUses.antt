@@ -1,9 +1,8 @@
 -- Values that agree have one tree: what a package says of its attributes, groups, actions and notifications.
 use Rattle.std.proofs.Common.{ap}
 use Rattle.token_grammar.specs.Form.{Pair, First, Second}
-use Rattle.token_grammar.specs.Parts.{label_reference_tree}
+use Rattle.token_grammar.specs.Parts.{label_reference_tree, vector_tree}
 use Rattle.token_grammar.specs.PartLaws.{OneTreeBy}
-use Rattle.gdmo_members.specs.Trees.{vector_tree}
 use Rattle.gdmo_members.specs.MemberTrees.{attribute_reference_tree, parameter_reference_tree}
 use Rattle.gdmo_members.specs.Agreement.{AttributeReferencesAgree, ParameterReferencesAgree, VectorsAgree}
 use Rattle.gdmo_members.proofs.SameTrees.{vectors_alike, references_alike, parameter_references_alike}

@@ -2,10 +2,10 @@
 -- of all three kinds.
 use Rattle.std.proofs.Common.{◌≡◌, ℕ, ◌+◌, suc, ◌∙◌, ap, arith}
 use Rattle.token_grammar.specs.Form.{Tree, Leaf, Empty, After}
-use Rattle.token_grammar.specs.Parts.{optional_tree}
+use Rattle.token_grammar.specs.Parts.{optional_tree, vector_tree}
 use Rattle.token_grammar.specs.PartLaws.{OneValue, OneValueBy, OptionsAgree}
 use Rattle.token_grammar.proofs.Values.{parts_of, pair_same, first_same, second_same, present_same, after_same, leaf_same, first_not_second, second_not_first, absent_not_present, present_not_absent, options_agree, one_option, one_token, one_label_reference}
-use Rattle.gdmo_members.specs.Trees.{clause_tree, vector_tree}
+use Rattle.gdmo_members.specs.Trees.{clause_tree}
 use Rattle.gdmo_members.specs.MemberTrees.{attribute_reference_tree}
 use Rattle.gdmo_members.specs.Agreement.{AttributeReferencesAgree, VectorsAgree}
 use Rattle.gdmo_members.proofs.Values.{vectors_agree, clauses_agree, behaviours_agree, endings_agree, registered_endings_agree, template_same, three_same, five_same}

@@ -5,7 +5,7 @@ use Rattle.token_grammar.specs.PartLaws.{OneValue, OneValueBy}
 use Rattle.token_grammar.proofs.Values.{pair_same, first_same, second_same, first_not_second, second_not_first, one_option, one_token, one_label_reference, one_qualified_name}
 use Rattle.gdmo_members.specs.MemberTrees.{attribute_reference_tree, parameter_reference_tree}
 use Rattle.gdmo_members.specs.Agreement.{AttributeReferencesAgree, ParameterReferencesAgree, VectorsAgree}
-use Rattle.gdmo_members.specs.Trees.{vector_tree}
+use Rattle.token_grammar.specs.Parts.{vector_tree}
 use Rattle.gdmo_members.proofs.Values.{vectors_agree, one_behaviour_reference, five_same}
 use Rattle.gdmo_members.proofs.MemberValues.{references_agree, parameter_references_agree}
 use Rattle.gdmo_members.proofs.FurtherValues.{one_group, one_action, one_notification}

@@ -3,9 +3,9 @@ use Rattle.std.specs.Prelude.{Bool, true, false, [], ◌∷◌, Option, option_m
 use Rattle.text_lex.specs.declared.token.Token.{Token}
 use Rattle.token_grammar.specs.Form.{Tree, Bare, Leaf, Pair, First, Second, Present, Slots, Slot, NoSlots}
 use Rattle.token_grammar.specs.TokenTests.{is_one_of}
-use Rattle.token_grammar.specs.Parts.{optional_tree}
+use Rattle.token_grammar.specs.Parts.{optional_tree, vector_tree}
 use Rattle.gdmo_members.specs.Clauses.{behaviour_clause}
-use Rattle.gdmo_members.specs.Trees.{clause_tree, vector_tree, behaviour_list_tree, registered_ending_tree}
+use Rattle.gdmo_members.specs.Trees.{clause_tree, behaviour_list_tree, registered_ending_tree}
 use Rattle.gdmo_members.specs.MemberTrees.{attribute_reference_tree, parameter_reference_tree, behaviours_tree, template_tree}
 use Rattle.gdmo_classes.specs.declared.creation.FurtherModifier.{FurtherModifier}
 use Rattle.gdmo_classes.specs.declared.creation.ModifierRow.{ModifierRow}

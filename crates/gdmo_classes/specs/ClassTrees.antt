@@ -6,8 +6,8 @@ use Rattle.std.specs.declared.vec.Vec.{Vec}
 use Rattle.text_lex.specs.declared.token.Token.{Token}
 use Rattle.token_grammar.specs.Form.{Tree, Bare, Pair, First, Second, Absent, Present, Empty, After, Slots, Slot, NoSlots}
 use Rattle.token_grammar.specs.TokenTests.{is_one_of}
-use Rattle.token_grammar.specs.Parts.{optional_tree, label_reference_tree}
-use Rattle.gdmo_members.specs.Trees.{clause_tree, vector_tree, registered_ending_tree}
+use Rattle.token_grammar.specs.Parts.{optional_tree, label_reference_tree, vector_tree}
+use Rattle.gdmo_members.specs.Trees.{clause_tree, registered_ending_tree}
 use Rattle.gdmo_members.specs.MemberTrees.{template_tree}
 use Rattle.gdmo_classes.specs.declared.package.PackageReference.{PackageReference}
 use Rattle.gdmo_classes.specs.declared.class.ConditionalPackage.{ConditionalPackage}

@@ -3,9 +3,9 @@ use Rattle.std.specs.Prelude.{Bool, false, [], ◌∷◌, option_map, codes}
 use Rattle.text_lex.specs.declared.token.Token.{Token}
 use Rattle.token_grammar.specs.Form.{Tree, Bare, Leaf, Pair, First, Second, Slots, Slot, NoSlots, slots_tree}
 use Rattle.token_grammar.specs.TokenTests.{is_one_of}
-use Rattle.token_grammar.specs.Parts.{label_reference_tree}
+use Rattle.token_grammar.specs.Parts.{label_reference_tree, vector_tree}
 use Rattle.gdmo_members.specs.Clauses.{behaviour_clause}
-use Rattle.gdmo_members.specs.Trees.{clause_tree, vector_tree, behaviour_list_tree, ending_tree}
+use Rattle.gdmo_members.specs.Trees.{clause_tree, behaviour_list_tree, ending_tree}
 use Rattle.gdmo_members.specs.MemberTrees.{template_tree}
 use Rattle.gdmo_classes.specs.declared.package.PackageTemplate.{PackageTemplate}
 use Rattle.gdmo_classes.specs.declared.package.PackageClauses.{PackageClauses}

@@ -3,8 +3,8 @@
 use Rattle.std.specs.Prelude.{false, option_map}
 use Rattle.token_grammar.specs.declared.qualified_name.QualifiedName.{QualifiedName}
 use Rattle.token_grammar.specs.Form.{Tree, Bare, Leaf, Pair, First, Second, Slots, Slot, NoSlots, slots_tree}
-use Rattle.token_grammar.specs.Parts.{label_reference_tree, qualified_name_tree}
-use Rattle.gdmo_members.specs.Trees.{vector_tree, behaviour_reference_tree}
+use Rattle.token_grammar.specs.Parts.{label_reference_tree, qualified_name_tree, vector_tree}
+use Rattle.gdmo_members.specs.Trees.{behaviour_reference_tree}
 use Rattle.gdmo_members.specs.MemberTrees.{attribute_reference_tree, parameter_reference_tree}
 use Rattle.gdmo_members.specs.FurtherTrees.{group_tree, action_tree, notification_tree}
 use Rattle.gdmo_classes.specs.declared.references.GroupReference.{GroupReference}

@@ -5,7 +5,8 @@ ghost use Rattle.token_grammar.specs.Form.{Listed, Empty};
 ghost use Rattle.token_grammar.specs.Outcome.{Reads, closed};
 ghost use Rattle.gdmo_members.specs.Clauses.{comma};
 ghost use Rattle.gdmo_members.specs.Templates.{templates, attribute_use};
-ghost use Rattle.gdmo_members.specs.Trees.{clause_tree, vector_tree};
+ghost use Rattle.token_grammar.specs.Parts.{vector_tree};
+ghost use Rattle.gdmo_members.specs.Trees.{clause_tree};
 ghost use Rattle.gdmo_classes.specs.ClassForms.{is_word_or_string, is_part_end, attributes_clause};
 ghost use Rattle.gdmo_classes.specs.UseTrees.{attribute_use_tree};
 

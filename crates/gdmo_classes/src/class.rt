@@ -4,12 +4,12 @@
 ghost use Rattle.std.specs.Prelude.{◌≡◌, ℕ, codes, IfOk};
 ghost use Rattle.token_grammar.specs.Form.{AnyOrder, Named, Listed, Empty};
 ghost use Rattle.token_grammar.specs.Outcome.{Reads, closed};
-ghost use Rattle.token_grammar.specs.Parts.{either};
+ghost use Rattle.token_grammar.specs.Parts.{either, vector_tree};
 ghost use Rattle.token_grammar.specs.Turns.{TakesClause};
 ghost use Rattle.token_grammar.specs.TokenTests.{is_word_of};
 ghost use Rattle.gdmo_members.specs.Clauses.{classes, comma, reference, references, registered_ending};
 ghost use Rattle.gdmo_members.specs.Templates.{templates, class_clauses, conditional_package};
-ghost use Rattle.gdmo_members.specs.Trees.{clause_tree, vector_tree, registered_ending_tree};
+ghost use Rattle.gdmo_members.specs.Trees.{clause_tree, registered_ending_tree};
 ghost use Rattle.gdmo_members.specs.MemberTrees.{template_tree};
 ghost use Rattle.gdmo_classes.specs.ClassForms.{superclasses_clause, packages_clause, conditional_clause};
 ghost use Rattle.gdmo_classes.specs.PackageTrees.{package_reference_tree, conditional_tree};

@@ -6,7 +6,8 @@ ghost use Rattle.token_grammar.specs.Form.{Listed, Empty};
 ghost use Rattle.token_grammar.specs.Outcome.{Reads, closed};
 ghost use Rattle.gdmo_members.specs.Clauses.{attributes, parameters, groups, actions, notifications, comma};
 ghost use Rattle.gdmo_members.specs.Templates.{templates, member_use};
-ghost use Rattle.gdmo_members.specs.Trees.{clause_tree, vector_tree};
+ghost use Rattle.token_grammar.specs.Parts.{vector_tree};
+ghost use Rattle.gdmo_members.specs.Trees.{clause_tree};
 ghost use Rattle.gdmo_classes.specs.ClassForms.{is_word_or_string, is_part_end, groups_clause, actions_clause, notifications_clause};
 ghost use Rattle.gdmo_classes.specs.UseTrees.{group_use_tree, action_use_tree, notification_use_tree};
 

@@ -3,12 +3,11 @@
 ghost use Rattle.std.specs.Prelude.{◌≡◌, ℕ, codes};
 ghost use Rattle.token_grammar.specs.Form.{AnyOrder, Named, Listed, Empty};
 ghost use Rattle.token_grammar.specs.Outcome.{Reads, closed};
-ghost use Rattle.token_grammar.specs.Parts.{either};
+ghost use Rattle.token_grammar.specs.Parts.{either, vector_tree};
 ghost use Rattle.token_grammar.specs.Turns.{TakesClause};
 ghost use Rattle.token_grammar.specs.TokenTests.{is_word_of};
 ghost use Rattle.gdmo_members.specs.Clauses.{packages, comma, reference, references};
 ghost use Rattle.gdmo_members.specs.Templates.{templates, package_clauses};
-ghost use Rattle.gdmo_members.specs.Trees.{vector_tree};
 ghost use Rattle.gdmo_classes.specs.PackageTrees.{package_tree, package_slots, package_clauses_tree, is_package_clause, package_reference_tree};
 
 use super::attribute_use::{AttributeUse, read_attributes_clause};

@@ -5,7 +5,7 @@ ghost use Rattle.token_grammar.specs.Spelling.{passes};
 ghost use Rattle.token_grammar.specs.Outcome.{Reads};
 ghost use Rattle.gdmo_members.specs.Clauses.{attributes, parameters, reference_row};
 ghost use Rattle.gdmo_members.specs.Templates.{templates};
-ghost use Rattle.gdmo_members.specs.Trees.{vector_tree};
+ghost use Rattle.token_grammar.specs.Parts.{vector_tree};
 ghost use Rattle.gdmo_members.specs.MemberTrees.{attribute_reference_tree, parameter_reference_tree};
 ghost use Rattle.gdmo_classes.specs.ClassForms.{is_reference_start, is_word_or_string};
 

@@ -1,11 +1,11 @@
 -- Values that agree have one tree: groups, actions and notifications, and the templates of all six kinds.
 use Rattle.std.proofs.Common.{◌≡◌, ap}
 use Rattle.token_grammar.specs.Form.{Tree, Bare, Leaf, Pair, First, Second}
-use Rattle.token_grammar.specs.Parts.{optional_tree, qualified_name_tree}
+use Rattle.token_grammar.specs.Parts.{optional_tree, qualified_name_tree, vector_tree}
 use Rattle.token_grammar.specs.PartLaws.{OneTreeBy, OptionsAgree}
 use Rattle.token_grammar.proofs.Values.{options_alike}
 use Rattle.gdmo_members.specs.declared.member.MemberTemplate.{MemberTemplate}
-use Rattle.gdmo_members.specs.Trees.{clause_tree, vector_tree, behaviour_tree}
+use Rattle.gdmo_members.specs.Trees.{clause_tree, behaviour_tree}
 use Rattle.gdmo_members.specs.MemberTrees.{attribute_reference_tree, template_tree}
 use Rattle.gdmo_members.specs.FurtherTrees.{word_clause_tree, group_tree, action_tree, field_tree, fields_tree, information_tree, notification_tree}
 use Rattle.gdmo_members.specs.MemberTree.{member_tree}

@@ -1,11 +1,11 @@
 -- No two values have one tree: groups, actions and notifications, and the templates of all six kinds.
 use Rattle.std.proofs.Common.{◌≡◌, Option}
 use Rattle.token_grammar.specs.Form.{Tree, Leaf}
-use Rattle.token_grammar.specs.Parts.{optional_tree, qualified_name_tree}
+use Rattle.token_grammar.specs.Parts.{optional_tree, qualified_name_tree, vector_tree}
 use Rattle.token_grammar.specs.PartLaws.{OneValue, OneValueBy, OptionsAgree}
 use Rattle.token_grammar.proofs.Values.{pair_same, leaf_same, first_same, second_same, first_not_second, second_not_first, options_agree, one_option, one_token, one_qualified_name}
 use Rattle.gdmo_members.specs.declared.member.MemberTemplate.TheVariants.{Attribute, Group, Action, Notification, Parameter, Behaviour}
-use Rattle.gdmo_members.specs.Trees.{clause_tree, vector_tree}
+use Rattle.gdmo_members.specs.Trees.{clause_tree}
 use Rattle.gdmo_members.specs.MemberTrees.{attribute_reference_tree}
 use Rattle.gdmo_members.specs.FurtherTrees.{word_clause_tree, group_tree, action_tree, field_tree, fields_tree, information_tree, notification_tree}
 use Rattle.gdmo_members.specs.MemberTree.{member_tree}

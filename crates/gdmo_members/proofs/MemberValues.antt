@@ -2,7 +2,7 @@
 use Rattle.std.proofs.Common.{◌≡◌, ℕ, ◌+◌, suc, ◌∙◌, ap, arith}
 use Rattle.token_grammar.specs.Form.{Tree, Empty, After}
 use Rattle.token_grammar.specs.PartLaws.{OneValue, OneValueBy, OptionsAgree}
-use Rattle.token_grammar.specs.Parts.{qualified_name_tree}
+use Rattle.token_grammar.specs.Parts.{qualified_name_tree, vector_tree}
 use Rattle.token_grammar.proofs.Values.{parts_of, pair_same, first_same, second_same, present_same, after_same, first_not_second, second_not_first, absent_not_present, present_not_absent, options_agree, one_label_reference, one_qualified_name}
 use Rattle.gdmo_members.specs.declared.attribute.AttributeTemplate.{Row_of-ParameterReference, end_of-ParameterReference, more_of-ParameterReference, Held-AttributeTemplate-parameters, None', Some'}
 use Rattle.gdmo_members.specs.declared.attribute.AttributeSyntax.{AttributeSyntax}
@@ -13,7 +13,7 @@ use Rattle.gdmo_members.specs.declared.parameter.ParameterSyntax.{ParameterSynta
 use Rattle.gdmo_members.specs.declared.parameter.ParameterSyntax.TheVariants.{TypeReference as PType, Attribute as OfAttribute}
 use Rattle.gdmo_members.specs.declared.parameter.ParameterReference.{ParameterReference}
 use Rattle.gdmo_members.specs.declared.parameter.ParameterReference.TheVariants.{Label as PLabel, Template' as PTemplate}
-use Rattle.gdmo_members.specs.Trees.{clause_tree, vector_tree, context_tree}
+use Rattle.gdmo_members.specs.Trees.{clause_tree, context_tree}
 use Rattle.gdmo_members.specs.MemberTrees.{attribute_tree, attribute_syntax_tree, attribute_reference_tree, parameter_tree, parameter_syntax_tree, parameter_reference_tree, parameters_tree, row_tree, held_tree}
 use Rattle.gdmo_members.specs.Agreement.{AttributesAgree, AttributeSyntaxesAgree, AttributeReferencesAgree, ParametersAgree, ParameterSyntaxesAgree, ParameterReferencesAgree, RowsAgree, HeldAgree, VectorsAgree, ContextsAgree}
 use Rattle.gdmo_members.proofs.Values.{vectors_agree, clauses_agree, rules_agree, behaviours_agree, endings_agree, contexts_agree, template_same, three_same, four_same}

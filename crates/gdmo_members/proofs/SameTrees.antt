@@ -1,7 +1,7 @@
 -- Values that agree have one tree: the parts of templates, and attribute and parameter templates.
 use Rattle.std.proofs.Common.{◌≡◌, refl, ap}
 use Rattle.token_grammar.specs.Form.{Tree, Bare, Leaf, Pair, First, Second, Present, Empty, After}
-use Rattle.token_grammar.specs.Parts.{optional_tree, list_tree, label_reference_tree, qualified_name_tree}
+use Rattle.token_grammar.specs.Parts.{optional_tree, list_tree, label_reference_tree, qualified_name_tree, vector_tree}
 use Rattle.token_grammar.specs.PartLaws.{OneTreeBy, OptionsAgree, IdentifiersAgree}
 use Rattle.token_grammar.proofs.Values.{lists_alike, options_alike, identifiers_alike}
 use Rattle.gdmo_members.specs.declared.attribute.AttributeTemplate.{Row_of-ParameterReference, end_of-ParameterReference, more_of-ParameterReference, Held-AttributeTemplate-parameters, None', Some'}
@@ -13,7 +13,7 @@ use Rattle.gdmo_members.specs.declared.parameter.ParameterSyntax.{ParameterSynta
 use Rattle.gdmo_members.specs.declared.parameter.ParameterSyntax.TheVariants.{TypeReference as PType, Attribute as OfAttribute}
 use Rattle.gdmo_members.specs.declared.parameter.ParameterReference.{ParameterReference}
 use Rattle.gdmo_members.specs.declared.parameter.ParameterReference.TheVariants.{Label as PLabel, Template' as PTemplate}
-use Rattle.gdmo_members.specs.Trees.{clause_tree, vector_tree, behaviour_reference_tree, registration_tree, ending_tree, registered_ending_tree, context_word_tree, context_tree}
+use Rattle.gdmo_members.specs.Trees.{clause_tree, behaviour_reference_tree, registration_tree, ending_tree, registered_ending_tree, context_word_tree, context_tree}
 use Rattle.gdmo_members.specs.MemberTrees.{rules_tree, behaviours_tree, template_tree, attribute_tree, attribute_syntax_tree, attribute_reference_tree, parameter_tree, parameter_syntax_tree, parameter_reference_tree, parameters_tree, row_tree, held_tree}
 use Rattle.gdmo_members.specs.Agreement.{VectorsEqual, VectorsAgree, ContextsAgree, AttributesAgree, AttributeSyntaxesAgree, AttributeReferencesAgree, ParametersAgree, ParameterSyntaxesAgree, ParameterReferencesAgree, RowsAgree, HeldAgree}
 

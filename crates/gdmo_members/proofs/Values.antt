@@ -1,6 +1,6 @@
 -- No two values have one tree: the parts of templates.
 use Rattle.std.proofs.Common.{◌≡◌, ℕ, Option, ap}
-use Rattle.token_grammar.specs.Parts.{optional_tree}
+use Rattle.token_grammar.specs.Parts.{optional_tree, vector_tree}
 use Rattle.std.specs.declared.alloc.Global.{Global}
 use Rattle.std.specs.declared.vec.Vec.{Vec}
 use Rattle.text_lex.specs.declared.token.Token.{Token}
@@ -8,7 +8,7 @@ use Rattle.token_grammar.specs.Form.{Tree, Bare, Leaf, Pair}
 use Rattle.token_grammar.specs.PartLaws.{OneValue, OneValueBy, OptionsAgree, IdentifiersAgree}
 use Rattle.token_grammar.proofs.Values.{lists_agree, one_list, pair_same, first_same, second_same, leaf_same, numbered_same, first_not_second, second_not_first, options_agree, one_option, one_token, one_label_reference, one_object_identifier}
 use Rattle.gdmo_members.specs.declared.behaviour.BehaviourReference.TheVariants.{Label, Template}
-use Rattle.gdmo_members.specs.Trees.{clause_tree, vector_tree, behaviour_tree, behaviour_reference_tree, registration_tree, ending_tree, registered_ending_tree, context_word_tree, context_tree}
+use Rattle.gdmo_members.specs.Trees.{clause_tree, behaviour_tree, behaviour_reference_tree, registration_tree, ending_tree, registered_ending_tree, context_word_tree, context_tree}
 use Rattle.gdmo_members.specs.MemberTrees.{rules_tree, behaviours_tree, template_tree}
 use Rattle.gdmo_members.specs.Agreement.{VectorsEqual, VectorsAgree, ContextsAgree}
 

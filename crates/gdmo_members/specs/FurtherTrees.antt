@@ -6,7 +6,7 @@ use Rattle.std.specs.declared.vec.Vec.{Vec}
 use Rattle.text_lex.specs.declared.token.Token.{Token}
 use Rattle.token_grammar.specs.Form.{Keep, Tree, Bare, Leaf, Pair, Slots, Slot, NoSlots, slots_tree}
 use Rattle.token_grammar.specs.TokenTests.{is_one_of, is_string, is_word_of}
-use Rattle.token_grammar.specs.Parts.{either, optional_tree, qualified_name, qualified_name_tree}
+use Rattle.token_grammar.specs.Parts.{either, optional_tree, qualified_name, qualified_name_tree, vector_tree}
 use Rattle.gdmo_members.specs.declared.group.GroupTemplate.{GroupTemplate}
 use Rattle.gdmo_members.specs.declared.group.GroupClauses.{GroupClauses}
 use Rattle.gdmo_members.specs.declared.action.ActionTemplate.{ActionTemplate}
@@ -17,7 +17,7 @@ use Rattle.gdmo_members.specs.declared.notification.Field.{Field}
 use Rattle.gdmo_members.specs.declared.notification.Information.{Information}
 use Rattle.gdmo_members.specs.Clauses.{attributes, behaviour_clause, parameters_clause, clause, comma, flag, references, word_clause}
 use Rattle.gdmo_members.specs.Templates.{information_clause, reply_clause}
-use Rattle.gdmo_members.specs.Trees.{clause_tree, vector_tree, behaviour_list_tree, registered_ending_tree}
+use Rattle.gdmo_members.specs.Trees.{clause_tree, behaviour_list_tree, registered_ending_tree}
 use Rattle.gdmo_members.specs.MemberTrees.{attribute_reference_tree, parameter_reference_tree, template_tree}
 
 -- a keyword that is kept, and a semicolon

@@ -6,7 +6,7 @@ use Rattle.std.specs.declared.vec.Vec.{Vec}
 use Rattle.text_lex.specs.declared.token.Token.{Token}
 use Rattle.token_grammar.specs.Form.{Tree, Bare, Leaf, Pair, First, Second, Absent, Present, Empty, After, Numbered, Slots, Slot, NoSlots}
 use Rattle.token_grammar.specs.TokenTests.{is_one_of}
-use Rattle.token_grammar.specs.Parts.{optional_tree, label_reference_tree, qualified_name_tree}
+use Rattle.token_grammar.specs.Parts.{optional_tree, label_reference_tree, qualified_name_tree, vector_tree}
 use Rattle.gdmo_members.specs.declared.behaviour.BehaviourReference.{BehaviourReference}
 use Rattle.gdmo_members.specs.declared.attribute.AttributeTemplate.{AttributeTemplate, Row_of-ParameterReference, end_of-ParameterReference, more_of-ParameterReference, Held-AttributeTemplate-parameters, None', Some'}
 use Rattle.gdmo_members.specs.declared.attribute.AttributeSyntax.{AttributeSyntax}
@@ -25,7 +25,7 @@ use Rattle.gdmo_members.specs.declared.parameter.ParameterClauses.{ParameterClau
 use Rattle.gdmo_members.specs.declared.context.Context.{Context}
 use Rattle.gdmo_members.specs.Clauses.{behaviour_clause, parameters_clause, context, clause}
 use Rattle.gdmo_members.specs.Templates.{attribute_syntax, rules_clause, parameter_syntax}
-use Rattle.gdmo_members.specs.Trees.{clause_tree, vector_tree, behaviour_list_tree, context_tree, ending_tree}
+use Rattle.gdmo_members.specs.Trees.{clause_tree, behaviour_list_tree, context_tree, ending_tree}
 
 -- the clauses of matching rules and of behaviours, where they stand
 abbrev pub rules_tree : Option (Vec Token Global) → Tree

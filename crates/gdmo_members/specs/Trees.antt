@@ -3,8 +3,8 @@ use Rattle.std.specs.Prelude.{Option}
 use Rattle.std.specs.declared.alloc.Global.{Global}
 use Rattle.std.specs.declared.vec.Vec.{Vec}
 use Rattle.token_grammar.specs.declared.object_identifier.ObjectIdentifier.{ObjectIdentifier}
-use Rattle.token_grammar.specs.Form.{Tree, Bare, Leaf, Pair, First, Second, Empty, Numbered}
-use Rattle.token_grammar.specs.Parts.{optional_tree, list_tree, label_reference_tree, object_identifier_tree}
+use Rattle.token_grammar.specs.Form.{Tree, Bare, Leaf, Pair, First, Second, Numbered}
+use Rattle.token_grammar.specs.Parts.{optional_tree, vector_tree, label_reference_tree, object_identifier_tree}
 use Rattle.gdmo_members.specs.declared.behaviour.BehaviourTemplate.{BehaviourTemplate}
 use Rattle.gdmo_members.specs.declared.behaviour.BehaviourReference.{BehaviourReference}
 use Rattle.gdmo_members.specs.declared.behaviour.BehaviourReference.TheVariants.{Label, Template}
@@ -14,10 +14,6 @@ use Rattle.gdmo_members.specs.declared.context.Context.{Context}
 -- a clause: its keywords, its part and its semicolon
 abbrev pub clause_tree : {X : Type 0} → (X → Tree) → X → Tree
 clause_tree view x = Pair Bare (Pair (view x) Bare)
-
--- a list of the parts in a vector
-abbrev pub vector_tree : {X : Type 0} → (X → Tree) → Vec X Global → Tree
-vector_tree view xs = list_tree view Empty xs.items
 
 abbrev pub behaviour_tree : BehaviourTemplate → Tree
 behaviour_tree x = Numbered x.document (Pair (Leaf x.label) (Pair Bare (Pair (Leaf x.definition) Bare)))
@@ -42,4 +38,4 @@ abbrev pub context_word_tree : ContextWord → Tree
 context_word_tree x = Pair (optional_tree Leaf x.point) (Leaf x.word)
 
 abbrev pub context_tree : Context → Tree
-context_tree x = Pair (Leaf x.first) (list_tree context_word_tree Empty x.others.items)
+context_tree x = Pair (Leaf x.first) (vector_tree context_word_tree x.others)

@@ -3,12 +3,12 @@
 ghost use Rattle.std.specs.Prelude.{◌≡◌, ℕ, [], ◌∷◌, codes};
 ghost use Rattle.token_grammar.specs.Form.{Form, AnyOrder, Keep, Leaf, Listed, Empty, Maybe, Named, Then};
 ghost use Rattle.token_grammar.specs.Outcome.{Reads, closed};
-ghost use Rattle.token_grammar.specs.Parts.{either, optional_tree, qualified_name};
+ghost use Rattle.token_grammar.specs.Parts.{either, optional_tree, qualified_name, vector_tree};
 ghost use Rattle.token_grammar.specs.Turns.{TakesClause};
 ghost use Rattle.token_grammar.specs.TokenTests.{is_string, is_word_of};
 ghost use Rattle.gdmo_members.specs.Clauses.{actions, flag};
 ghost use Rattle.gdmo_members.specs.Templates.{templates, action_clauses};
-ghost use Rattle.gdmo_members.specs.Trees.{clause_tree, vector_tree};
+ghost use Rattle.gdmo_members.specs.Trees.{clause_tree};
 ghost use Rattle.gdmo_members.specs.MemberTrees.{attribute_reference_tree, parameter_reference_tree};
 ghost use Rattle.gdmo_members.specs.FurtherTrees.{action_tree, action_slots, action_clauses_tree, is_action_clause};
 

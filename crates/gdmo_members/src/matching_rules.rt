@@ -5,7 +5,8 @@ ghost use Rattle.token_grammar.specs.Form.{Form, Listed, Empty, Leaf};
 ghost use Rattle.token_grammar.specs.Outcome.{Reads, closed};
 ghost use Rattle.gdmo_members.specs.Clauses.{comma, matching_rule};
 ghost use Rattle.gdmo_members.specs.Templates.{templates, rules_clause};
-ghost use Rattle.gdmo_members.specs.Trees.{clause_tree, vector_tree};
+ghost use Rattle.token_grammar.specs.Parts.{vector_tree};
+ghost use Rattle.gdmo_members.specs.Trees.{clause_tree};
 
 use std::alloc::Global;
 use token_grammar::token_reading::{place_behind, read_one_of, skip_sign, skip_words};

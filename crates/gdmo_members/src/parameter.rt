@@ -4,12 +4,12 @@
 ghost use Rattle.std.specs.Prelude.{◌≡◌, ℕ, [], ◌∷◌, codes, IfOk};
 ghost use Rattle.token_grammar.specs.Form.{Form, AnyOrder, Named};
 ghost use Rattle.token_grammar.specs.Outcome.{Reads, closed};
-ghost use Rattle.token_grammar.specs.Parts.{either};
+ghost use Rattle.token_grammar.specs.Parts.{either, vector_tree};
 ghost use Rattle.token_grammar.specs.Turns.{TakesClause};
 ghost use Rattle.token_grammar.specs.TokenTests.{is_word_of};
 ghost use Rattle.gdmo_members.specs.Clauses.{ending, comma, parameters, reference, references, parameters_clause, context, clause};
 ghost use Rattle.gdmo_members.specs.Templates.{templates, parameter_syntax, parameter_clauses};
-ghost use Rattle.gdmo_members.specs.Trees.{clause_tree, context_tree, ending_tree, vector_tree};
+ghost use Rattle.gdmo_members.specs.Trees.{clause_tree, context_tree, ending_tree};
 ghost use Rattle.gdmo_members.specs.MemberTrees.{parameter_tree, template_tree, parameter_reference_tree, parameter_syntax_tree, parameter_slots, parameter_clauses_tree, is_parameter_clause};
 
 use super::attribute::{AttributeReference, read_attribute_reference};

@@ -6,7 +6,7 @@ use Rattle.std.proofs.lemmas.List.{append-nil, length_push}
 use Rattle.std.proofs.lemmas.List.Sums.{sum_by_push}
 use Rattle.term_model.specs.declared.agent_state.AgentState.{AgentState}
 use Rattle.term_model.specs.declared.agent_state.Association.{Association}
-use Rattle.term_model.specs.declared.agent_state.AssociationState.TheVariants.{Live, Finished}
+use Rattle.term_model.specs.declared.agent_state.AssociationState.TheVariants.{Live, Finished, Closed}
 use Rattle.term_model.specs.declared.agent_state.NamedObject.{NamedObject}
 use Rattle.term_model.specs.declared.agent_state.Operation.{Operation}
 use Rattle.term_model.specs.declared.agent_state.OperationState.TheVariants as operation
@@ -23,8 +23,9 @@ use Rattle.term_model.specs.GetRequest.{invocation_in}
 use Rattle.term_model.specs.Operation.{exec}
 use Rattle.term_model.specs.Played.{Play, with_entry, taken_all, all_taken, answered, line_played, closed, closed_from, beginning, lines_played, played}
 use Rattle.term_model.specs.Played.ScriptLine.{Open, Send}
+use Rattle.term_model.specs.Settled.{IsDone, IsSettled}
 use Rattle.term_model.specs.Step.{is_legal, step, queued, with_placed, with_taken, with_state, bound, reply_bytes, may_take}
-use Rattle.term_model.proofs.StepLaws.{step_legal, numbered_last, changed_last, legal_counts}
+use Rattle.term_model.proofs.StepLaws.{step_legal, numbered_last, numbered_alone, changed_last, closed_at_end, legal_counts}
 use Rattle.one_manager_agent.specs.Playing.{IsFresh, IsReady, script_lines, so_far, sole}
 
 -- a state with one association
@@ -229,6 +230,17 @@ pub record Ends (agent : AgentState) (journal : List Entry) : Type 0 where
   pub none_left : taken_all sole (with_entry (so_far agent journal) (entry.Finished sole)) ≡ with_entry (so_far agent journal) (entry.Finished sole)
   pub legal : is_legal (step agent (entry.Finished sole)) (entry.Closed sole why.End) ≡ true
   pub whole : closed sole (so_far agent journal) ≡ with_entry (with_entry (so_far agent journal) (entry.Finished sole)) (entry.Closed sole why.End)
+  pub settled : IsSettled (closed sole (so_far agent journal)).agent
+
+-- a state is settled whose one association is done with
+one_settled : (schema : Set) (objects : List NamedObject) (a : Association) (operations : List Operation) (entries : ℕ) → IsDone (state_of schema objects a operations entries) sole a → IsSettled (state_of schema objects a operations entries)
+one_settled schema objects a operations entries done number x found =
+    let alone = numbered_alone a number x found in
+    subst (λ (n : ℕ). IsDone (state_of schema objects a operations entries) n x) (sym alone.0) (subst (λ (y : Association). IsDone (state_of schema objects a operations entries) sole y) alone.1 done)
+
+-- the association, which is finished, is closed
+closed_to : (schema : Set) (objects : List NamedObject) (a : Association) (operations : List Operation) (entries : ℕ) → is_legal (state_of schema objects a operations entries) (entry.Closed sole why.End) ≡ true → step (state_of schema objects a operations entries) (entry.Closed sole why.End) ≡ state_of schema objects (with_state (Closed why.End) a) operations (entries + 1)
+closed_to schema objects a operations entries legal = closed_at_end (state_of schema objects a operations entries) sole legal
 
 closed_live : (play : Play) (a : Association) → play.agent.associations ≡ a ∷ [] → a.state ≡ Live → closed sole play ≡ with_entry (taken_all sole (with_entry play (entry.Finished sole))) (entry.Closed sole why.End)
 closed_live play a one live = rw (one, live) refl
@@ -244,11 +256,17 @@ ready_ends agent journal r =
     let taken = r.taken in
     let none : left_to_take b ≡ 0 = let e : length a.placed - a.taken ≡ 0 = omega arith in e in
     let none_left : taken_all sole play ≡ play = taken_all_none play b one none in
+    let before = state_of agent.schema agent.objects b agent.operations (agent.entries + 1) in
+    let legal : is_legal before (entry.Closed sole why.End) ≡ true = rw (r.idle, none) refl in
+    let whole = closed_live (so_far agent journal) a r.one r.live ∙ ap (λ p. with_entry p (entry.Closed sole why.End)) none_left in
+    let last = ap (λ (p : Play). p.agent) whole ∙ (ap (λ s. step s (entry.Closed sole why.End)) next ∙ closed_to agent.schema agent.objects b agent.operations (agent.entries + 1) legal) in
     record {
       counted = ap (λ (s : AgentState). s.entries) next ∙ ap (λ n. n + 1) r.counted;
       none_left = none_left;
-      legal = ap (λ s. is_legal s (entry.Closed sole why.End)) next ∙ rw (r.idle, none) refl;
-      whole = closed_live (so_far agent journal) a r.one r.live ∙ ap (λ p. with_entry p (entry.Closed sole why.End)) none_left;
+      legal = ap (λ s. is_legal s (entry.Closed sole why.End)) next ∙ legal;
+      whole = whole;
+      settled = subst (λ s. IsSettled s) (sym last)
+          (one_settled agent.schema agent.objects (with_state (Closed why.End) b) agent.operations (agent.entries + 1 + 1) (record { closed = refl; taken = r.taken; idle = r.idle }));
     }
 
 -- the association is opened by a BIND with a title

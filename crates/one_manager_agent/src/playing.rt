@@ -7,6 +7,7 @@ ghost use Rattle.term_model.specs.Bind.{title_in};
 ghost use Rattle.term_model.specs.History.{came, is_legal_journal, replay};
 ghost use Rattle.term_model.specs.Played.{answered, closed, line_played, played, taken_all, with_entry};
 ghost use Rattle.term_model.specs.Played.ScriptLine.{Open, Send};
+ghost use Rattle.term_model.specs.Settled.{IsSettled};
 ghost use Rattle.term_model.specs.Step.{is_legal};
 ghost use Rattle.term_model.specs.TextLaws.{IsEntry};
 ghost use Rattle.one_manager_agent.specs.Playing.{IsFresh, IsReady, script_lines, so_far, sole};
@@ -203,7 +204,10 @@ pub fn perform_script(
     // Its frames are the BIND and these APDUs, in their order, and no others.
     ensures frames { IfOk result (λ play. came sole play.journal ≡ bind ∷ sends.items) }
 
-    // Each number of it has 64 bits, and each octet has 8.
+    // At the end the association is closed, all that was placed for it was taken, and none of its operations is outstanding.
+    ensures settled { IfOk result (λ play. IsSettled play.agent) }
+
+    // Each number of the journal has 64 bits, and each octet has 8.
     ensures held { IfOk result (λ play. All IsEntry play.journal) }
 {
     let mut play = Play {

@@ -1,8 +1,9 @@
 -- Worked runs, computed from the definitions alone: a Get of the root, and a Get of an object that is not there. Then which
 -- entries the program can hold, at the bounds.
-use Rattle.std.specs.Prelude.{◌≡◌, ℕ, zero, suc, ◌<◌, pos, true, false, List, [], ◌∷◌, codes, refl}
+use Rattle.std.specs.Prelude.{◌≡◌, ℕ, zero, suc, ◌<◌, pos, true, false, List, [], ◌∷◌, None, codes, refl}
 use Rattle.std.specs.Fmt.{digits}
-use Rattle.std.proofs.Common.{arith}
+use Rattle.std.proofs.Common.{arith, subst}
+use Rattle.std.proofs.lemmas.Bool.{false≢true}
 use Rattle.hex.specs.Hex.{IsBytes, encode_with}
 use Rattle.term_values.specs.Typed.TypeSyntax.{Integer}
 use Rattle.term_values.specs.Typed.TypedValue.{Int}
@@ -10,17 +11,24 @@ use Rattle.term_values.specs.Oid.{subidentifier, oid_in}
 use Rattle.term_values.specs.Octets.{integer_contents, integer_in}
 use Rattle.term_values.specs.Der.{identifier_octets, length_octets}
 use Rattle.term_values.specs.BerReading.{identifier_of, length_at, front_of}
+use Rattle.term_model.specs.declared.agent_state.AgentState.{AgentState}
+use Rattle.term_model.specs.declared.agent_state.Association.{Association}
+use Rattle.term_model.specs.declared.agent_state.AssociationState.{AssociationState}
+use Rattle.term_model.specs.declared.agent_state.AssociationState.TheVariants.{Live, Closed}
 use Rattle.term_model.specs.declared.entry.Entry.TheVariants as entry
 use Rattle.term_model.specs.declared.entry.Why.TheVariants as why
 use Rattle.term_model.specs.declared.schema.Set.{Set}
 use Rattle.term_model.specs.declared.schema.Rules.{Rules}
+use Rattle.term_model.specs.AgentState.{start}
 use Rattle.term_model.specs.JournalLaws.{frames_of}
 use Rattle.term_model.specs.Moment.{moment_text}
 use Rattle.term_model.specs.Played.{ScriptLine, played, run_text}
 use Rattle.term_model.specs.Played.ScriptLine.{Open, Send}
+use Rattle.term_model.specs.Settled.{IsDone, IsSettled}
 use Rattle.term_model.specs.Step.{step}
 use Rattle.term_model.specs.Texts.{line}
 use Rattle.term_model.specs.TextLaws.{IsEntry}
+use Rattle.term_model.proofs.StepLaws.{numbered_alone}
 
 -- 2.999.3.1 and the attributes 2.999.7.1 and 2.999.7.2 of an element
 abbrev element : List ℕ
@@ -84,6 +92,23 @@ frames_of_second = refl
 
 frames_of_third : frames_of 3 0 two_managers ≡ []
 frames_of_third = refl
+
+-- an association for which two octets were placed
+abbrev one_association : AssociationState → ℕ → AgentState
+one_association state taken = record (start network) { associations = record { title = None; state = state; placed = 1 ∷ 2 ∷ []; taken = taken } ∷ [] }
+
+-- nothing is left to do once it is closed and both were taken
+settled_once_closed : IsSettled (one_association (Closed why.End) 2)
+settled_once_closed number a found =
+    let alone = numbered_alone (record { title = None; state = Closed why.End; placed = 1 ∷ 2 ∷ []; taken = 2 }) number a found in
+    subst (λ (x : Association). IsDone (one_association (Closed why.End) 2) number x) alone.1
+    (record { closed = refl; taken = refl; idle = refl })
+
+not_settled_while_live : IsSettled (one_association Live 2) → ⊥
+not_settled_while_live settled = absurd (let done = settled 1 _ refl in false≢true done.closed)
+
+not_settled_with_octets_left : IsSettled (one_association (Closed why.End) 1) → ⊥
+not_settled_with_octets_left settled = absurd (let done = settled 1 _ refl in cc)
 
 -- the last second that the text can tell
 end_of_9998 : moment_text 253370764799 ≡ codes "99981231235959Z"

@@ -1,10 +1,10 @@
 -- What a legal entry does, where the associations and operations that it speaks of stand in the state.
-use Rattle.std.proofs.Common.{◌≡◌, ℕ, ◌+◌, ◌-◌, ◌<◌, ◌≤◌, Bool, true, false, List, [], ◌∷◌, ◌++◌, length, Option, Some, None, refl, sym, ap, ◌∙◌, ⊎_elim, arith}
+use Rattle.std.proofs.Common.{◌≡◌, ℕ, zero, suc, ◌+◌, ◌-◌, ◌<◌, ◌≤◌, Bool, true, false, List, [], ◌∷◌, ◌++◌, length, Option, Some, None, refl, sym, ap, ◌∙◌, ⊎_elim, arith}
 use Rattle.std.specs.Prelude.{◌==◌, nat_le, slice_get, slice_set, map, count_by, sum_by, not, ◌&&◌, if◌then◌else◌, is_some, option_and_then}
 use Rattle.std.specs.Option.{option_map_or}
 use Rattle.std.proofs.lemmas.Bool.{false≢true, cases_Bool, eqb-true, eqb-false, ne_eqb, eq-eqb, le-leb, and_parts}
 use Rattle.std.proofs.lemmas.List.Sums.{sum_by-cons}
-use Rattle.std.proofs.lemmas.Option.{slice_get_within, slice_get-get_or}
+use Rattle.std.proofs.lemmas.Option.{none-some, slice_get_past, slice_get_within, slice_get-get_or}
 use Rattle.std.proofs.lemmas.List.{length-set, get_or-set_same, set_at}
 use Rattle.term_model.specs.declared.agent_state.AgentState.{AgentState}
 use Rattle.term_model.specs.declared.agent_state.Association.{Association}
@@ -70,6 +70,13 @@ numbered_get items number i e = let d : number - 1 ≡ i = omega arith in rw (ne
 -- the last item stands under the list's length
 pub numbered_last : {T : Type 0} (items : List T) (item : T) (number : ℕ) → number ≡ length items + 1 → numbered (items ++ item ∷ []) number ≡ Some item
 numbered_last items item number e = numbered_get (items ++ item ∷ []) number (length items) e ∙ slice_get_last items item
+
+-- of one item, only it stands under a number, which is 1
+pub numbered_alone : {T : Type 0} (item : T) (number : ℕ) (other : T) → numbered (item ∷ []) number ≡ Some other → (number ≡ 1) × (item ≡ other)
+numbered_alone item zero other e = absurd (none-some other e)
+numbered_alone item (suc zero) other e = (refl, cc)
+numbered_alone item (suc (suc n)) other e =
+    absurd (none-some other (sym (numbered_get (item ∷ []) (suc (suc n)) (n + 1) (omega arith) ∙ slice_get_past (item ∷ []) (n + 1) (omega arith)) ∙ e))
 
 pub numbered_set : {T : Type 0} (items : List T) (number : ℕ) (item : T) → 1 ≤ number → number ≤ length items → numbered (slice_set items (number - 1) item) number ≡ Some item
 numbered_set items number item p w = numbered_get (slice_set items (number - 1) item) number (number - 1) (omega arith) ∙ slice_get_set items (number - 1) item (omega arith)

@@ -12,6 +12,7 @@ pub mod Parts
 pub mod Played
 pub mod RemoteOperation
 pub mod Rising
+pub mod Settled
 pub mod Step
 pub mod TextLaws
 pub mod Texts

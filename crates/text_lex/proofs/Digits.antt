@@ -6,7 +6,7 @@ use Rattle.std.specs.Prelude.{◌==◌, ◌&&◌}
 use Rattle.std.specs.Char.{is_ascii_alphabetic}
 use Rattle.std.specs.List.{list_any}
 use Rattle.std.specs.Int.{IsInRange}
-use Rattle.std.specs.Str.Parse.{AllDigits}
+use Rattle.std.specs.Str.Parse.{AllDigits, IsNumeral}
 use Rattle.text_lex.specs.Octets.{is_one_of, start_of, decimal_digits, blank_octets, delimiter_octets, sign_octets, quotation_octet, apostrophe_octet}
 use Rattle.text_lex.specs.declared.lexing_octets.Start.{Start}
 use Rattle.text_lex.specs.declared.lexing_octets.Start.TheVariants.{Blank, Delimiter, Letter, Digit, Apostrophe, Sign, Nothing}
@@ -33,6 +33,12 @@ run_all_digits text i k run =
     let below : m < k - i = omega arith in
     let read : get_or (slice_range text i k) m 0 ≡ slice_index text (i + m) = rw (get_or-take, get_or-drop) in
     subst (IsInRange 48 57) (sym read) (digit_in_range _ (run.each (i + m) (omega arith) (omega arith))))
+
+pub run_numeral : (text : List ℕ) (i k : ℕ) → IsRun decimal_digits text i k → i < k → IsNumeral 10 (slice_range text i k)
+run_numeral text i k run forward =
+    let within = run.within in
+    let len : length (slice_range text i k) ≡ k - i = simp (length-take, length-drop) (omega arith) in
+    (omega arith, run_all_digits text i k run)
 
 past_cond : (b : Bool) (x y : Start) → x ≢ Digit → cond b x y ≡ Digit → y ≡ Digit
 past_cond true x y other e = absurd (other e)

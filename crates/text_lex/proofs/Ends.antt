@@ -1,12 +1,7 @@
 -- Steps through comments, words, strings and runs.
-use Rattle.std.proofs.Common.{◌≡◌, ◌≢◌, ℕ, ◌+◌, ◌*◌, ◌<◌, ◌≤◌, Bool, true, false, List, length, slice_index, take, get_or, refl, sym, ap, arith, ◌∙◌, ⊎_elim}
+use Rattle.std.proofs.Common.{◌≡◌, ◌≢◌, ℕ, ◌+◌, ◌<◌, ◌≤◌, Bool, true, false, List, length, slice_index, refl, sym, ap, arith, ◌∙◌, ⊎_elim}
 use Rattle.std.proofs.lemmas.Bool.{both_ways, cases_lt}
-use Rattle.std.proofs.lemmas.Bool.Decides.{nat_tests}
 use Rattle.std.proofs.lemmas.List.{get_or_past}
-use Rattle.std.proofs.lemmas.Int.Digits.{digits_value_more}
-use Rattle.std.proofs.lemmas.Str.Parse.{digits_value-take-le}
-use Rattle.std.specs.Str.Parse.{digits_value}
-use Rattle.std.specs.Char.{digit_value}
 use Rattle.text_lex.specs.Octets.{is_word_octet, hyphen_octet}
 use Rattle.text_lex.specs.Lexemes.{WordRest, StringRest}
 use Rattle.text_lex.specs.Lexemes.WordRest.{ends, octet, hyphen}
@@ -54,13 +49,6 @@ pub string_past : (text : List ℕ) (delimiter i k : ℕ) → length text ≤ i 
 string_past text delimiter i k past (plain lt _ rest) = omega arith
 string_past text delimiter i k past (doubled lt _ _ rest) = omega arith
 string_past text delimiter i k past (closes lt _ _ _) = omega arith
-
--- digits at the front spell no more than all
-pub digits_front : (ds : List ℕ) (i : ℕ) → i < length ds → digits_value 10 (take i ds) * 10 + digit_value (get_or ds i 0) ≤ digits_value 10 ds
-digits_front ds i lt = let more = digits_value_more 10 ds i lt in let front = digits_value-take-le 10 ds (i + 1) (omega arith) in omega arith
-
-pub digit_is : (c : ℕ) → 48 ≤ c → c ≤ 57 → digit_value c + 48 ≡ c
-digit_is c low high = grind (arith, nat_tests)
 
 -- a string has one end
 string_closed : (text : List ℕ) (delimiter i k : ℕ) → slice_index text i ≡ delimiter → slice_index text (i + 1) ≢ delimiter → StringRest text delimiter i k → k ≡ i + 1

@@ -2,6 +2,7 @@
 pub mod Announced
 pub mod Digits
 pub mod Ends
+pub mod NumeralLaws
 pub mod Once
 pub mod Pieces
 pub mod Reading

@@ -1,7 +1,6 @@
 //! Where comments, words, strings and runs of digits end: X.722, section 8.2; X.680, section 12.
 
-ghost use Rattle.std.specs.Prelude.{◌≡◌, ℕ, ◌+◌, ◌<◌, ◌≤◌, ◌↔◌, ◌^◌, length, slice_index, IfSome, MatchOption, IsTrue};
-ghost use Rattle.std.specs.Str.Parse.{digits_value, AllDigits};
+ghost use Rattle.std.specs.Prelude.{◌≡◌, ℕ, ◌+◌, ◌<◌, ◌≤◌, ◌↔◌, length, slice_index, IfSome, MatchOption, IsTrue};
 ghost use Rattle.text_lex.specs.Comments.{AreHyphens, CommentRest};
 ghost use Rattle.text_lex.specs.Lexemes.{WordRest, StringRest, IsRun, IsSign};
 
@@ -111,22 +110,4 @@ pub fn sign_end(text: &[u8], at: usize) -> usize
     } else {
         at + 1
     }
-}
-
-/// Whether digits spell a number below 2^64.
-pub fn is_within_64_bits(digits: &[u8]) -> bool
-    requires { AllDigits 10 digits.now }
-    ensures { IsTrue result ↔ (digits_value 10 digits.now < 2 ^ 64) }
-{
-    let mut value = 0u64;
-    for digit in digits {
-        let Some(tens) = value.checked_mul(10) else {
-            return false;
-        };
-        let Some(sum) = tens.checked_add(u64::from(*digit - b'0')) else {
-            return false;
-        };
-        value = sum;
-    }
-    true
 }

@@ -4,12 +4,11 @@ ghost use Rattle.std.specs.Prelude.{◌<◌, length};
 ghost use Rattle.text_lex.specs.Pieces.{IsPiece, IsPieceFrom};
 
 use super::lex_refusal::LexKind;
-use super::lexing_ends::{
-    are_hyphens, comment_end, is_within_64_bits, run_end, sign_end, string_end, word_end,
-};
+use super::lexing_ends::{are_hyphens, comment_end, run_end, sign_end, string_end, word_end};
 use super::lexing_octets::{
     APOSTROPHE, BIT_SUFFIX, BITS, DIGITS, HEX_DIGITS, HEX_SUFFIX, Start, octet_at, start_of,
 };
+use super::numerals::decimal;
 use super::token::{BIT_STRING, HEX_STRING, NUMBER, SIGN, STRING, WORD};
 
 /// What stands at a place, up to `end`.
@@ -70,12 +69,11 @@ fn number_at(text: &[u8], at: usize) -> Piece
     ensures { IsPieceFrom Start.Digit text.now at result }
 {
     let end = run_end(text, at, DIGITS);
-    if is_within_64_bits(&text[at..end]) {
-        Piece::Lexeme { kind: NUMBER, end }
-    } else {
-        Piece::Wrong {
+    match decimal(&text[at..end]) {
+        Some(_number) => Piece::Lexeme { kind: NUMBER, end },
+        None => Piece::Wrong {
             kind: LexKind::BadNumber,
-        }
+        },
     }
 }
 

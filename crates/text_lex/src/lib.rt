@@ -9,6 +9,7 @@ mod lexing_ends;
 pub mod lexing_laws;
 mod lexing_octets;
 mod lexing_pieces;
+pub mod numerals;
 pub mod syntax_refusal;
 pub mod token;
 

@@ -1,6 +1,8 @@
 -- Parts that several grammars have: a label with the name of a document before it, `Module.Type`, and an
 -- object identifier (X.722, section 8.2; X.680, sections 14 and 32), with the trees of their values.
 use Rattle.std.specs.Prelude.{ℕ, Bool, List, [], ◌∷◌, Option, option_map, codes, ◌||◌}
+use Rattle.std.specs.declared.alloc.Global.{Global}
+use Rattle.std.specs.declared.vec.Vec.{Vec}
 use Rattle.text_lex.specs.declared.token.Token.{Token}
 use Rattle.token_grammar.specs.declared.label_reference.LabelReference.{LabelReference}
 use Rattle.token_grammar.specs.declared.qualified_name.QualifiedName.{QualifiedName}
@@ -33,6 +35,10 @@ optional_tree view x = option_tree (option_map view x)
 abbrev pub list_tree : {X : Type 0} → (X → Tree) → Tree → List X → Tree
 list_tree view before [] = before
 list_tree view before (x ∷ xs) = list_tree view (After before (view x)) xs
+
+-- what a vector of parts says
+abbrev pub vector_tree : {X : Type 0} → (X → Tree) → Vec X Global → Tree
+vector_tree view xs = list_tree view Empty xs.items
 
 -- `"name" :`, the name of the document that has the label
 abbrev pub document_name : Form
@@ -80,4 +86,4 @@ abbrev pub object_identifier : Form
 object_identifier = Then (Keep (is_sign_of (codes "{"))) (Then first_arc (Then (Many Empty arc) (sign (codes "}"))))
 
 abbrev pub object_identifier_tree : ObjectIdentifier → Tree
-object_identifier_tree x = Pair (Leaf x.brace) (Pair (first_arc_tree x.first) (Pair (list_tree arc_tree Empty x.others.items) Bare))
+object_identifier_tree x = Pair (Leaf x.brace) (Pair (first_arc_tree x.first) (Pair (vector_tree arc_tree x.others) Bare))

@@ -1,12 +1,11 @@
 //! A table of texts of a small grammar, each read whole and cut behind each of its tokens, and of faulty
 //! ones with the place of their fault.
 
-use text_lex::lex;
 use super::small_grammar::read_shelf;
-use text_lex::{SyntaxRefusal, Token};
 use std::alloc::{AllocError, Global};
 use std::process::Abort;
 use std::test::Fail;
+use text_lex::{SyntaxRefusal, Token, lex};
 
 /// Texts that spell a shelf, each ended by a mark.
 const WHOLE: &str = "\

@@ -3,13 +3,13 @@
 ghost use Rattle.std.specs.Prelude.{◌≡◌, ℕ, codes};
 ghost use Rattle.token_grammar.specs.Form.{Form, Many, Empty};
 ghost use Rattle.token_grammar.specs.Outcome.{Reads, closed};
-ghost use Rattle.token_grammar.specs.Parts.{arc, arc_tree, first_arc, first_arc_tree, list_tree, object_identifier, object_identifier_tree};
+ghost use Rattle.token_grammar.specs.Parts.{arc, arc_tree, first_arc, first_arc_tree, object_identifier, object_identifier_tree, vector_tree};
 ghost use Rattle.token_grammar.specs.TokenTests.{is_sign_of, is_arc_start};
 
-use text_lex::{SyntaxRefusal, Token};
 use super::token_reading::{read_name, read_number, read_sign, skip_sign};
 use super::token_tests::{is_arc_at, is_name_without, is_number_at};
 use std::alloc::Global;
+use text_lex::{SyntaxRefusal, Token};
 
 /// An arc that has its number.
 #[derive(Debug, Drop)]
@@ -78,7 +78,7 @@ fn read_first_arc(
 
 /// Reads the arcs behind the first, as many as there are.
 fn read_arcs(alloc: Global, tokens: &[Token], at: usize) -> Result<(Vec<Arc>, usize), SyntaxRefusal>
-    ensures { (grammar : ℕ → Form) → Reads tokens.now grammar is_arc_start (Many Empty arc) at (λ arcs. list_tree arc_tree Empty arcs.items) result }
+    ensures { (grammar : ℕ → Form) → Reads tokens.now grammar is_arc_start (Many Empty arc) at (vector_tree arc_tree) result }
 {
     let mut arcs = Vec::new(alloc);
     let mut next = at;

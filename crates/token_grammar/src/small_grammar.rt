@@ -8,12 +8,12 @@
 //!     size    = WIDE number | WIDE FREE
 
 use super::label_reference::read_label_reference;
-use text_lex::{SyntaxRefusal, Token};
 use super::token_reading::{
     place_behind, read_label, read_number, skip_sign, skip_word, skip_words,
 };
 use super::token_tests::{is_label_at, is_number_at, is_template_at, is_word_at};
 use std::alloc::Global;
+use text_lex::{SyntaxRefusal, Token};
 
 /// Reads a shelf.
 pub fn read_shelf(alloc: Global, tokens: &[Token], at: usize) -> Result<usize, SyntaxRefusal> {

@@ -9,12 +9,12 @@ ghost use Rattle.token_grammar.specs.Spelling.{passes};
 ghost use Rattle.token_grammar.specs.Outcome.{Reads, Skips, closed};
 ghost use Rattle.token_grammar.specs.TokenTests.{is_word_of, is_sign_of, is_label, is_name, is_word, is_number, is_string};
 
-use text_lex::{SyntaxRefusal, Token};
 use super::token_tests::{
     is_any_word_at, is_label_at, is_name_at, is_number_at, is_one_of_at, is_sign_at, is_sign_of,
     is_string_at, is_word_at, token_at,
 };
 use std::alloc::{AllocError, Global};
+use text_lex::{SyntaxRefusal, Token};
 
 /// A copy of a token; only memory can fail.
 pub fn copy_token(alloc: Global, token: &Token) -> Result<Token, AllocError>

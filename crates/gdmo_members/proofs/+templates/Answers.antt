@@ -10,13 +10,13 @@ use Rattle.token_grammar.proofs.Clauses.{no_slots_stop, slot_stops, opens_but, s
 use Rattle.token_grammar.proofs.References.{spelt_label, spelt_template, fails_label, fails_template}
 use Rattle.token_grammar.specs.Form.{Empty, Leaf}
 use Rattle.token_grammar.specs.TokenTests.{is_word_of, is_one_of}
-use Rattle.token_grammar.specs.Parts.{qualified_name}
+use Rattle.token_grammar.specs.Parts.{qualified_name, vector_tree}
 use Rattle.token_grammar.proofs.Parts.{list_push, list_last, at_within, spelt_within, spelt_as, one_of_two}
 use Rattle.gdmo_members.proofs.Apart.{word_apart, semicolon_apart, comma_separates, attribute_apart, parameter_apart}
 use Rattle.gdmo_members.proofs.FirstTokens.{labels, labels_lead}
 use Rattle.gdmo_members.specs.Clauses.{attributes, parameters, comma, semicolon, reference, behaviour_clause, parameters_clause, context, clause}
 use Rattle.gdmo_members.specs.Templates.{templates, attribute_syntax, parameter_syntax, rules_clause}
-use Rattle.gdmo_members.specs.Trees.{clause_tree, vector_tree, behaviour_list_tree, context_tree}
+use Rattle.gdmo_members.specs.Trees.{clause_tree, behaviour_list_tree, context_tree}
 use Rattle.gdmo_members.proofs.Members.{boxed_attribute, boxed_parameter, attribute_done, attribute_missing, parameter_done, parameter_missing_context, parameter_missing_syntax}
 use Rattle.gdmo_members.specs.MemberTrees.{attribute_slots, parameter_slots, attribute_syntax_tree, parameter_syntax_tree, parameter_reference_tree, is_attribute_clause, is_parameter_clause}
 use Rattle.gdmo_members.proofs.+templates.Goals as goal

@@ -15,7 +15,8 @@ use Rattle.gdmo_members.proofs.Apart.{semicolon_apart, comma_separates}
 use Rattle.gdmo_members.proofs.FirstTokens.{labels, labels_lead}
 use Rattle.gdmo_members.specs.Clauses.{classes, comma}
 use Rattle.gdmo_members.specs.Templates.{templates}
-use Rattle.gdmo_members.specs.Trees.{clause_tree, vector_tree}
+use Rattle.token_grammar.specs.Parts.{vector_tree}
+use Rattle.gdmo_members.specs.Trees.{clause_tree}
 use Rattle.gdmo_classes.proofs.PartEnds.{class_apart}
 use Rattle.gdmo_classes.specs.ClassTrees.{class_reference_tree, class_slots, is_class_clause}
 use Rattle.gdmo_classes.specs.PackageTrees.{package_reference_tree, conditional_tree}

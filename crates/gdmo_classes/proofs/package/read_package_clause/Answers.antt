@@ -6,7 +6,8 @@ use Rattle.token_grammar.proofs.Clauses.{no_slots_stop, slot_stops, opens_but, f
 use Rattle.token_grammar.specs.TokenTests.{is_word_of}
 use Rattle.gdmo_members.proofs.FirstTokens.{labels, labels_lead}
 use Rattle.gdmo_members.specs.Clauses.{behaviour_clause}
-use Rattle.gdmo_members.specs.Trees.{clause_tree, vector_tree, behaviour_list_tree}
+use Rattle.token_grammar.specs.Parts.{vector_tree}
+use Rattle.gdmo_members.specs.Trees.{clause_tree, behaviour_list_tree}
 use Rattle.gdmo_classes.specs.PackageTrees.{package_slots, is_package_clause}
 use Rattle.gdmo_classes.specs.ClassForms.{attributes_clause, groups_clause, actions_clause, notifications_clause}
 use Rattle.gdmo_classes.specs.UseTrees.{attribute_use_tree, group_use_tree, action_use_tree, notification_use_tree}

@@ -6,11 +6,11 @@ use Rattle.token_grammar.proofs.Known.{at_word}
 use Rattle.token_grammar.proofs.Clauses.{no_slots_stop, slot_stops, others_here, others_past, opens_but, stops_by, fails_clause, clause_taken, fails_clause, came_not, comes_here, comes_not, exit_clause, second_word_stops, first_word_begins, clause_taken_with, fails_clause_with, both_first, both_second, both_not, pair_not, pair_comes, open_and}
 use Rattle.token_grammar.specs.Form.{Leaf}
 use Rattle.token_grammar.specs.TokenTests.{is_word_of}
-use Rattle.token_grammar.specs.Parts.{qualified_name, qualified_name_tree}
+use Rattle.token_grammar.specs.Parts.{qualified_name, qualified_name_tree, vector_tree}
 use Rattle.gdmo_members.proofs.FirstTokens.{labels, labels_lead}
 use Rattle.gdmo_members.specs.Clauses.{behaviour_clause, parameters_clause, clause, flag}
 use Rattle.gdmo_members.specs.Templates.{reply_clause}
-use Rattle.gdmo_members.specs.Trees.{clause_tree, vector_tree, behaviour_list_tree}
+use Rattle.gdmo_members.specs.Trees.{clause_tree, behaviour_list_tree}
 use Rattle.gdmo_members.specs.MemberTrees.{parameter_reference_tree}
 use Rattle.gdmo_members.proofs.WithClauses.{with_not, and_true}
 use Rattle.gdmo_members.specs.FurtherTrees.{action_slots, is_action_clause}

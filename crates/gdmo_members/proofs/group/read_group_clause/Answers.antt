@@ -8,7 +8,8 @@ use Rattle.token_grammar.specs.TokenTests.{is_word_of, is_string}
 use Rattle.token_grammar.proofs.Parts.{one_word}
 use Rattle.gdmo_members.proofs.FirstTokens.{labels, labels_lead}
 use Rattle.gdmo_members.specs.Clauses.{attributes, clause, references, word_clause}
-use Rattle.gdmo_members.specs.Trees.{clause_tree, vector_tree}
+use Rattle.token_grammar.specs.Parts.{vector_tree}
+use Rattle.gdmo_members.specs.Trees.{clause_tree}
 use Rattle.gdmo_members.specs.MemberTrees.{attribute_reference_tree}
 use Rattle.gdmo_members.specs.FurtherTrees.{word_clause_tree, group_slots, is_group_clause}
 use Rattle.gdmo_members.proofs.group.read_group_clause.Goals as goal

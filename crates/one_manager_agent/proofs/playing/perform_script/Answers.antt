@@ -5,11 +5,12 @@ use Rattle.std.proofs.lemmas.List.Elements.{All-nil}
 use Rattle.term_model.specs.AgentState.{start}
 use Rattle.term_model.specs.History.{came, is_legal_journal, replay}
 use Rattle.term_model.specs.Played.{Play, beginning, line_played, lines_played}
+use Rattle.term_model.specs.Settled.{IsSettled}
 use Rattle.term_model.specs.TextLaws.{IsEntry}
 use Rattle.term_model.specs.Played.ScriptLine.{Open, Send}
 use Rattle.one_manager_agent.specs.Playing.{script_lines, so_far, sole}
 use Rattle.one_manager_agent.proofs.JournalLaws.{script_faithful, script_frames}
-use Rattle.one_manager_agent.proofs.PlayLaws.{script_closed, script_more}
+use Rattle.one_manager_agent.proofs.PlayLaws.{ready_ends, script_closed, script_more}
 use Rattle.one_manager_agent.proofs.playing.perform_script.Goals as goal
 
 pub send-requires : goal.send-requires
@@ -75,6 +76,10 @@ returns-clause-replayed c =
 
 pub returns-clause-frames : goal.returns-clause-frames
 returns-clause-frames c = ap (λ (p : Play). came sole p.journal) (returns-clause-played c) ∙ script_frames c.args.schema c.args.bind c.args.sends.items
+
+pub returns-clause-settled : goal.returns-clause-settled
+returns-clause-settled c =
+    subst (λ (p : Play). IsSettled p.agent) (sym c.in_ok-close.ensures.played) (ready_ends c.loop-apdu.play.agent c.loop-apdu.play.journal c.loop-apdu.invariant.ready).settled
 
 pub returns-clause-held : goal.returns-clause-held
 returns-clause-held c = c.in_ok-close.ensures.held c.loop-apdu.invariant.held

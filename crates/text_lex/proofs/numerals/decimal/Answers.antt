@@ -3,8 +3,8 @@ use Rattle.std.proofs.Common.{◌≡◌, ◌+◌, get_or, arith}
 use Rattle.std.proofs.lemmas.Int.Digits.{digits_more, digits_value_more}
 use Rattle.std.proofs.lemmas.Str.Parse.{digit_at}
 use Rattle.std.specs.Char.{digit_value}
-use Rattle.first_document.proofs.Numerals.{digit_is, digits_front}
-use Rattle.first_document.proofs.numbers.decimal.Goals as goal
+use Rattle.text_lex.proofs.NumeralLaws.{digit_is, digits_front}
+use Rattle.text_lex.proofs.numerals.decimal.Goals as goal
 
 pub returns-then-not-is_ascii_digit-clause-none : goal.returns-then-not-is_ascii_digit-clause-none
 returns-then-not-is_ascii_digit-clause-none c = λ numeral small.

@@ -1,7 +1,7 @@
 -- The digits so far spell the number.
 use Rattle.std.proofs.Common.{◌≡◌, take}
 use Rattle.std.specs.Str.Parse.{AllDigits, digits_value}
-use Rattle.first_document.proofs.numbers.decimal.Given as goal
+use Rattle.text_lex.proofs.numerals.decimal.Given as goal
 
 abbrev pub invariant-loop-digit : goal.invariant-loop-digit
 invariant-loop-digit l = record {
