@@ -1,5 +1,5 @@
 -- A list that is not of one, two or three values; a tree that not all octets spell.
-use Rattle.std.proofs.Common.{◌≡◌, ℕ, ◌+◌, ◌<◌, ◌≤◌, List, [], ◌∷◌, length, drop, length-drop, refl, ap, ◌∙◌, sym, arith}
+use Rattle.std.proofs.Common.{◌≡◌, ℕ, ◌<◌, ◌≤◌, List, [], ◌∷◌, length, drop, length-drop, refl, ap, ◌∙◌, sym, arith}
 use Rattle.std.specs.Prelude.{None, Some, option_and_then}
 use Rattle.term_values.specs.Ber.{most_depth}
 use Rattle.term_values.specs.BerReading.{alone, tree_at, tree_in}

@@ -1,5 +1,5 @@
 -- The laws of identifiers say what was read, and that nothing else could be.
-use Rattle.std.proofs.Common.{◌≡◌, ap, ◌∙◌, sym}
+use Rattle.std.proofs.Common.{ap, ◌∙◌, sym}
 use Rattle.term_values.specs.Oid.{oid_in}
 use Rattle.term_values.proofs.OidLaws.{none_denoted, oid_read}
 use Rattle.cmip_apdus.proofs.apdu_reading.read_oid.Goals as goal
