@@ -3,3 +3,5 @@
 
 pub mod apdu_reading;
 pub mod apdu_writing;
+#[cfg(test)]
+mod tests;

@@ -3,3 +3,5 @@
 
 pub mod object_reading;
 mod property_lists;
+#[cfg(test)]
+mod tests;
