@@ -7,8 +7,8 @@ ghost use Rattle.token_grammar.specs.Outcome.{Skips, closed};
 ghost use Rattle.token_grammar.specs.Spelling.{passes};
 ghost use Rattle.first_document.specs.DocumentForm.{is_mark_of};
 
-use token_grammar::token_tests::{is_sign_of, is_word_of, token_at};
 use text_lex::{SyntaxRefusal, Token};
+use token_grammar::token_tests::{is_sign_of, is_word_of, token_at};
 
 /// Whether a token is the word or the sign with this text.
 fn is_mark_of(token: &Token, text: &str) -> bool

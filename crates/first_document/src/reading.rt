@@ -13,11 +13,11 @@ use super::parts::{
     AttributePart, AttributeUse, ClassPart, DocumentParts, GivenValue, ModulePart, RootPart,
 };
 use std::alloc::Global;
+use text_lex::{SyntaxRefusal, Token};
 use token_grammar::token_reading::{
     place_behind, read_any_word, read_label, read_number, read_one_of, skip_sign, skip_words,
 };
 use token_grammar::token_tests::{is_number_at, is_template_at};
-use text_lex::{SyntaxRefusal, Token};
 
 /// The names of a module and its type.
 #[derive(Drop)]
