@@ -15,3 +15,6 @@ pub use syntax::{Syntax, SyntaxForm};
 pub use tag::Tag;
 pub use tree::{Body, Tree, Trees};
 pub use value::{Value, ValueForm};
+
+#[cfg(test)]
+mod tests;

@@ -1,4 +1,4 @@
-use Rattle.std.proofs.Common.{◌≡◌, ◌+◌, ◌<◌, ◌++◌, length, take, append_assoc, arith}
+use Rattle.std.proofs.Common.{◌≡◌, ◌+◌, ◌<◌, length, take, append_assoc, arith}
 use Rattle.term_model.specs.Texts.{out_lines}
 use Rattle.journal_text.proofs.OutLines.{out_lines-more, text}
 use Rattle.journal_text.proofs.texts.write_outs.Goals as goal

@@ -1,4 +1,4 @@
-use Rattle.std.proofs.Common.{ℕ, ◌^◌, ◌<◌, get_or, ap, sym, ◌∙◌, arith, rules, Fits, w32}
+use Rattle.std.proofs.Common.{ℕ, get_or, ap, sym, ◌∙◌, arith, rules, Fits, w32}
 use Rattle.std.specs.List.{list_all}
 use Rattle.term_values.specs.Oid.{is_arc}
 use Rattle.term_values.proofs.OidLaws.{all_arcs}
