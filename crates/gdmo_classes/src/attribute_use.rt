@@ -15,8 +15,8 @@ use super::rows::read_parameter_row;
 use gdmo_members::attribute::{AttributeReference, read_attribute_reference};
 use gdmo_members::parameter::ParameterReference;
 use std::alloc::Global;
-use token_grammar::token_reading::{place_behind, skip_sign, skip_words};
 use text_lex::{SyntaxRefusal, Token};
+use token_grammar::token_reading::{place_behind, skip_sign, skip_words};
 
 /// An attribute of a package.
 #[derive(Drop)]

@@ -18,11 +18,11 @@ ghost use Rattle.gdmo_classes.specs.ClassTrees.{class_tree, class_slots, class_c
 use super::package::{PackageReference, read_package_list, read_package_reference};
 use gdmo_members::registration::read_registered_ending;
 use std::alloc::Global;
+use text_lex::{SyntaxRefusal, Token};
 use token_grammar::label_reference::{LabelReference, read_label_reference};
 use token_grammar::object_identifier::ObjectIdentifier;
 use token_grammar::token_reading::{place_behind, read_label, read_string, skip_sign, skip_words};
 use token_grammar::token_tests::{is_template_at, is_word_at};
-use text_lex::{SyntaxRefusal, Token};
 
 /// A package that some objects of a class have.
 #[derive(Drop)]

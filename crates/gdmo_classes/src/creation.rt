@@ -14,9 +14,9 @@ ghost use Rattle.gdmo_classes.specs.BindingTrees.{further_tree, modifier_row_tre
 use super::rows::read_parameter_row;
 use gdmo_members::parameter::ParameterReference;
 use std::alloc::Global;
+use text_lex::{SyntaxRefusal, Token};
 use token_grammar::token_reading::{read_one_of, read_sign, skip_sign, skip_words};
 use token_grammar::token_tests::{is_one_of_at, is_sign_at, is_sign_of, is_word_at, is_word_of};
-use text_lex::{SyntaxRefusal, Token};
 
 /// The second create modifier.
 #[derive(Drop)]

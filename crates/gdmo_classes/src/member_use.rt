@@ -19,8 +19,8 @@ use super::rows::{read_attribute_row, read_parameter_row};
 use gdmo_members::attribute::AttributeReference;
 use gdmo_members::parameter::ParameterReference;
 use std::alloc::Global;
-use token_grammar::token_reading::{place_behind, skip_sign, skip_words};
 use text_lex::{SyntaxRefusal, Token};
+use token_grammar::token_reading::{place_behind, skip_sign, skip_words};
 
 /// An attribute group of a package.
 #[derive(Drop)]

@@ -18,10 +18,10 @@ use gdmo_members::attribute::{AttributeReference, read_attribute_reference};
 use gdmo_members::behaviour::{BehaviourReference, read_behaviour_clause};
 use gdmo_members::registration::read_registered_ending;
 use std::alloc::Global;
+use text_lex::{SyntaxRefusal, Token};
 use token_grammar::object_identifier::ObjectIdentifier;
 use token_grammar::token_reading::{read_label, read_one_of, skip_sign, skip_words};
 use token_grammar::token_tests::is_word_at;
-use text_lex::{SyntaxRefusal, Token};
 
 /// A class of a name binding, alone or with its subclasses.
 #[derive(Drop)]

@@ -18,11 +18,11 @@ use super::member_use::{
 use gdmo_members::behaviour::{BehaviourReference, read_behaviour_clause};
 use gdmo_members::registration::read_ending;
 use std::alloc::Global;
+use text_lex::{SyntaxRefusal, Token};
 use token_grammar::label_reference::{LabelReference, read_label_reference};
 use token_grammar::object_identifier::ObjectIdentifier;
 use token_grammar::token_reading::{place_behind, read_label, skip_words};
 use token_grammar::token_tests::{is_template_at, is_word_at};
-use text_lex::{SyntaxRefusal, Token};
 
 /// A package template.
 #[derive(Drop)]

@@ -11,10 +11,10 @@ ghost use Rattle.gdmo_classes.specs.UseTrees.{property_value_tree, valued_tree, 
 
 use gdmo_members::behaviour::{BehaviourReference, read_behaviour_reference};
 use std::alloc::Global;
+use text_lex::{SyntaxRefusal, Token};
 use token_grammar::qualified_name::{QualifiedName, read_qualified_name};
 use token_grammar::token_reading::{read_one_of, skip_words};
 use token_grammar::token_tests::{is_one_of_at, is_pair_at, is_word_at};
-use text_lex::{SyntaxRefusal, Token};
 
 /// A default or an initial value.
 #[derive(Drop)]

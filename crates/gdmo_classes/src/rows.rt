@@ -13,8 +13,8 @@ use gdmo_members::attribute::{AttributeReference, read_attribute_reference};
 use gdmo_members::parameter::{ParameterReference, read_parameter_reference};
 use std::alloc::Global;
 use text_lex::token::STRING;
-use token_grammar::token_tests::is_label;
 use text_lex::{SyntaxRefusal, Token};
+use token_grammar::token_tests::is_label;
 
 /// Whether a reference begins at a place: a label, or the name of a document.
 fn is_reference_at(tokens: &[Token], at: usize) -> bool

@@ -17,11 +17,11 @@ use super::parameter::{ParameterReference, read_parameters_clause};
 use super::registration::read_registered_ending;
 use super::type_clause::read_type_clause;
 use std::alloc::Global;
+use text_lex::{SyntaxRefusal, Token};
 use token_grammar::object_identifier::ObjectIdentifier;
 use token_grammar::qualified_name::QualifiedName;
 use token_grammar::token_reading::{read_label, read_one_of, skip_sign, skip_words};
 use token_grammar::token_tests::{is_pair_at, is_word_at};
-use text_lex::{SyntaxRefusal, Token};
 
 /// An action template.
 #[derive(Drop)]

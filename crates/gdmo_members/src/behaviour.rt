@@ -11,10 +11,10 @@ ghost use Rattle.gdmo_members.specs.Templates.{templates};
 ghost use Rattle.gdmo_members.specs.Trees.{behaviour_tree, behaviour_reference_tree, behaviour_list_tree, clause_tree};
 
 use std::alloc::Global;
+use text_lex::{SyntaxRefusal, Token};
 use token_grammar::label_reference::{LabelReference, read_label_reference};
 use token_grammar::token_reading::{place_behind, read_label, read_string, skip_sign, skip_words};
 use token_grammar::token_tests::is_template_at;
-use text_lex::{SyntaxRefusal, Token};
 
 /// A behaviour template, `label BEHAVIOUR DEFINED AS string;`.
 #[derive(Debug, Drop)]

@@ -15,12 +15,12 @@ ghost use Rattle.gdmo_members.specs.FurtherTrees.{group_tree, group_slots, group
 use super::attribute::{AttributeReference, read_attribute_reference};
 use super::registration::read_registered_ending;
 use std::alloc::Global;
+use text_lex::{SyntaxRefusal, Token};
 use token_grammar::object_identifier::ObjectIdentifier;
 use token_grammar::token_reading::{
     place_behind, read_label, read_one_of, read_string, skip_sign, skip_words,
 };
 use token_grammar::token_tests::is_word_at;
-use text_lex::{SyntaxRefusal, Token};
 
 /// An attribute group template.
 #[derive(Drop)]

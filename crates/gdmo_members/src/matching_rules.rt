@@ -9,8 +9,8 @@ ghost use Rattle.token_grammar.specs.Parts.{vector_tree};
 ghost use Rattle.gdmo_members.specs.Trees.{clause_tree};
 
 use std::alloc::Global;
-use token_grammar::token_reading::{place_behind, read_one_of, skip_sign, skip_words};
 use text_lex::{SyntaxRefusal, Token};
+use token_grammar::token_reading::{place_behind, read_one_of, skip_sign, skip_words};
 
 /// Reads matching rules with commas between them.
 fn read_rule_list(

@@ -18,12 +18,12 @@ use super::context::{Context, read_context};
 use super::registration::read_ending;
 use super::type_clause::read_type_clause;
 use std::alloc::Global;
+use text_lex::{SyntaxRefusal, Token};
 use token_grammar::label_reference::{LabelReference, read_label_reference};
 use token_grammar::object_identifier::ObjectIdentifier;
 use token_grammar::qualified_name::QualifiedName;
 use token_grammar::token_reading::{place_behind, read_label, skip_sign, skip_words};
 use token_grammar::token_tests::{is_one_of_at, is_template_at, is_word_at};
-use text_lex::{SyntaxRefusal, Token};
 
 /// A parameter template.
 #[cycle(templates)]

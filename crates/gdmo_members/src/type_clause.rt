@@ -10,9 +10,9 @@ ghost use Rattle.gdmo_members.specs.Templates.{templates};
 ghost use Rattle.gdmo_members.specs.Trees.{clause_tree};
 
 use std::alloc::Global;
+use text_lex::{SyntaxRefusal, Token};
 use token_grammar::qualified_name::{QualifiedName, read_qualified_name};
 use token_grammar::token_reading::{skip_sign, skip_words};
-use text_lex::{SyntaxRefusal, Token};
 
 /// Reads the words, the name of a type and a semicolon.
 pub fn read_type_clause(

@@ -41,7 +41,7 @@ pub const HEX_DIGITS: &[u8] = b"0123456789ABCDEF";
 pub const BITS: &[u8] = b"01";
 
 /// What an octet begins, where no comment begins.
-#[derive(Clone, Copy, PartialEq, Eq, Debug)]
+#[derive(Clone, Copy)]
 pub enum Start {
     Blank,
     Delimiter,
