@@ -17,7 +17,7 @@ use token_grammar::token_reading::{place_behind, read_label, read_string, skip_s
 use token_grammar::token_tests::is_template_at;
 
 /// A behaviour template, `label BEHAVIOUR DEFINED AS string;`.
-#[derive(Debug, Drop)]
+#[derive(Drop)]
 pub struct BehaviourTemplate {
     /// The number of its document, which the reader leaves 0.
     pub document: u32,
@@ -28,7 +28,7 @@ pub struct BehaviourTemplate {
 }
 
 /// What names a behaviour.
-#[derive(Debug, Drop)]
+#[derive(Drop)]
 pub enum BehaviourReference {
     /// Its label.
     Label(LabelReference),

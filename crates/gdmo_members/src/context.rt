@@ -18,7 +18,7 @@ use token_grammar::token_reading::{read_any_word, read_sign};
 use token_grammar::token_tests::{is_sign_at, is_sign_of};
 
 /// A word of a context behind the first one.
-#[derive(Debug, Drop)]
+#[derive(Drop)]
 pub struct ContextWord {
     /// The point before it, where one stands.
     pub point: Option<Token>,
@@ -27,7 +27,7 @@ pub struct ContextWord {
 }
 
 /// The context of a parameter.
-#[derive(Debug, Drop)]
+#[derive(Drop)]
 pub struct Context {
     /// Its first word.
     pub first: Token,

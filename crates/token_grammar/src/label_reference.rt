@@ -12,7 +12,7 @@ use std::alloc::Global;
 use text_lex::{SyntaxRefusal, Token};
 
 /// A label that stands for a template, `["name" :] label`.
-#[derive(Debug, Drop)]
+#[derive(Drop)]
 pub struct LabelReference {
     /// The string that names the document of the template, where it stands.
     pub document: Option<Token>,

@@ -12,7 +12,7 @@ use std::alloc::Global;
 use text_lex::{SyntaxRefusal, Token};
 
 /// An arc that has its number.
-#[derive(Debug, Drop)]
+#[derive(Drop)]
 pub enum Arc {
     /// `number`
     Number(Token),
@@ -26,7 +26,7 @@ pub enum Arc {
 }
 
 /// The first arc.
-#[derive(Debug, Drop)]
+#[derive(Drop)]
 pub enum FirstArc {
     /// An arc that has its number.
     OfArc(Arc),
@@ -35,7 +35,7 @@ pub enum FirstArc {
 }
 
 /// The text of an object identifier.
-#[derive(Debug, Drop)]
+#[derive(Drop)]
 pub struct ObjectIdentifier {
     /// The brace with which it begins.
     pub brace: Token,

@@ -10,7 +10,7 @@ use std::alloc::Global;
 use text_lex::{SyntaxRefusal, Token};
 
 /// A type or a value of a module.
-#[derive(Debug, Drop)]
+#[derive(Drop)]
 pub struct QualifiedName {
     /// The module's name.
     pub module_name: Token,
