@@ -30,6 +30,3 @@ pub use sink::Sink;
 pub use source::Source;
 pub use stdout_sink::StdoutSink;
 pub use writing::write_all;
-
-#[cfg(test)]
-mod tests;

@@ -1,62 +1,84 @@
 -- From why a run is not done to what its status says, and that none of it holds of a run whose words and files are in their
 -- forms.
-use Rattle.std.proofs.Common.{◌≡◌, ◌≢◌, ℕ, ◌+◌, ◌^◌, ◌<◌, ◌≤◌, ◌⊎◌, List, [], ◌∷◌, Option, None, Some, Result, Ok, Err, get_or, length, sym, ap, ◌∙◌, ⊎_elim, inl, inr, refl, arith}
+use Rattle.std.proofs.Common.{◌≡◌, ◌≢◌, ℕ, ◌<◌, ◌≤◌, ◌⊎◌, List, [], Option, None, Some, Result, Ok, Err, get_or, length, sym, ap, ◌∙◌, ⊎_elim, inl, inr, refl, arith}
 use Rattle.std.proofs.Math.Path.{subst}
 use Rattle.std.proofs.lemmas.Bool.{cases_lt}
-use Rattle.std.specs.Prelude.{codes, Contains, IfErr, IsSomeAnd}
+use Rattle.std.specs.Prelude.{Contains, IfErr, IsSomeAnd}
 use Rattle.std.specs.Result.{IsErrAnd}
 use Rattle.std.specs.Option.{option_map_or}
 use Rattle.agent_bytes.specs.Faults.{Rose}
-use Rattle.agent_bytes.specs.Told.{IsFile, IsLonger, gained}
+use Rattle.agent_bytes.specs.Told.{IsFile, IsLonger}
 use Rattle.agent_run.specs.declared.refusal.Refusal.{Refusal}
 use Rattle.agent_run.specs.declared.refusal.Refusal.TheVariants.{FileFault, FileTooLarge, BadDocument, NotBuilt, OutOfMemory}
 use Rattle.agent_run.specs.declared.refusal.Unbuilt.{Unbuilt}
 use Rattle.agent_run.specs.declared.refusal.Unbuilt.TheVariants.{Command, Document, Script}
 use Rattle.text_lex.specs.declared.lex_refusal.LexKind.{LexKind}
-use Rattle.agent_run.specs.Answers.{EndsByFileTooLarge, IsRunnable, IsTold}
+use Rattle.agent_run.specs.Answers.{EndsByFileFault, EndsByFileTooLarge, IsPut, IsRunnable, IsTold}
 use Rattle.term_model.specs.declared.schema.Set.{Set}
-use Rattle.agent_run.specs.Refusing.{HasCause, HasFault, HasFileCause, HasRunCause, HasScriptCause, IsNoDocument, IsNoScript, IsOutside, IsTooLarge, OfNamed, line_of, status_of}
+use Rattle.agent_run.specs.Refusing.{HasCause, HasFault, HasFileCause, HasRunCause, HasScriptCause, IsNoDocument, IsNoScript, IsOutside, IsTooLarge, IsWithin, OfNamed, line_of, status_of}
+use Rattle.agent_run.specs.Refusing.IsNamed.{first, second}
 use Rattle.agent_run.specs.Refusing.IsTooLarge.{of_script, of_document}
+use Rattle.agent_run.specs.Statuses.{all_statuses}
 use Rattle.agent_run.specs.Running.{AreRunWords, IsDocument, IsScriptFor, Told, most_document, most_script}
 
--- what the status of a refusal is, where its line was written
+-- what the status of a refusal is
 abbrev pub Answered : ℕ → Refusal → Type 0
-Answered status r = (status ≡ status_of r) ⊎ ((status ≡ 8) ⊎ (status ≡ 6))
+Answered status r = (status ≡ status_of r) ⊎ (status ≡ 8)
 
-abbrev pub statuses : List ℕ
-statuses = 0 ∷ 3 ∷ 4 ∷ 6 ∷ 8 ∷ 10 ∷ 12 ∷ []
-
-status_listed : (r : Refusal) → Contains statuses (status_of r)
+status_listed : (r : Refusal) → Contains all_statuses (status_of r)
 status_listed (FileFault name) = (1, omega arith, refl)
 status_listed (FileTooLarge name) = (5, omega arith, refl)
 status_listed (BadDocument line kind) = (2, omega arith, refl)
 status_listed (NotBuilt what) = (6, omega arith, refl)
 status_listed OutOfMemory = (4, omega arith, refl)
 
-pub written_listed : (status : ℕ) → (status ≡ 0) ⊎ (status ≡ 6) → Contains statuses status
+pub written_listed : (status : ℕ) → (status ≡ 0) ⊎ (status ≡ 6) → Contains all_statuses status
 written_listed status (inl e) = (0, omega arith, sym e)
 written_listed status (inr e) = (3, omega arith, sym e)
 
-pub answered_listed : (status : ℕ) (r : Refusal) → Answered status r → Contains statuses status
-answered_listed status r (inl e) = subst (λ n. Contains statuses n) (sym e) (status_listed r)
-answered_listed status r (inr (inl e)) = (4, omega arith, sym e)
-answered_listed status r (inr (inr e)) = (3, omega arith, sym e)
+pub answered_listed : (status : ℕ) (r : Refusal) → Answered status r → Contains all_statuses status
+answered_listed status r (inl e) = subst (λ n. Contains all_statuses n) (sym e) (status_listed r)
+answered_listed status r (inr e) = (4, omega arith, sym e)
 
 -- two numbers of which the status is one
 differ : (status a b : ℕ) → status ≡ a → status ≡ b → a ≢ b → ⊥
 differ status a b e f g = g (sym e ∙ f)
 
-pub too_large_of : (files : Told) (words : List (List ℕ)) (faults later : ℕ) (before after : Option (List ℕ)) (status : ℕ) (r : Refusal)
-    → Answered status r → HasCause files words faults later r → (status ≢ 8 → status ≢ 6 → after ≡ gained before (line_of r)) → status ≡ 10
-    → EndsByFileTooLarge files words before after
-too_large_of files words faults later before after status (FileTooLarge name) answered cause line e =
-    record { name = name.now; longer = cause; line = line (λ o. omega (arith, e, o)) (λ o. omega (arith, e, o)) }
-too_large_of files words faults later before after status (FileFault name) (inl s) cause line e = absurd (omega (arith, s, e))
-too_large_of files words faults later before after status (BadDocument number kind) (inl s) cause line e = absurd (omega (arith, s, e))
-too_large_of files words faults later before after status (NotBuilt what) (inl s) cause line e = absurd (omega (arith, s, e))
-too_large_of files words faults later before after status OutOfMemory (inl s) cause line e = absurd (omega (arith, s, e))
-too_large_of files words faults later before after status r (inr (inl s)) cause line e = absurd (omega (arith, s, e))
-too_large_of files words faults later before after status r (inr (inr s)) cause line e = absurd (omega (arith, s, e))
+pub file_fault_of : (files : Told) (words : List (List ℕ)) (faults later out_before out_after : ℕ)
+    (before after : Option (List ℕ)) (status : ℕ) (r : Refusal)
+    → Answered status r → HasCause files words faults later r
+    → (status ≢ 8 → IsPut out_before out_after before after (line_of r)) → status ≡ 3
+    → EndsByFileFault files words faults later out_before out_after before after
+file_fault_of files words faults later out_before out_after before after status (FileFault name) answered cause line e =
+    record { rose = cause.1; name = name.now; named = cause.0; line = line (λ o. omega (arith, e, o)) }
+file_fault_of files words faults later out_before out_after before after status (FileTooLarge name) (inl s) cause line e =
+    absurd (omega (arith, s, e))
+file_fault_of files words faults later out_before out_after before after status (BadDocument number kind) (inl s) cause line e =
+    absurd (omega (arith, s, e))
+file_fault_of files words faults later out_before out_after before after status (NotBuilt what) (inl s) cause line e =
+    absurd (omega (arith, s, e))
+file_fault_of files words faults later out_before out_after before after status OutOfMemory (inl s) cause line e =
+    absurd (omega (arith, s, e))
+file_fault_of files words faults later out_before out_after before after status r (inr s) cause line e =
+    absurd (omega (arith, s, e))
+
+pub too_large_of : (files : Told) (words : List (List ℕ)) (faults later out_before out_after : ℕ)
+    (before after : Option (List ℕ)) (status : ℕ) (r : Refusal)
+    → Answered status r → HasCause files words faults later r
+    → (status ≢ 8 → IsPut out_before out_after before after (line_of r)) → status ≡ 10
+    → EndsByFileTooLarge files words out_before out_after before after
+too_large_of files words faults later out_before out_after before after status (FileTooLarge name) answered cause line e =
+    record { name = name.now; longer = cause; line = line (λ o. omega (arith, e, o)) }
+too_large_of files words faults later out_before out_after before after status (FileFault name) (inl s) cause line e =
+    absurd (omega (arith, s, e))
+too_large_of files words faults later out_before out_after before after status (BadDocument number kind) (inl s) cause line e =
+    absurd (omega (arith, s, e))
+too_large_of files words faults later out_before out_after before after status (NotBuilt what) (inl s) cause line e =
+    absurd (omega (arith, s, e))
+too_large_of files words faults later out_before out_after before after status OutOfMemory (inl s) cause line e =
+    absurd (omega (arith, s, e))
+too_large_of files words faults later out_before out_after before after status r (inr s) cause line e =
+    absurd (omega (arith, s, e))
 
 -- the words name one script and one document
 one_script : (words : List (List ℕ)) (a b c d : List ℕ) → AreRunWords words a b → AreRunWords words c d → a ≡ c
@@ -80,7 +102,7 @@ not_longer (Some bytes_of) name other bytes limit e told small longer =
 small_enough : (files : Told) (words : List (List ℕ)) (name : List ℕ) → IsRunnable files words → IsTooLarge files words name → ⊥
 small_enough files words name run (of_script {document} named longer) =
     not_longer files run.script_name name run.script most_script (one_script words run.script_name run.document_name name document run.words_are named) run.script_told run.script_small longer
-small_enough files words name run (of_document {script} named longer) =
+small_enough files words name run (of_document {script} named within longer) =
     not_longer files run.document_name name run.document most_document (one_document words run.script_name run.document_name script name run.words_are named) run.document_told run.document_small longer
 
 -- what is said of the bytes of the named files holds of those of the run
@@ -111,12 +133,12 @@ no_cause files words faults later status (BadDocument number kind) s cause run q
 no_cause files words faults later status (NotBuilt what) s cause run quiet = absurd (inside files words what run cause)
 no_cause files words faults later status OutOfMemory s cause run quiet = inr s
 
-pub complete_of : (files : Told) (words : List (List ℕ)) (faults later : ℕ) (OutRose : Type 0) (status : ℕ) (r : Refusal)
-    → Answered status r → HasCause files words faults later r → (status ≡ 6 → OutRose) → IsRunnable files words → (Rose faults later → ⊥) → (OutRose → ⊥)
+pub complete_of : (files : Told) (words : List (List ℕ)) (faults later status : ℕ) (r : Refusal)
+    → Answered status r → HasCause files words faults later r → IsRunnable files words → (Rose faults later → ⊥)
     → (status ≡ 0) ⊎ (status ≡ 8)
-complete_of files words faults later OutRose status r (inl s) cause fault run quiet written = no_cause files words faults later status r s cause run quiet
-complete_of files words faults later OutRose status r (inr (inl s)) cause fault run quiet written = inr s
-complete_of files words faults later OutRose status r (inr (inr s)) cause fault run quiet written = absurd (written (fault s))
+complete_of files words faults later status r (inl s) cause run quiet =
+    no_cause files words faults later status r s cause run quiet
+complete_of files words faults later status r (inr s) cause run quiet = inr s
 
 -- what a call answers at the exit of a `?`: the refusal that it was given
 pub exit_with : {X : Type 0} (P : Refusal → Type 0) (r : Result X Refusal) (e : Refusal) → IsErrAnd r (λ d. d ≡ e) → P e → IfErr r P
@@ -124,15 +146,15 @@ exit_with P (Ok x) e is p = tt
 exit_with P (Err d) e is p = subst P (sym is) p
 
 pub rose_later : (a b c : ℕ) → a ≤ b → b ≤ c → Rose b c → Rose a c
-rose_later a b c first second (inl more) = inl (omega (arith, first, more))
-rose_later a b c first second (inr last) =
-    ⊎_elim (λ below. inl (omega (arith, below, second))) (λ past. inr (omega (arith, past, first, last))) (cases_lt a b)
+rose_later a b c earlier later (inl more) = inl (omega (arith, earlier, more))
+rose_later a b c earlier later (inr last) =
+    ⊎_elim (λ below. inl (omega (arith, below, later))) (λ past. inr (omega (arith, past, earlier, last))) (cases_lt a b)
 
 -- what comes of the script's file
 pub script_file : (files : Told) (words : List (List ℕ)) (script document : List ℕ) (before after : ℕ) (r : Refusal)
     → AreRunWords words script document → HasFileCause files script most_script before after r → HasCause files words before after r
 script_file files words script document before after (FileFault name) named cause =
-    (record { script = script; document = document; words_are = named; one = inl cause.0 }, cause.1)
+    (first (subst (λ n. AreRunWords words n document) (sym cause.0) named), cause.1)
 script_file files words script document before after (FileTooLarge name) named cause =
     of_script (subst (λ n. AreRunWords words n document) (sym cause.0) named) (subst (λ n. IsLonger files n most_script) (sym cause.0) cause.1)
 script_file files words script document before after (BadDocument line kind) named cause = absurd cause
@@ -141,14 +163,15 @@ script_file files words script document before after OutOfMemory named cause = t
 
 -- what comes of the document's file, which is read behind that of the script
 pub document_file : (files : Told) (words : List (List ℕ)) (script document : List ℕ) (before between after : ℕ) (r : Refusal)
-    → AreRunWords words script document → before ≤ between → between ≤ after → HasFileCause files document most_document between after r → HasCause files words before after r
-document_file files words script document before between after (FileFault name) named first second cause =
-    (record { script = script; document = document; words_are = named; one = inr cause.0 }, rose_later before between after first second cause.1)
-document_file files words script document before between after (FileTooLarge name) named first second cause =
-    of_document (subst (λ n. AreRunWords words script n) (sym cause.0) named) (subst (λ n. IsLonger files n most_document) (sym cause.0) cause.1)
-document_file files words script document before between after (BadDocument line kind) named first second cause = absurd cause
-document_file files words script document before between after (NotBuilt what) named first second cause = absurd cause
-document_file files words script document before between after OutOfMemory named first second cause = tt
+    → AreRunWords words script document → IsWithin files script most_script → before ≤ between → between ≤ after
+    → HasFileCause files document most_document between after r → HasCause files words before after r
+document_file files words script document before between after (FileFault name) named within earlier later cause =
+    (second (subst (λ n. AreRunWords words script n) (sym cause.0) named) within, rose_later before between after earlier later cause.1)
+document_file files words script document before between after (FileTooLarge name) named within earlier later cause =
+    of_document (subst (λ n. AreRunWords words script n) (sym cause.0) named) within (subst (λ n. IsLonger files n most_document) (sym cause.0) cause.1)
+document_file files words script document before between after (BadDocument line kind) named within earlier later cause = absurd cause
+document_file files words script document before between after (NotBuilt what) named within earlier later cause = absurd cause
+document_file files words script document before between after OutOfMemory named within earlier later cause = tt
 
 -- what comes of a script for the one schema of a document
 pub script_outside : (script document : List ℕ) (schema : Set) (r : Refusal) → IsDocument document schema → ((other : Set) → IsDocument document other → other ≡ schema)

@@ -1,5 +1,5 @@
 -- Examples of the words of a run, of its lines, and of the line of a place, computed: README.md, Answers.
-use Rattle.std.proofs.Common.{◌≡◌, [], ◌∷◌, get_or, ap, refl, arith}
+use Rattle.std.proofs.Common.{◌≡◌, [], ◌∷◌, get_or, refl, arith}
 use Rattle.std.specs.Prelude.{codes}
 use Rattle.std.specs.Fmt.{digits}
 use Rattle.text_lex.specs.declared.lex_refusal.LexKind.TheVariants.{OpenString}

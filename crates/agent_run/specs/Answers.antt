@@ -1,46 +1,58 @@
--- The answers of the top call: what each status other than 0 says of the words and the files, and what was written then.
+-- The answers of the top call: what each status other than 0 says of the words and the files, and what was written
+-- then.
 use Rattle.std.specs.Prelude.{◌≡◌, ◌≤◌, ◌⊎◌, ℕ, List, Option, None, Some, length}
 use Rattle.agent_bytes.specs.Faults.{Rose}
 use Rattle.agent_bytes.specs.Told.{GainsPart, gained}
 use Rattle.agent_run.specs.declared.refusal.Unbuilt.{Unbuilt}
 use Rattle.term_model.specs.declared.schema.Set.{Set}
 use Rattle.text_lex.specs.declared.lex_refusal.LexKind.{LexKind}
-use Rattle.agent_run.specs.Refusing.{HasFault, IsLine, IsNamed, IsOutside, IsTooLarge, OfNamed, bad_document_line, file_line, not_built_line, too_large_line}
+use Rattle.agent_run.specs.Refusing.{HasFault, IsNamed, IsOutside, IsTooLarge, OfNamed, bad_document_line, file_line, not_built_line, too_large_line}
 use Rattle.agent_run.specs.Running.{AreRunWords, IsDocument, IsRunOf, IsScriptFor, Told, most_document, most_script}
 
--- a call of the files failed, and the line has the name of one of the two files
-pub record EndsByFileFault (words : List (List ℕ)) (faults_before faults_after : ℕ) (before after : Option (List ℕ)) : Type 0 where
+-- These bytes were written; or, where a call of the output failed, a part of them. The counts are those of the output's
+-- faults.
+abbrev pub IsPut : ℕ → ℕ → Option (List ℕ) → Option (List ℕ) → List ℕ → Type 0
+IsPut out_before out_after before after line =
+    (after ≡ gained before line) ⊎ (Rose out_before out_after × GainsPart before after line)
+
+-- a call of the files failed, and the line has the name of the script, or that of the document where the script is
+-- there within its limit
+pub record EndsByFileFault (files : Told) (words : List (List ℕ)) (faults_before faults_after out_before out_after : ℕ)
+    (before after : Option (List ℕ)) : Type 0 where
   pub rose : Rose faults_before faults_after
   pub name : List ℕ
-  pub named : IsNamed words name
-  pub line : after ≡ gained before (file_line name)
+  pub named : IsNamed files words name
+  pub line : IsPut out_before out_after before after (file_line name)
 
--- the file that the line names is longer than its limit
-pub record EndsByFileTooLarge (files : Told) (words : List (List ℕ)) (before after : Option (List ℕ)) : Type 0 where
+-- the file that the line names is longer than its limit, and one before it is not
+pub record EndsByFileTooLarge (files : Told) (words : List (List ℕ)) (out_before out_after : ℕ)
+    (before after : Option (List ℕ)) : Type 0 where
   pub name : List ℕ
   pub longer : IsTooLarge files words name
-  pub line : after ≡ gained before (too_large_line name)
+  pub line : IsPut out_before out_after before after (too_large_line name)
 
 -- the document has its first fault on the line that is printed
-pub record EndsByBadDocument (files : Told) (words : List (List ℕ)) (before after : Option (List ℕ)) : Type 0 where
+pub record EndsByBadDocument (files : Told) (words : List (List ℕ)) (out_before out_after : ℕ)
+    (before after : Option (List ℕ)) : Type 0 where
   pub number : ℕ
   pub kind : LexKind
   pub fault : OfNamed files words (λ script document. HasFault number kind document)
-  pub line : after ≡ gained before (bad_document_line number kind)
+  pub line : IsPut out_before out_after before after (bad_document_line number kind)
 
 -- the words, the document or the script is outside its form, as the line says
-pub record EndsByNotBuilt (files : Told) (words : List (List ℕ)) (before after : Option (List ℕ)) : Type 0 where
+pub record EndsByNotBuilt (files : Told) (words : List (List ℕ)) (out_before out_after : ℕ)
+    (before after : Option (List ℕ)) : Type 0 where
   pub what : Unbuilt
   pub outside : IsOutside files words what
-  pub line : after ≡ gained before (not_built_line what)
+  pub line : IsPut out_before out_after before after (not_built_line what)
 
--- A write failed. A part of what would have been written is there: of a run's text, or of the line that says why there is
--- none.
-pub record EndsByWriteFault (files : Told) (words : List (List ℕ)) (faults_before faults_after out_before out_after : ℕ) (before after : Option (List ℕ)) : Type 0 where
+-- a write failed, and a part of the run's text is there
+pub record EndsByWriteFault (files : Told) (words : List (List ℕ)) (out_before out_after : ℕ)
+    (before after : Option (List ℕ)) : Type 0 where
   pub rose : Rose out_before out_after
   pub text : List ℕ
   pub part : GainsPart before after text
-  pub of : IsRunOf files words text ⊎ IsLine files words faults_before faults_after text
+  pub run : IsRunOf files words text
 
 -- the file is told, and has these bytes
 abbrev pub IsTold : Told → List ℕ → List ℕ → Type 0

@@ -2,3 +2,4 @@
 pub mod Answers
 pub mod Refusing
 pub mod Running
+pub mod Statuses

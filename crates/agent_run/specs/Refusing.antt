@@ -1,7 +1,7 @@
 -- Why a run is not done: the cause of each status, and the line that is written then.
-use Rattle.std.specs.Prelude.{◌≡◌, ◌==◌, ◌+◌, ◌<◌, ◌≤◌, ◌⊎◌, ℕ, List, [], ◌∷◌, ◌++◌, Option, None, Some, codes, count_by, decimal, length, take}
+use Rattle.std.specs.Prelude.{◌≡◌, ◌==◌, ◌+◌, ◌≤◌, ℕ, List, ◌++◌, codes, count_by, decimal, length, take}
 use Rattle.agent_bytes.specs.Faults.{Rose}
-use Rattle.agent_bytes.specs.Told.{IsLonger}
+use Rattle.agent_bytes.specs.Told.{IsFile, IsLonger}
 use Rattle.agent_run.specs.declared.refusal.Refusal.{Refusal}
 use Rattle.agent_run.specs.declared.refusal.Refusal.TheVariants.{FileFault, FileTooLarge, BadDocument, NotBuilt, OutOfMemory}
 use Rattle.agent_run.specs.declared.refusal.Unbuilt.{Unbuilt}
@@ -11,21 +11,29 @@ use Rattle.term_model.specs.Texts.{line_feed}
 use Rattle.text_lex.specs.declared.lex_refusal.LexKind.{LexKind}
 use Rattle.text_lex.specs.declared.lex_refusal.LexKind.TheVariants.{BadByte, OpenString, BadNumber, BadBits}
 use Rattle.text_lex.specs.declared.lex_refusal.LexRefusal.TheVariants.{Fault}
-use Rattle.text_lex.specs.declared.token.Token.{Token}
+use Rattle.token_grammar.specs.declared.token.Token.{Token}
 use Rattle.text_lex.specs.Lexed.{AreTokensOf, IsRefused}
+use Rattle.agent_run.specs.Statuses.{bad_document, file_fault, file_too_large, not_built, out_of_memory}
 use Rattle.agent_run.specs.Running.{AreNamed, AreRunWords, IsDocument, IsScriptFor, Told, most_document, most_script}
 
--- one of the two files that the words name
-pub record IsNamed (words : List (List ℕ)) (name : List ℕ) : Type 0 where
-  pub script : List ℕ
-  pub document : List ℕ
-  pub words_are : AreRunWords words script document
-  pub one : (name ≡ script) ⊎ (name ≡ document)
+-- the named file is there with at most so many bytes, where it is told
+pub record IsWithin (files : Told) (name : List ℕ) (limit : ℕ) : Type 0 where
+  pub bytes : List ℕ
+  pub told : IsFile files name bytes
+  pub small : length bytes ≤ limit
 
--- the named script or the named document has more bytes than its limit
+-- the script that the words name; or the document, where the script, which is read before it, is there within its limit
+pub data IsNamed (files : Told) (words : List (List ℕ)) (name : List ℕ) : Type 0 where
+  first : {document : List ℕ} → AreRunWords words name document → IsNamed files words name
+  second : {script : List ℕ} → AreRunWords words script name → IsWithin files script most_script
+      → IsNamed files words name
+
+-- the named script has more bytes than its limit; or the named document has, where the script is there within its limit
 pub data IsTooLarge (files : Told) (words : List (List ℕ)) (name : List ℕ) : Type 0 where
-  of_script : {document : List ℕ} → AreRunWords words name document → IsLonger files name most_script → IsTooLarge files words name
-  of_document : {script : List ℕ} → AreRunWords words script name → IsLonger files name most_document → IsTooLarge files words name
+  of_script : {document : List ℕ} → AreRunWords words name document → IsLonger files name most_script
+      → IsTooLarge files words name
+  of_document : {script : List ℕ} → AreRunWords words script name → IsWithin files script most_script
+      → IsLonger files name most_document → IsTooLarge files words name
 
 -- something holds of the bytes of these files
 pub record OfNamed (files : Told) (words : List (List ℕ)) (Holds : List ℕ → List ℕ → Type 0) : Type 0 where
@@ -58,7 +66,8 @@ pub record IsNoDocument (document : List ℕ) : Type 0 where
 pub record IsNoScript (script document : List ℕ) : Type 0 where
   pub schema : Set
   pub document_is : IsDocument document schema
-  pub outside : (other : Set) (bind : List ℕ) (sends : List (List ℕ)) → IsDocument document other → IsScriptFor other script bind sends → ⊥
+  pub outside : (other : Set) (bind : List ℕ) (sends : List (List ℕ)) → IsDocument document other
+      → IsScriptFor other script bind sends → ⊥
 
 abbrev pub IsOutside : Told → List (List ℕ) → Unbuilt → Type 0
 IsOutside files words Command = AreNoWords words
@@ -67,9 +76,10 @@ IsOutside files words Script = OfNamed files words IsNoScript
 
 -- the cause of each refusal; the counts are those of the files' faults before and after the call
 abbrev pub HasCause : Told → List (List ℕ) → ℕ → ℕ → Refusal → Type 0
-HasCause files words before after (FileFault name) = IsNamed words name.now × Rose before after
+HasCause files words before after (FileFault name) = IsNamed files words name.now × Rose before after
 HasCause files words before after (FileTooLarge name) = IsTooLarge files words name.now
-HasCause files words before after (BadDocument line kind) = OfNamed files words (λ script document. HasFault line kind document)
+HasCause files words before after (BadDocument line kind) =
+    OfNamed files words (λ script document. HasFault line kind document)
 HasCause files words before after (NotBuilt what) = IsOutside files words what
 HasCause files words before after OutOfMemory = Unit {0}
 
@@ -94,7 +104,8 @@ HasDocumentCause document _ = ⊥
 
 -- the causes that a script for the class of a schema may give
 abbrev pub HasScriptCause : Set → List ℕ → Refusal → Type 0
-HasScriptCause schema script (NotBuilt Script) = (bind : List ℕ) (sends : List (List ℕ)) → IsScriptFor schema script bind sends → ⊥
+HasScriptCause schema script (NotBuilt Script) =
+    (bind : List ℕ) (sends : List (List ℕ)) → IsScriptFor schema script bind sends → ⊥
 HasScriptCause schema script OutOfMemory = Unit {0}
 HasScriptCause schema script _ = ⊥
 
@@ -108,11 +119,11 @@ HasRunCause script document _ = ⊥
 
 -- the status with which the program ends
 abbrev pub status_of : Refusal → ℕ
-status_of (FileFault name) = 3
-status_of (FileTooLarge name) = 10
-status_of (BadDocument line kind) = 4
-status_of (NotBuilt what) = 12
-status_of OutOfMemory = 8
+status_of (FileFault name) = file_fault
+status_of (FileTooLarge name) = file_too_large
+status_of (BadDocument line kind) = bad_document
+status_of (NotBuilt what) = not_built
+status_of OutOfMemory = out_of_memory
 
 abbrev pub kind_name : LexKind → List ℕ
 kind_name BadByte = codes "BadByte"
@@ -147,9 +158,3 @@ line_of (FileTooLarge name) = too_large_line name.now
 line_of (BadDocument line kind) = bad_document_line line kind
 line_of (NotBuilt what) = not_built_line what
 line_of OutOfMemory = memory_line
-
--- the line of a refusal that has its cause
-pub record IsLine (files : Told) (words : List (List ℕ)) (before after : ℕ) (text : List ℕ) : Type 0 where
-  pub refusal : Refusal
-  pub cause : HasCause files words before after refusal
-  pub is : text ≡ line_of refusal

@@ -2,16 +2,18 @@
 use Rattle.std.specs.Prelude.{◌≡◌, ◌≢◌, ◌≤◌, ℕ, List, [], ◌∷◌, ◌++◌, IsTrue, Option, codes, length, slice_index}
 use Rattle.std.specs.List.{All}
 use Rattle.agent_bytes.specs.Told.{IsFile, gained}
+use Rattle.term_model.specs.declared.agent_state.AgentState.{AgentState}
 use Rattle.term_model.specs.declared.entry.Entry.{Entry}
 use Rattle.term_model.specs.declared.schema.ClassRec.{ClassRec}
 use Rattle.term_model.specs.declared.schema.Set.{Set}
+use Rattle.term_model.specs.AgentLimits.{shipped}
 use Rattle.term_model.specs.History.{came, is_legal_journal, replay}
 use Rattle.term_model.specs.Played.{played}
 use Rattle.term_model.specs.Settled.{IsSettled}
 use Rattle.term_model.specs.TextLaws.{IsEntry}
 use Rattle.term_model.specs.Texts.{journal_text, outs, separator}
 use Rattle.term_model.specs.WellFormedMib.{IsWellFormedMib}
-use Rattle.text_lex.specs.declared.token.Token.{Token}
+use Rattle.token_grammar.specs.declared.token.Token.{Token}
 use Rattle.text_lex.specs.Lexed.{AreTokensOf}
 use Rattle.first_document.specs.FirstDocument.{IsFirstDocument}
 use Rattle.first_script.specs.ScriptForm.{IsScript}
@@ -29,9 +31,14 @@ pub record IsScriptFor (schema : Set) (script bind : List ℕ) (sends : List (Li
   pub only : schema.classes ≡ class ∷ []
   pub is : IsScript class.id script bind sends
 
+-- the agent of the program on a schema, after a journal
+abbrev pub agent_after : Set → List Entry → AgentState
+agent_after schema journal = replay schema shipped journal
+
 -- the objects obey their templates after each part of the journal, from none of it to all
 abbrev pub Obeys : Set → List Entry → Type 0
-Obeys schema journal = (before after : List Entry) → journal ≡ before ++ after → IsWellFormedMib schema (replay schema before).objects
+Obeys schema journal =
+    (before after : List Entry) → journal ≡ before ++ after → IsWellFormedMib schema (agent_after schema before).objects
 
 -- The text is the journal of the script, a line of two dashes, and what the one-manager agent places on that journal. The
 -- association's frames stand in the journal in their order, and no others; each entry may stand where it stands; and every
@@ -40,14 +47,15 @@ Obeys schema journal = (before after : List Entry) → journal ≡ before ++ aft
 -- entries.
 pub record IsPlayed (schema : Set) (bind : List ℕ) (sends : List (List ℕ)) (text : List ℕ) : Type 0 where
   pub journal : List Entry
-  pub of_script : journal ≡ (played schema (script_lines bind sends)).journal
+  pub of_script : journal ≡ (played schema shipped (script_lines bind sends)).journal
   pub frames : came sole journal ≡ bind ∷ sends
-  pub legal : IsTrue (is_legal_journal schema journal)
+  pub legal : IsTrue (is_legal_journal schema shipped journal)
   pub obeys : Obeys schema journal
-  pub settled : IsSettled (replay schema journal)
-  pub printed : text ≡ journal_text journal ++ (separator ++ outs (replay schema journal))
+  pub settled : IsSettled (agent_after schema journal)
+  pub printed : text ≡ journal_text journal ++ (separator ++ outs (agent_after schema journal))
   pub held : All IsEntry journal
-  pub determined : (other : List Entry) (rest : List ℕ) → All IsEntry other → text ≡ journal_text other ++ (separator ++ rest) → other ≡ journal
+  pub determined : (other : List Entry) (rest : List ℕ) → All IsEntry other
+      → text ≡ journal_text other ++ (separator ++ rest) → other ≡ journal
 
 -- the text is what a script comes to on the records of a document
 pub record IsRun (script document text : List ℕ) : Type 0 where
@@ -72,7 +80,7 @@ pub record AreRunWords (words : List (List ℕ)) (script document : List ℕ) : 
 abbrev pub Told : Type 0
 Told = Option (List ℕ → Option (List ℕ))
 
--- the most octets of a script and of a document
+-- the most octets of a script and of a document, 16 MiB and 4 MiB: docs/OPERATING.md, Limits
 abbrev pub most_script : ℕ
 most_script = 16777216
 

@@ -6,6 +6,4 @@ mod running;
 mod words;
 
 pub use running::agent;
-
-#[cfg(test)]
-mod tests;
+pub use words::{command_words, words_behind_name};

@@ -90,7 +90,8 @@ fn write_numbered_line(
     rest: &str,
     into: &mut Vec<u8>,
 ) -> Result<(), AllocError>
-    ensures { OnOk result (into.new.items ≡ into.old.items ++ (words.now ++ (decimal number ++ (codes " " ++ (rest.now ++ line_feed))))) }
+    ensures { OnOk result (into.new.items
+        ≡ into.old.items ++ (words.now ++ (decimal number ++ (codes " " ++ (rest.now ++ line_feed))))) }
 {
     into.extend_from_slice(words.as_bytes())?;
     write_decimal(number, into)?;

@@ -1,4 +1,6 @@
+pub mod Answering
 pub mod Extending
+pub mod HeaderSteps
 pub mod IdentifierSteps
 pub mod IntegerLaws
 pub mod IntegerReading

@@ -1,39 +1,27 @@
-//! Reads trees and contents octets, with tags of one octet and definite lengths: X.690, sections 8.1, 8.3 and 8.19.
+//! Reads trees and contents octets: X.690, sections 8.1, 8.3 and 8.19.
 
-ghost use Rattle.std.specs.Prelude.{ℕ, ℤ, List, [], ◌∷◌, ◌++◌, ◌≡◌, ◌+◌, ◌*◌, ◌^◌, ◌<◌, ◌≤◌, None, Some, IfOk, IfSome, IfNone, IsTrue, option_map, nat_lt, if◌then◌else◌, length, take, drop, map, slice_index, All, FitsSigned, true};
+ghost use Rattle.std.specs.Prelude.{ℕ, ℤ, List, [], ◌∷◌, ◌++◌, ◌≡◌, ◌+◌, ◌*◌, ◌^◌, ◌<◌, ◌≤◌, None, Some, Ok, Err, IfOk, IfErr, IfSome, IfNone, IsTrue, option_map, nat_lt, if◌then◌else◌, length, take, drop, map, slice_index, All, FitsSigned, true};
 ghost use Rattle.std.specs.Int.{w64};
-ghost use Rattle.term_values.specs.BerReading.{identifier_of, length_at, front_of, tree_at, filled};
+ghost use Rattle.term_values.specs.declared.ber_kind.BerKind.{BerKind};
+ghost use Rattle.term_values.specs.FirstFault.{place_of, IsFirstFault};
+ghost use Rattle.term_values.specs.BerReading.{stop_at, members, primitive_value, definite_value, indefinite_value, reading, tree_at};
 ghost use Rattle.term_values.specs.Ber.{most_depth};
 ghost use Rattle.term_values.specs.Octets.{number, integer_contents, integer_in};
-ghost use Rattle.ber_tree.specs.Reading.{front_at, IsWithin};
+ghost use Rattle.term_values.specs.Tree.{TreeValue};
+ghost use Rattle.ber_tree.specs.declared.ber_refusal.BerRefusal.TheVariants.{Fault};
+ghost use Rattle.ber_tree.specs.Reading.{Answers, IsStop, IsFront, IsCause, Gives, body};
 ghost use Rattle.term_values.specs.Oid.{subidentifier, oid_contents, is_oid, begins};
 ghost use Rattle.ber_tree.specs.Subidentifiers.{grouped, IsSize};
 ghost use Rattle.ber_tree.specs.Integers.{are_least, octet_turned};
 
+use crate::ber_refusal::BerRefusal;
+use crate::header_reading::{Header, read_header, when_cut};
 use std::alloc::{AllocError, Global};
 use term_values::oid::{MOST_ARCS, SECOND_ARCS};
-use term_values::{Bytes, Oid, Tag, Tree, Trees};
+use term_values::{BerKind, Bytes, Oid, Tag, Tree, Trees};
 
 /// The most constructed values inside one another that are read, the outermost counted.
 const MOST_DEPTH: u32 = 32;
-
-/// The class stands above this bit of an identifier octet.
-const CLASS_UNIT: u8 = 64;
-
-/// The bit of an identifier octet that says that the value is constructed; the number stands below it.
-const CONSTRUCTED: u8 = 32;
-
-/// The number in an identifier octet which says that the tag goes on in further octets.
-const HIGH_NUMBER: u8 = 31;
-
-/// A length octet below this number is the length. Another one is this number and the number of length octets behind it.
-const LONG_LENGTH: u8 = 128;
-
-/// The count of length octets that X.690, section 8.1.3.5, reserves.
-const RESERVED_COUNT: usize = 127;
-
-/// The greatest length that is read.
-const MOST_LENGTH: u64 = 0xFFFF_FFFF;
 
 /// The most octets of an INTEGER of 64 bits.
 const MOST_INTEGER_OCTETS: usize = 8;
@@ -44,144 +32,224 @@ const SIGN_BIT: u8 = 128;
 /// The most octets of a subidentifier of 32 bits.
 const MOST_SUBIDENTIFIER_OCTETS: usize = 5;
 
-/// The first bit of an octet of a subidentifier, which says that more octets follow. The first octet has a further bit, since
-/// there are as few octets as hold the number.
+/// The first bit of an octet of a subidentifier, which says that more octets follow. The first octet has a further bit,
+/// since there are as few octets as hold the number.
 const MORE_FOLLOW: u8 = 128;
 
 /// The greatest subidentifier that is read.
 const MOST_SUBIDENTIFIER: u64 = 0xFFFF_FFFF;
 
-/// What stands before the contents octets of a value, and where these are.
-#[derive(Clone, Copy)]
-pub struct Header {
-    pub constructed: bool,
-    pub tag: Tag,
-    pub start: usize,
-    pub end: usize,
-}
-
-/// The form and the tag of an identifier octet, or none where the tag goes on or is that of the end of contents.
-#[tactic(auto, unfolding(term_values::specs::BerReading::identifier_of))]
-fn read_identifier(octet: u8) -> Option<(bool, Tag)>
-    ensures { result ≡ identifier_of octet }
+/// The refusal that names a fault of what begins these octets, which stand before the place `end`.
+fn refused(kind: BerKind, octets: &[u8], end: usize) -> BerRefusal
+    requires { length octets.now ≤ end }
+    ensures { result ≡ Fault (place_of kind octets.now end) kind }
 {
-    let class = octet / CLASS_UNIT;
-    let number = octet % CONSTRUCTED;
-    if number == HIGH_NUMBER || class + number == 0 {
-        return None;
-    }
-    Some((
-        octet / CONSTRUCTED % 2 == 1,
-        Tag {
-            class,
-            number: u32::from(number),
-        },
-    ))
-}
-
-/// The number that octets stand for, the most significant one first, or none above 32 bits.
-fn read_number(octets: &[u8]) -> Option<u64>
-    ensures { result ≡ (if nat_lt (number octets.now) (2 ^ 32) then Some (number octets.now) else None) }
-{
-    let mut value = 0u64;
-    for octet in octets {
-        value = value * 256 + u64::from(*octet);
-        if value > MOST_LENGTH {
-            return None;
-        }
-    }
-    Some(value)
-}
-
-/// The length at the front of the octets, and how many octets spell it.
-#[tactic(auto, unfolding(term_values::specs::BerReading::length_at))]
-fn read_length(octets: &[u8]) -> Option<(usize, usize)>
-    ensures front { length_at octets.now ≡ option_map (λ f. (f.0, drop f.1 octets.now)) result }
-    ensures within { IfSome result (λ f. f.1 ≤ length octets.now) }
-{
-    let (first, more) = octets.split_first()?;
-    if *first < LONG_LENGTH {
-        return Some((*first as usize, 1));
-    }
-    let count = (*first - LONG_LENGTH) as usize;
-    if count == 0 || count >= RESERVED_COUNT || count > more.len() {
-        return None;
-    }
-    let size = read_number(&more[..count])?;
-    Some((size as usize, count + 1))
-}
-
-/// The form, the tag and the place of the contents octets of the value at the front.
-#[tactic(auto, unfolding(term_values::specs::BerReading::front_of))]
-fn read_header(bytes: &[u8]) -> Option<Header>
-    ensures front { front_of bytes.now ≡ option_map (front_at bytes.now) result }
-    ensures within { IfSome result (IsWithin bytes.now) }
-{
-    let (octet, octets) = bytes.split_first()?;
-    let (constructed, tag) = read_identifier(*octet)?;
-    let (size, before) = read_length(octets)?;
-    if size > octets.len() - before {
-        return None;
-    }
-    Some(Header {
-        constructed,
-        tag,
-        start: before + 1,
-        end: before + 1 + size,
-    })
-}
-
-/// The value at the front, with at most so many constructed values inside one another, and how many octets spell it.
-#[cycle(reading)]
-fn read_within(alloc: Global, bytes: &[u8], depth: u32) -> Result<Option<(Tree, usize)>, AllocError>
-    ensures read { IfOk result (λ found. tree_at depth bytes.now ≡ option_map (λ f. (f.0, drop f.1 bytes.now)) found) }
-    ensures within { IfOk result (λ found. IfSome found (λ f. (0 < f.1) × (f.1 ≤ length bytes.now))) }
-{
-    let header = match read_header(bytes) {
-        None => return Ok(None),
-        Some(header) => header,
+    let at = match kind {
+        BerKind::Truncated => end,
+        _ => end - octets.len(),
     };
-    let contents = &bytes[header.start..header.end];
-    if !header.constructed {
-        let tree = Tree::primitive(header.tag, Bytes::from_slice(alloc, contents)?);
-        return Ok(Some((tree, header.end)));
-    }
-    if depth == 0 {
-        return Ok(None);
-    }
-    match read_inside(alloc, contents, depth - 1)? {
-        None => Ok(None),
-        Some(inside) => Ok(Some((Tree::constructed(header.tag, inside), header.end))),
+    BerRefusal::Fault {
+        at: at as u64,
+        kind,
     }
 }
 
-/// The values that fill the octets, each with at most so many constructed values inside one another.
+/// Where no further value of a constructed one begins, how many octets its end has, or the refusal; none where one
+/// begins. `value` is the place of an indefinite one.
+fn stop_at(
+    value: Option<usize>,
+    behind: Option<u32>,
+    end: usize,
+    octets: &[u8],
+) -> Result<Option<usize>, BerRefusal>
+    requires { length octets.now ≤ end }
+    ensures { IsStop (stop_at value behind end octets.now) octets.now result }
+{
+    match (value, octets) {
+        (None, []) => match behind {
+            Some(0) => Ok(Some(0)),
+            _ => Err(refused(BerKind::Truncated, octets, end)),
+        },
+        (None, _) => Ok(None),
+        (Some(place), []) => Err(BerRefusal::Fault {
+            at: place as u64,
+            kind: BerKind::NoEnd,
+        }),
+        (Some(_), [0]) => Err(refused(when_cut(behind), octets, end)),
+        (Some(_), [0, 0, ..]) => Ok(Some(2)),
+        (Some(_), [0, ..]) => Err(refused(BerKind::BadLength, octets, end)),
+        (Some(_), _) => Ok(None),
+    }
+}
+
+/// The primitive value with this tag and length, whose contents begin these octets, and how many of them are its.
+fn read_primitive(
+    alloc: Global,
+    octets: &[u8],
+    end: usize,
+    tag: Tag,
+    extent: Option<u32>,
+) -> Result<(Tree, usize), BerRefusal>
+    requires { length octets.now ≤ end }
+    ensures { Answers octets.now (primitive_value end tag extent octets.now) result }
+{
+    match extent {
+        Some(size) if size as usize <= octets.len() => {
+            let contents = Bytes::from_slice(alloc, &octets[..size as usize])?;
+            Ok((Tree::primitive(tag, contents), size as usize))
+        }
+        _ => Err(refused(BerKind::Truncated, octets, end)),
+    }
+}
+
+/// The value at the front of octets that stand before the place `end`, with at most `depth` constructed values inside
+/// one another, and how many octets spell it.
 #[cycle(reading)]
-fn read_inside(alloc: Global, contents: &[u8], depth: u32) -> Result<Option<Trees>, AllocError>
-    ensures { IfOk result (λ found. filled (tree_at depth) (length contents.now) contents.now ≡ found) }
+fn read_value(
+    alloc: Global,
+    octets: &[u8],
+    behind: Option<u32>,
+    end: usize,
+    depth: u32,
+) -> Result<(Tree, usize), BerRefusal>
+    requires { length octets.now ≤ end }
+    ensures { Answers octets.now (reading depth behind end octets.now) result }
+{
+    let header = match read_header(depth == 0, behind, octets) {
+        Err(kind) => return Err(refused(kind, octets, end)),
+        Ok(header) => header,
+    };
+    let place = end - octets.len();
+    let (tree, size) = read_body(
+        alloc,
+        &octets[header.size..],
+        behind,
+        end,
+        depth,
+        place,
+        header,
+    )?;
+    Ok((tree, header.size + size))
+}
+
+/// The value at this place with this header, whose contents begin these octets, and how many of them are its.
+#[cycle(reading)]
+fn read_body(
+    alloc: Global,
+    octets: &[u8],
+    behind: Option<u32>,
+    end: usize,
+    depth: u32,
+    place: usize,
+    header: Header,
+) -> Result<(Tree, usize), BerRefusal>
+    requires { length octets.now ≤ end }
+    ensures { Answers octets.now (body depth behind end place header octets.now) result }
+{
+    if depth == 0 || !header.constructed {
+        return read_primitive(alloc, octets, end, header.tag, header.extent);
+    }
+    match header.extent {
+        None => read_indefinite(alloc, octets, behind, end, depth - 1, place, header.tag),
+        Some(size) => read_definite(alloc, octets, end, depth - 1, header.tag, size),
+    }
+}
+
+/// The constructed value of this length, whose contents begin these octets, and how many of them are its.
+#[cycle(reading)]
+fn read_definite(
+    alloc: Global,
+    octets: &[u8],
+    end: usize,
+    depth: u32,
+    tag: Tag,
+    size: u32,
+) -> Result<(Tree, usize), BerRefusal>
+    requires { length octets.now ≤ end }
+    ensures { Answers octets.now (definite_value (reading depth) end tag size octets.now) result }
+{
+    let there = octets.len().min(size as usize);
+    let missing = size - there as u32;
+    let stop = end - (octets.len() - there);
+    let (inside, _) = read_inside(alloc, &octets[..there], Some(missing), stop, depth, None)?;
+    Ok((Tree::constructed(tag, inside), there))
+}
+
+/// The constructed value of indefinite length at this place, whose contents begin these octets, and how many of them
+/// are its.
+#[cycle(reading)]
+fn read_indefinite(
+    alloc: Global,
+    octets: &[u8],
+    behind: Option<u32>,
+    end: usize,
+    depth: u32,
+    place: usize,
+    tag: Tag,
+) -> Result<(Tree, usize), BerRefusal>
+    requires { length octets.now ≤ end }
+    ensures { Answers octets.now (indefinite_value (reading depth) behind end place tag octets.now) result }
+{
+    let (inside, size) = read_inside(alloc, octets, behind, end, depth, Some(place))?;
+    Ok((Tree::constructed(tag, inside), size))
+}
+
+/// The values inside a constructed one, and how many octets spell them, with the end of contents of an indefinite one,
+/// whose place is `value`.
+#[cycle(reading)]
+fn read_inside(
+    alloc: Global,
+    octets: &[u8],
+    behind: Option<u32>,
+    end: usize,
+    depth: u32,
+    value: Option<usize>,
+) -> Result<(Trees, usize), BerRefusal>
+    requires { length octets.now ≤ end }
+    ensures { Answers octets.now
+        (members (reading depth behind end) (stop_at value behind end) (length octets.now) octets.now) result }
 {
     let mut items = Vec::new(alloc);
     let mut at = 0;
-    while at < contents.len() {
-        match read_within(alloc, &contents[at..], depth)? {
-            None => return Ok(None),
-            Some((tree, size)) => {
-                items.push(tree)?;
-                at += size;
-            }
+    'values: loop {
+        if let Some(size) = stop_at(value, behind, end, &octets[at..])? {
+            return Ok((Trees { items }, at + size));
         }
+        let (tree, size) = read_value(alloc, &octets[at..], behind, end, depth)?;
+        items.push(tree)?;
+        at += size;
     }
-    Ok(Some(Trees { items }))
 }
 
-/// The tree that the front of the bytes spells, and how many bytes spell it; none where no front spells a tree
-/// with at most 32 constructed values inside one another. Each octet is looked at once, and contents octets are copied once.
-/// The only error is want of memory. X.690, sections 8.1.2 to 8.1.4.
-pub fn read_tree(alloc: Global, bytes: &[u8]) -> Result<Option<(Tree, usize)>, AllocError>
-    ensures read { IfOk result (λ found. tree_at most_depth bytes.now ≡ option_map (λ f. (f.0, drop f.1 bytes.now)) found) }
-    ensures within { IfOk result (λ found. IfSome found (λ f. (0 < f.1) × (f.1 ≤ length bytes.now))) }
+/// The tree that the front of the bytes spells, and how many bytes spell it; or the first fault, where no front spells
+/// a tree with at most 32 constructed values inside one another; or want of memory. The bytes are looked at once, from
+/// the first one on, and contents octets are copied once. X.690, sections 8.1.2 to 8.1.5.
+pub fn read_tree(alloc: Global, bytes: &[u8]) -> Result<(Tree, usize), BerRefusal>
+    // what is answered is so
+    ensures spells { IfOk result (IsFront bytes.now) }
+    ensures fault { IfErr result (IsCause bytes.now) }
+
+    // and what is so is answered
+    ensures spelt { (tree : TreeValue) (size : ℕ) → IsFront bytes.now (tree, size) → Gives result (Ok (tree, size)) }
+    ensures faulty { (at : ℕ) (kind : BerKind) → IsFirstFault bytes.now at kind → Gives result (Err (at, kind)) }
+
+    // the reading says the same
+    ensures read { Answers bytes.now (reading most_depth None (length bytes.now) bytes.now) result }
 {
-    read_within(alloc, bytes, MOST_DEPTH)
+    read_value(alloc, bytes, None, bytes.len(), MOST_DEPTH)
+}
+
+/// The tree that the front of the bytes spells, and how many bytes spell it, or none. The only error is want of memory.
+pub fn read_front_tree(alloc: Global, bytes: &[u8]) -> Result<Option<(Tree, usize)>, AllocError>
+    ensures read { IfOk result
+        (λ found. tree_at most_depth bytes.now ≡ option_map (λ f. (f.0, drop f.1 bytes.now)) found) }
+    ensures within { IfOk result (λ found. IfSome found (λ f. f.1 ≤ length bytes.now)) }
+{
+    match read_tree(alloc, bytes) {
+        Ok(found) => Ok(Some(found)),
+        Err(BerRefusal::Fault { .. }) => Ok(None),
+        Err(BerRefusal::Memory) => Err(AllocError),
+    }
 }
 
 /// The first nine bits of the octets are not all equal, so that no octet can be left out. X.690, section 8.3.2.
@@ -210,8 +278,8 @@ fn read_turned(octets: &[u8], negative: bool) -> u64
     value
 }
 
-/// The value of an INTEGER's contents octets, or none where they are not the least octets that hold a value of 64 bits in
-/// two's complement. X.690, section 8.3.
+/// The value of an INTEGER's contents octets, or none where they are not the least octets that hold a value of 64 bits
+/// in two's complement. X.690, section 8.3.
 pub fn read_integer_contents(octets: &[u8]) -> Option<i64>
     ensures found { IfSome result (λ value. octets.now ≡ integer_contents value) }
     ensures none { IfNone result
@@ -226,8 +294,8 @@ pub fn read_integer_contents(octets: &[u8]) -> Option<i64>
     Some(if negative { -1 - value } else { value })
 }
 
-/// How many octets stand up to the first one that says that no more follow, or none where these are more than five or all
-/// say that more follow.
+/// How many octets stand up to the first one that says that no more follow, or none where these are more than five or
+/// all say that more follow.
 fn subidentifier_size(octets: &[u8]) -> Option<usize>
     ensures found { IfSome result (IsSize octets.now) }
     ensures none { IfNone result
@@ -256,10 +324,11 @@ fn read_groups(octets: &[u8]) -> u64
     value
 }
 
-/// The subidentifier at the front, and how many octets spell it; none where it is cut off, takes more octets than hold it or
-/// is above 32 bits. X.690, section 8.19.2.
+/// The subidentifier at the front, and how many octets spell it; none where it is cut off, takes more octets than hold
+/// it or is above 32 bits. X.690, section 8.19.2.
 fn read_subidentifier(octets: &[u8]) -> Option<(u32, usize)>
-    ensures found { IfSome result (λ f. (f.1 ≤ length octets.now) × (0 < f.1) × (take f.1 octets.now ≡ subidentifier f.0)) }
+    ensures found { IfSome result
+        (λ f. (f.1 ≤ length octets.now) × (0 < f.1) × (take f.1 octets.now ≡ subidentifier f.0)) }
     ensures none { IfNone result
         ((n : ℕ) (rest : List ℕ) → n < 2 ^ 32 → octets.now ≡ subidentifier n ++ rest → ⊥) }
 {
@@ -288,8 +357,8 @@ fn first_arcs(number: u32) -> (u32, u32)
     }
 }
 
-/// The identifier whose contents octets these are, or none where they are those of no identifier of 2 to 64 arcs. The only
-/// error is want of memory. X.690, section 8.19.
+/// The identifier whose contents octets these are, or none where they are those of no identifier of 2 to 64 arcs. The
+/// only error is want of memory. X.690, section 8.19.
 pub fn read_oid_contents(alloc: Global, octets: &[u8]) -> Result<Option<Oid>, AllocError>
     ensures found { IfOk result (λ found. IfSome found (λ oid. octets.now ≡ oid_contents oid)) }
     ensures none { IfOk result (λ found. IfNone found
@@ -312,45 +381,4 @@ pub fn read_oid_contents(alloc: Global, octets: &[u8]) -> Result<Option<Oid>, Al
         }
     }
     Ok(Oid::from_arcs(arcs))
-}
-
-#[cfg(test)]
-mod tests {
-    use super::*;
-    use std::test::Fail;
-
-    #[test]
-    fn octets_give_the_trees_that_they_spell(rt: HostRuntime) -> Result<(), Fail> {
-        let alloc = rt.alloc();
-        let short = [0x30u8, 0x04, 0x02, 0x02, 0x00, 0x80, 0x05];
-        let (_, size) = read_tree(alloc, &short)?.ok_or("short")?;
-        assert_eq!(rt; size, 6);
-        let long = [0x02u8, 0x81, 0x02, 0x00, 0x80];
-        let (_, size) = read_tree(alloc, &long)?.ok_or("long")?;
-        assert_eq!(rt; size, 5);
-        assert!(rt; read_tree(alloc, &[0x02, 0x02, 0x00])?.is_none());
-        assert!(rt; read_tree(alloc, &[0x30, 0x80, 0x00, 0x00])?.is_none());
-        assert!(rt; read_tree(alloc, &[0x1F, 0x1F, 0x00])?.is_none());
-        assert!(rt; read_tree(alloc, &[0x00, 0x00])?.is_none());
-        Ok(())
-    }
-
-    #[test]
-    fn contents_octets_give_the_values(rt: HostRuntime) -> Result<(), Fail> {
-        assert_eq!(rt; read_integer_contents(&[0x00, 0x80]), Some(128));
-        assert_eq!(rt; read_integer_contents(&[0xFF, 0x7F]), Some(-129));
-        assert_eq!(rt; read_integer_contents(&[0x80]), Some(-128));
-        assert_eq!(rt;
-            read_integer_contents(&[0x80, 0, 0, 0, 0, 0, 0, 0]),
-            Some(i64::MIN)
-        );
-        assert_eq!(rt; read_integer_contents(&[0xFF, 0x80]), None);
-        assert_eq!(rt; read_integer_contents(&[0x00, 0x7F]), None);
-        assert_eq!(rt; read_integer_contents(&[]), None);
-        let oid = read_oid_contents(rt.alloc(), &[0x88, 0x37, 0x03])?.ok_or("oid")?;
-        assert_eq!(rt; oid.arcs(), [2, 999, 3].as_slice());
-        assert!(rt; read_oid_contents(rt.alloc(), &[0x80, 0x01])?.is_none());
-        assert!(rt; read_oid_contents(rt.alloc(), &[0x88])?.is_none());
-        Ok(())
-    }
 }

@@ -164,7 +164,7 @@ pub fn write_oid_contents(oid: &Oid, into: &mut Vec<u8>) -> Result<(), AllocErro
 }
 
 /// Turns the order of what stands behind the place `start`.
-fn reverse_from(start: usize, into: &mut Vec<u8>)
+pub fn reverse_from(start: usize, into: &mut Vec<u8>)
     requires { start ≤ length into.old.items }
     ensures { into.new.items ≡ take start into.old.items ++ reverse (drop start into.old.items) }
 {
@@ -172,7 +172,7 @@ fn reverse_from(start: usize, into: &mut Vec<u8>)
 }
 
 /// Appends the octets in their order from the back.
-fn write_backwards(octets: &[u8], into: &mut Vec<u8>) -> Result<(), AllocError>
+pub fn write_backwards(octets: &[u8], into: &mut Vec<u8>) -> Result<(), AllocError>
     ensures written { OnOk result (into.new.items ≡ into.old.items ++ reverse octets.now) }
     ensures begun { Extends into.old.items into.new.items }
 {
@@ -183,7 +183,7 @@ fn write_backwards(octets: &[u8], into: &mut Vec<u8>) -> Result<(), AllocError>
 }
 
 /// Appends the identifier and length octets of a value, the last one first.
-fn write_header_backwards(
+pub fn write_header_backwards(
     constructed: bool,
     tag: Tag,
     size: usize,
@@ -200,8 +200,8 @@ fn write_header_backwards(
     Ok(())
 }
 
-/// Appends the octets of a tree, the last one first: the contents stand there when their length is written, so no part of a
-/// tree is measured first, and each octet is moved three times at most.
+/// Appends the octets of a tree, the last one first: the contents stand there when their length is written, so no part
+/// of a tree is measured first, and each octet is moved three times at most.
 #[cycle(writing)]
 fn write_tree_backwards(tree: &Tree, into: &mut Vec<u8>) -> Result<(), AllocError>
     ensures written { OnOk result (into.new.items ≡ into.old.items ++ reverse (written tree.now)) }
@@ -235,8 +235,8 @@ fn write_trees_backwards(trees: &Trees, into: &mut Vec<u8>) -> Result<(), AllocE
     Ok(())
 }
 
-/// Appends the octets of a tree in their one form. The cost is linear in what is appended. The only error is want of memory,
-/// which leaves `into` as it was. X.690, sections 8.1.2, 8.1.3 and 10.1.
+/// Appends the octets of a tree in their one form. The cost is linear in what is appended. The only error is want of
+/// memory, which leaves `into` as it was. X.690, sections 8.1.2, 8.1.3 and 10.1.
 pub fn write_tree(tree: &Tree, into: &mut Vec<u8>) -> Result<(), AllocError>
     ensures written { OnOk result (into.new.items ≡ into.old.items ++ written tree.now) }
     ensures kept { OnErr result (into.new.items ≡ into.old.items) }
@@ -251,72 +251,5 @@ pub fn write_tree(tree: &Tree, into: &mut Vec<u8>) -> Result<(), AllocError>
             into.truncate(start);
             Err(fault)
         }
-    }
-}
-
-#[cfg(test)]
-mod tests {
-    use super::*;
-    use crate::tree_reading::read_tree;
-    use std::test::Fail;
-
-    #[test]
-    fn values_give_their_contents_octets(rt: HostRuntime) -> Result<(), Fail> {
-        let mut into = Vec::new(rt.alloc());
-        write_integer_contents(128, &mut into)?;
-        write_integer_contents(-129, &mut into)?;
-        write_integer_contents(0, &mut into)?;
-        write_integer_contents(-1, &mut into)?;
-        assert_eq!(rt;
-            into.as_slice(),
-            [0x00, 0x80, 0xFF, 0x7F, 0x00, 0xFF].as_slice()
-        );
-        into.clear();
-        write_integer_contents(i64::MIN, &mut into)?;
-        assert_eq!(rt; into.as_slice(), [0x80, 0, 0, 0, 0, 0, 0, 0].as_slice());
-        into.clear();
-        write_length(201, &mut into)?;
-        write_length(127, &mut into)?;
-        assert_eq!(rt; into.as_slice(), [0x81, 0xC9, 0x7F].as_slice());
-        into.clear();
-        write_identifier(
-            true,
-            Tag {
-                class: 2,
-                number: 3,
-            },
-            &mut into,
-        )?;
-        write_identifier(
-            false,
-            Tag {
-                class: 1,
-                number: 201,
-            },
-            &mut into,
-        )?;
-        assert_eq!(rt; into.as_slice(), [0xA3, 0x5F, 0x81, 0x49].as_slice());
-        into.clear();
-        let arcs = vec![in rt.alloc(); 2, 999, 3]?;
-        let oid = Oid::from_arcs(arcs).ok_or("arcs")?;
-        write_oid_contents(&oid, &mut into)?;
-        assert_eq!(rt; into.as_slice(), [0x88, 0x37, 0x03].as_slice());
-        Ok(())
-    }
-
-    #[test]
-    fn what_was_read_is_written_with_the_least_lengths(rt: HostRuntime) -> Result<(), Fail> {
-        let long = [
-            0x30u8, 0x82, 0x00, 0x09, 0x02, 0x02, 0x00, 0x80, 0x30, 0x81, 0x02, 0x05, 0x00,
-        ];
-        let (tree, size) = read_tree(rt.alloc(), &long)?.ok_or("long")?;
-        assert_eq!(rt; size, 13);
-        let mut into = vec![in rt.alloc(); 0xFFu8]?;
-        write_tree(&tree, &mut into)?;
-        let short = [
-            0xFFu8, 0x30, 0x08, 0x02, 0x02, 0x00, 0x80, 0x30, 0x02, 0x05, 0x00,
-        ];
-        assert_eq!(rt; into.as_slice(), short.as_slice());
-        Ok(())
     }
 }

@@ -11,7 +11,7 @@ ghost use Rattle.term_model.specs.GetRequest.{invocation_by, invocation_in, asse
 ghost use Rattle.term_model.specs.Parts.{contents_under, inside_under, integer_under, oid_under, one, one_under, three, three_under, two, two_under};
 ghost use Rattle.term_model.specs.RemoteOperation.{id_of, invoke_of};
 
-use ber_tree::tree_reading::{read_integer_contents, read_oid_contents, read_tree};
+use ber_tree::tree_reading::{read_front_tree, read_integer_contents, read_oid_contents};
 use ber_tree::tree_writing::write_tree;
 use op_object::object_reading::{GLOBAL_FORM, LOCAL_DISTINGUISHED_NAME};
 use std::alloc::{AllocError, Global};
@@ -106,7 +106,7 @@ fn three_of(tree: &Tree, tag: Tag) -> Option<(&Tree, &Tree, &Tree)>
 fn whole_tree(alloc: Global, bytes: &[u8]) -> Result<Option<Tree>, AllocError>
     ensures { IfOk result (λ tree. tree ≡ tree_in bytes.now) }
 {
-    match read_tree(alloc, bytes)? {
+    match read_front_tree(alloc, bytes)? {
         None => Ok(None),
         Some((tree, size)) => {
             if size == bytes.len() {

@@ -3,5 +3,3 @@
 
 pub mod apdu_reading;
 pub mod apdu_writing;
-#[cfg(test)]
-mod tests;

@@ -1,17 +1,17 @@
 -- What the records say of the parts of a document, and what the conditions say of its records.
-use Rattle.std.proofs.Common.{◌≡◌, ℕ, ◌≤◌, true, pos, List, [], ◌∷◌, All, Contains, codes, map, refl, sym, ap, ◌∙◌, subst}
+use Rattle.std.proofs.Common.{◌≡◌, ℕ, ◌≤◌, true, pos, List, [], ◌∷◌, All, Contains, map, refl, sym, ap, ◌∙◌, subst}
 use Rattle.std.specs.Prelude.{IsSome, find}
 use Rattle.std.specs.Option.{is_some, option_map, unwrap_or}
 use Rattle.std.proofs.lemmas.List.Elements.{All-cons, All-contains, All-head, All-map, All-tail, All-weaker}
-use Rattle.token_grammar.specs.TokenTests.{is_word_of}
-use Rattle.term_values.specs.Fits.{der}
+use Rattle.term_values.specs.Syntaxes.TypeSyntax.{Integer}
 use Rattle.term_values.specs.Typed.TypedValue.{Int}
+use Rattle.term_values.specs.Written.{der}
 use Rattle.term_model.specs.declared.object.Attribute.{Attribute}
+use Rattle.term_model.specs.declared.packages.Property.{Property}
 use Rattle.term_model.specs.declared.schema.AttrRec.{AttrRec}
 use Rattle.term_model.specs.declared.name.Rdn.{Rdn}
 use Rattle.term_model.specs.declared.schema.ClassRec.{ClassRec}
 use Rattle.term_model.specs.declared.schema.InstRec.{InstRec}
-use Rattle.term_model.specs.declared.schema.Property.{Property}
 use Rattle.term_model.specs.declared.schema.Set.{Set}
 use Rattle.term_model.specs.Comparing.{is_same_octets}
 use Rattle.term_model.specs.WellFormedMib.{most_object}
@@ -22,7 +22,7 @@ use Rattle.first_document.specs.declared.parts.GivenValue.{GivenValue}
 use Rattle.first_document.specs.Contents.{AttributeContents, DocumentContents, attribute_contents, document_contents}
 use Rattle.first_document.specs.FirstDocument.{AreArcs, AreDistinct, HasType, IsConsistent, attribute_arcs, attribute_labels}
 use Rattle.first_document.specs.Gathering.{GivesEach, HasArcs, Identifiers, IsGivable, IsIndex, IsKnown, attribute_under, found_under, given_texts, identifier_under, part_record, property_under, record_ids, record_labels, size_of, use_labels}
-use Rattle.first_document.specs.Records.{arcs_of, attribute_record, by_rising_identifier, class_record, given_attribute, identifier_of, labelled, number_of, property_record, records_of, root_attributes, root_record, system_name}
+use Rattle.first_document.specs.Records.{arcs_of, attribute_record, by_rising_identifier, class_of, class_record, given_attribute, identifier_of, labelled, number_of, property_of, property_record, records_of, root_attributes, root_record, system_name}
 use Rattle.first_document.proofs.Labelled.{among_labels, found, id_of, index_of, map-map, some_map, unwrap_map}
 use Rattle.first_document.proofs.Loops.{All-unmap}
 
@@ -76,7 +76,7 @@ map_same f g same [] = refl
 map_same f g same (x ∷ xs) = ap (λ y. y ∷ map f xs) (same x) ∙ ap (λ l. g x ∷ l) (map_same f g same xs)
 
 property_at : AttributeUse → List ℕ → Property
-property_at one id = record { attribute = id; get = true; replace = is_word_of (codes "GET-REPLACE") one.access }
+property_at one id = property_of id one
 
 attribute_at : GivenValue → List ℕ → Attribute
 attribute_at one id = record { id = id; value = Int (pos (number_of one.number)) }
@@ -139,10 +139,14 @@ all_givable parts identifiers index consistent =
       below = consistent.values k d within;
     }
 
-pub root_small : (parts : DocumentParts) (identifiers : Identifiers) → IsOf parts identifiers → IsConsistent (contents parts)
-    → size_of (by_rising_identifier (map (attribute_under identifiers) (all_given parts))) ≤ most_object
-root_small parts identifiers index consistent =
-    subst (λ l. size_of (by_rising_identifier l) ≤ most_object) (sym (attributes_are parts identifiers index)) consistent.small
+pub root_small : (parts : DocumentParts) (records : List AttrRec) (identifiers : Identifiers)
+    → records ≡ map part_record parts.attributes.items → IsOf parts identifiers → IsConsistent (contents parts)
+    → size_of records (by_rising_identifier (map (attribute_under identifiers) (all_given parts))) ≤ most_object
+root_small parts records identifiers e index consistent =
+    subst (λ rs. size_of rs (by_rising_identifier (map (attribute_under identifiers) (all_given parts))) ≤ most_object)
+    (sym (e ∙ records_are parts))
+    (subst (λ l. size_of (map attribute_record (attributes_of parts)) (by_rising_identifier l) ≤ most_object)
+    (sym (attributes_are parts identifiers index)) consistent.small)
 
 -- ---- to the conditions
 
@@ -158,7 +162,7 @@ pub consistent : (parts : DocumentParts) (records : List AttrRec) (id : List ℕ
     → AreDistinct (use_labels parts.class.uses.items)
     → GivesEach (use_labels parts.class.uses.items) (given_texts (all_given parts))
     → All (IsGivable identifiers) (all_given parts)
-    → size_of (by_rising_identifier (map (attribute_under identifiers) (all_given parts))) ≤ most_object
+    → size_of records (by_rising_identifier (map (attribute_under identifiers) (all_given parts))) ≤ most_object
     → IsConsistent (contents parts)
 consistent parts records id identifiers e class index types named arcs class_arcs labels ids known used given givable small =
     let document = contents parts in
@@ -182,29 +186,55 @@ consistent parts records id identifiers e class index types named arcs class_arc
       given_each = given.used_given;
       given_once = given.once;
       values = λ k d within. (givable k d within).below;
-      small = subst (λ l. size_of (by_rising_identifier l) ≤ most_object) (attributes_are parts identifiers index) small;
+      small =
+          subst (λ l. size_of (map attribute_record (attributes_of parts)) (by_rising_identifier l) ≤ most_object)
+          (attributes_are parts identifiers index)
+          (subst (λ rs. size_of rs (by_rising_identifier (map (attribute_under identifiers) (all_given parts))) ≤ most_object)
+          (e ∙ records_are parts) small);
     }
 
 -- ---- the records
 
-pub class_is : (parts : DocumentParts) (class : ClassRec) → class.id ≡ arcs_of parts.class.arcs.items → class.label ≡ parts.class.label.text
-    → class.properties ≡ map (property_record (attributes_of parts)) parts.class.uses.items → class ≡ class_record (contents parts)
-class_is parts class id label properties = λ i. record { id = id i; label = label i; properties = properties i }
+pub class_is : (parts : DocumentParts) (id : List ℕ) (properties : List Property) → id ≡ arcs_of parts.class.arcs.items
+    → properties ≡ map (property_record (attributes_of parts)) parts.class.uses.items
+    → class_of id parts.class.label.text parts.class.package.text properties ≡ class_record (contents parts)
+class_is parts id properties e same = λ i. class_of (e i) parts.class.label.text parts.class.package.text (same i)
 
-pub root_is : (parts : DocumentParts) (identifiers : Identifiers) → IsOf parts identifiers → (root : InstRec) → root.class ≡ arcs_of parts.class.arcs.items → root.name ≡ []
-    → root.given ≡ by_rising_identifier (map (attribute_under identifiers) (all_given parts)) → root ≡ root_record (contents parts)
-root_is parts identifiers index root class name given =
-    let attributes : root.given ≡ root_attributes (contents parts) = given ∙ ap by_rising_identifier (attributes_are parts identifiers index) in
-    λ i. record { class = class i; name = name i; given = attributes i }
+-- the record of a root of this class with these values
+abbrev pub rooted : List ℕ → List Attribute → InstRec
+rooted class given = record { root = true; class = class; name = []; given = given; chosen = [] }
+
+pub root_is : (parts : DocumentParts) (identifiers : Identifiers) → IsOf parts identifiers → (class : List ℕ)
+    → class ≡ arcs_of parts.class.arcs.items
+    → rooted class (by_rising_identifier (map (attribute_under identifiers) (all_given parts))) ≡ root_record (contents parts)
+root_is parts identifiers index class e =
+    let given = ap by_rising_identifier (attributes_are parts identifiers index) in
+    λ i. rooted (e i) (given i)
 
 pub system_is : (parts : DocumentParts) (identifiers : Identifiers) → IsOf parts identifiers → (system : List Rdn)
-    → system ≡ record { attribute = identifier_under identifiers parts.root.named_by.label.text; value = der (Int (pos (number_of parts.root.named_by.number))) } ∷ []
+    → system ≡ record { attribute = identifier_under identifiers parts.root.named_by.label.text; value = der (Integer [] []) (Int (pos (number_of parts.root.named_by.number))) } ∷ []
     → system ≡ system_name (contents parts)
 system_is parts identifiers index system e =
     let id = ids_under parts identifiers index parts.root.named_by.label.text in
-    e ∙ (λ i. record { attribute = id i; value = der (Int (pos (number_of parts.root.named_by.number))) } ∷ [])
+    e ∙ (λ i. record { attribute = id i; value = der (Integer [] []) (Int (pos (number_of parts.root.named_by.number))) } ∷ [])
 
-pub schema_is : (parts : DocumentParts) (schema : Set) → schema.classes ≡ class_record (contents parts) ∷ [] → schema.attributes ≡ map attribute_record (attributes_of parts)
-    → schema.instances ≡ root_record (contents parts) ∷ [] → schema.system ≡ system_name (contents parts) → schema ≡ records_of (contents parts)
-schema_is parts schema classes attributes instances system =
-    λ i. record { classes = classes i; attributes = attributes i; instances = instances i; system = system i }
+-- the schema with these records and no others
+abbrev pub schema_with : List ClassRec → List AttrRec → List InstRec → List Rdn → Set
+schema_with classes attributes instances system = record {
+  classes = classes;
+  attributes = attributes;
+  groups = [];
+  bindings = [];
+  actions = [];
+  notifications = [];
+  rules = [];
+  instances = instances;
+  system = system;
+}
+
+pub schema_is : (parts : DocumentParts) (classes : List ClassRec) (attributes : List AttrRec) (instances : List InstRec)
+    (system : List Rdn) → classes ≡ class_record (contents parts) ∷ []
+    → attributes ≡ map attribute_record (attributes_of parts) → instances ≡ root_record (contents parts) ∷ []
+    → system ≡ system_name (contents parts)
+    → schema_with classes attributes instances system ≡ records_of (contents parts)
+schema_is parts classes attributes instances system a b c e = λ i. schema_with (a i) (b i) (c i) (e i)

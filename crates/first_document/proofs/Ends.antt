@@ -1,6 +1,6 @@
 -- Which tokens the ends of lists and of optional parts are apart from.
 use Rattle.std.proofs.Common.{◌≡◌, ℕ, Bool, true, false, ◌||◌, List, [], ◌∷◌, refl, codes}
-use Rattle.text_lex.specs.declared.token.Token.{Token}
+use Rattle.token_grammar.specs.declared.token.Token.{Token}
 use Rattle.token_grammar.specs.Form.{Marks}
 use Rattle.token_grammar.specs.TokenTests.{is_word_of, is_sign_of, is_number}
 use Rattle.token_grammar.proofs.Heads.{starts, unknown, heads_unknown}

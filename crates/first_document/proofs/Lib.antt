@@ -5,6 +5,7 @@ pub mod IndexLaws
 pub mod LabelLaws
 pub mod Labelled
 pub mod Loops
+pub mod OneClass
 pub mod OneTree
 pub mod RecordFacts
 pub mod Repeats

@@ -1,7 +1,7 @@
 -- A tree has one value: parts with one tree have the same contents.
 use Rattle.std.proofs.Common.{◌≡◌, Bool, true, false, List, [], ◌∷◌, ◌++◌, map, refl, sym, ◌∙◌, ap, append_assoc}
 use Rattle.std.proofs.lemmas.List.{append-nil}
-use Rattle.text_lex.specs.declared.token.Token.{Token}
+use Rattle.token_grammar.specs.declared.token.Token.{Token}
 use Rattle.token_grammar.specs.Form.{Tree, Leaf, Pair, Empty, After}
 use Rattle.token_grammar.specs.Parts.{list_tree}
 use Rattle.first_document.specs.declared.parts.ModulePart.{ModulePart}

@@ -1,12 +1,14 @@
 -- The records of a document of an element with a load, computed: docs/PROFILE.md, section 6.
-use Rattle.std.proofs.Common.{◌≡◌, ℕ, true, false, pos, List, [], ◌∷◌, refl, codes}
-use Rattle.text_lex.specs.declared.token.Token.{Token}
-use Rattle.text_lex.specs.declared.token.TheConstants.{WORD, NUMBER}
+use Rattle.std.proofs.Common.{◌≡◌, ℕ, true, false, pos, None, List, [], ◌∷◌, refl, codes}
+use Rattle.token_grammar.specs.declared.token.Token.{Token}
+use Rattle.token_grammar.specs.declared.token.TheConstants.{WORD, NUMBER}
 use Rattle.token_grammar.proofs.Known.{token_of}
 use Rattle.term_values.specs.Der.{identifier_octets, length_octets}
 use Rattle.term_values.specs.Octets.{integer_contents}
-use Rattle.term_values.specs.Typed.TypeSyntax.{Integer}
+use Rattle.term_values.specs.Syntaxes.TypeSyntax.{Integer}
 use Rattle.term_values.specs.Typed.TypedValue.{Int}
+use Rattle.term_values.specs.declared.rules.Rules.{Rules}
+use Rattle.term_model.specs.declared.packages.Property.{Property}
 use Rattle.term_model.specs.declared.schema.Set.{Set}
 use Rattle.first_document.specs.declared.parts.AttributeUse.{AttributeUse}
 use Rattle.first_document.specs.declared.parts.GivenValue.{GivenValue}
@@ -53,21 +55,59 @@ element_id = 2 ∷ 999 ∷ 7 ∷ 1 ∷ []
 abbrev load : List ℕ
 load = 2 ∷ 999 ∷ 7 ∷ 2 ∷ []
 
+-- elementId with GET, load with GET-REPLACE
+abbrev id_property : Property
+id_property = record {
+  attribute = element_id;
+  get = true;
+  replace = false;
+  add = false;
+  remove = false;
+  set_to_default = false;
+  default = None;
+  initial = None;
+  permitted = [];
+  required = [];
+}
+
+abbrev load_property : Property
+load_property = record id_property { attribute = load; replace = true }
+
+abbrev ordered : Rules
+ordered = record { equality = true; ordering = true; substrings = false; comparison = false; intersection = false }
+
 abbrev element_records : Set
 element_records = record {
   classes = record {
     id = 2 ∷ 999 ∷ 3 ∷ 1 ∷ [];
     label = codes "element";
-    properties = record { attribute = element_id; get = true; replace = false } ∷ record { attribute = load; get = true; replace = true } ∷ [];
+    superclasses = [];
+    mandatory = record {
+      id = None;
+      label = codes "elementPackage";
+      attributes = id_property ∷ load_property ∷ [];
+      groups = [];
+      actions = [];
+      notifications = [];
+    } ∷ [];
+    conditional = [];
+    properties = id_property ∷ load_property ∷ [];
   } ∷ [];
   attributes =
-      record { id = element_id; label = codes "elementId"; syntax = Integer; rules = record { equality = true; ordering = true; substrings = false; comparison = false; intersection = false } }
-      ∷ record { id = load; label = codes "load"; syntax = Integer; rules = record { equality = true; ordering = true; substrings = false; comparison = false; intersection = false } }
+      record { id = element_id; label = codes "elementId"; syntax = Integer [] []; rules = ordered }
+      ∷ record { id = load; label = codes "load"; syntax = Integer [] []; rules = ordered }
       ∷ [];
+  groups = [];
+  bindings = [];
+  actions = [];
+  notifications = [];
+  rules = [];
   instances = record {
+    root = true;
     class = 2 ∷ 999 ∷ 3 ∷ 1 ∷ [];
     name = [];
     given = record { id = element_id; value = Int (pos 1) } ∷ record { id = load; value = Int (pos 7) } ∷ [];
+    chosen = [];
   } ∷ [];
   system = record { attribute = load; value = 0x02 ∷ 0x01 ∷ 0x07 ∷ [] } ∷ [];
 }

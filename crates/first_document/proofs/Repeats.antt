@@ -1,7 +1,7 @@
 -- Laws on a repeat and on what stands behind it, where both begin alike: where one of the two comes, the
 -- other stops no further.
 use Rattle.std.proofs.Common.{◌≡◌, ℕ, ◌≤◌, List, ◌⊎◌, inl, inr, ap, subst}
-use Rattle.text_lex.specs.declared.token.Token.{Token}
+use Rattle.token_grammar.specs.declared.token.Token.{Token}
 use Rattle.token_grammar.specs.Form.{Form, Tree, Then, Many, Pair, After}
 use Rattle.token_grammar.specs.Spelling as S
 use Rattle.token_grammar.specs.Spelling.{At, Spells}

@@ -1,7 +1,7 @@
 -- Examples of the definitions, computed: docs/PROFILE.md, section 6.
 use Rattle.std.proofs.Common.{◌≡◌, ℕ, true, false, List, [], ◌∷◌, refl, codes}
-use Rattle.text_lex.specs.declared.token.Token.{Token}
-use Rattle.text_lex.specs.declared.token.TheConstants.{WORD, NUMBER, SIGN}
+use Rattle.token_grammar.specs.declared.token.Token.{Token}
+use Rattle.token_grammar.specs.declared.token.TheConstants.{WORD, NUMBER, SIGN}
 use Rattle.token_grammar.specs.Form.{Maybe}
 use Rattle.token_grammar.specs.Spelling as S
 use Rattle.token_grammar.specs.Spelling.{At, Spells}

@@ -1,7 +1,7 @@
 -- Laws on attributes and the class behind them, which both begin with a label: the word behind it parts
 -- them.
 use Rattle.std.proofs.Common.{◌≡◌, ℕ, ◌+◌, ◌≤◌, ◌<◌, Bool, true, false, List, [], ◌∷◌, ◌++◌, refl, sym, ◌∙◌, ap, subst, arith, slice_get, length, codes}
-use Rattle.text_lex.specs.declared.token.Token.{Token}
+use Rattle.token_grammar.specs.declared.token.Token.{Token}
 use Rattle.token_grammar.specs.Form.{Tree, Then, Maybe, Empty}
 use Rattle.token_grammar.specs.Spelling.{passes}
 use Rattle.token_grammar.specs.Beginning as B

@@ -1,7 +1,7 @@
 -- Contents: a document's parts with lists in place of vectors, of which a tree has one value
 -- (docs/PROFILE.md, section 6).
 use Rattle.std.specs.Prelude.{◌≡◌, Bool, List, map}
-use Rattle.text_lex.specs.declared.token.Token.{Token}
+use Rattle.token_grammar.specs.declared.token.Token.{Token}
 use Rattle.first_document.specs.declared.parts.ModulePart.{ModulePart}
 use Rattle.first_document.specs.declared.parts.AttributePart.{AttributePart}
 use Rattle.first_document.specs.declared.parts.AttributeUse.{AttributeUse}

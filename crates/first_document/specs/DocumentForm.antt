@@ -1,7 +1,7 @@
 -- DocumentForm: the form of a document with a module, attributes, a class and the root's instance
 -- (docs/PROFILE.md, section 6; X.722, sections 8.3, 8.4 and 8.7; X.680, sections 13, 16 and 19).
 use Rattle.std.specs.Prelude.{ℕ, Bool, false, List, [], ◌∷◌, ◌||◌, codes}
-use Rattle.text_lex.specs.declared.token.Token.{Token}
+use Rattle.token_grammar.specs.declared.token.Token.{Token}
 use Rattle.token_grammar.specs.Form.{Form, Tree, Marks, Keep, Then, Maybe, Listed, Many, Empty}
 use Rattle.token_grammar.specs.TokenTests.{is_word_of, is_sign_of, is_one_of, is_label, is_word, is_number}
 use Rattle.token_grammar.specs.Parts.{words, sign}

@@ -1,7 +1,7 @@
 -- FirstDocument: which tokens are a document in the first form, and the records that it defines: docs/PROFILE.md, section 6.
 use Rattle.std.specs.Prelude.{◌≡◌, ◌≢◌, ◌≤◌, ◌<◌, ◌^◌, ℕ, List, ◌∷◌, All, AllPairs, Contains, IsTrue, length, map}
 use Rattle.std.specs.Str.Parse.{IsNumeral}
-use Rattle.text_lex.specs.declared.token.Token.{Token}
+use Rattle.token_grammar.specs.declared.token.Token.{Token}
 use Rattle.token_grammar.specs.Spelling.{Spells}
 use Rattle.term_values.specs.Oid.{is_oid}
 use Rattle.term_model.specs.declared.schema.Set.{Set}
@@ -15,7 +15,7 @@ use Rattle.first_document.specs.declared.parts.ModulePart.{ModulePart}
 use Rattle.first_document.specs.Contents.{AttributeContents, DocumentContents, document_contents}
 use Rattle.first_document.specs.DocumentForm.{document_form, no_names}
 use Rattle.first_document.specs.DocumentTree.{document_tree}
-use Rattle.first_document.specs.Records.{arcs_of, given_values, number_of, records_of, root_record}
+use Rattle.first_document.specs.Records.{arcs_of, attribute_record, given_values, number_of, records_of, root_record}
 
 -- digits of a number below the limit
 pub record IsNumberBelow (limit : ℕ) (token : Token) : Type 0 where
@@ -75,7 +75,9 @@ pub record IsConsistent (document : DocumentContents) : Type 0 where
   pub given_once : AreDistinct (given_labels document)
   pub values : All (λ (one : GivenValue). IsNumberBelow (2 ^ 63) one.number) (given_values document.root)
   -- the root, as its attributes in SET OF Attribute
-  pub small : length (object_octets (opened_object (root_record document)).object) ≤ most_object
+  pub small :
+      length (object_octets (map attribute_record document.attributes) (opened_object (root_record document)).object)
+      ≤ most_object
 
 -- the tokens spell these parts, and nothing stands behind them
 abbrev pub SpellsDocument : List Token → DocumentParts → Type 0

@@ -1,19 +1,19 @@
 -- Gathering: identifiers by label, and what is gathered by them from the parts of a document (docs/PROFILE.md, section 6).
-use Rattle.std.specs.Prelude.{◌≡◌, ◌^◌, ℕ, ℤ, pos, true, false, not, ◌&&◌, ◌||◌, List, [], ◌∷◌, Option, IsSome, None, All, Contains, codes, find, length, map}
+use Rattle.std.specs.Prelude.{◌≡◌, ◌^◌, ℕ, ℤ, pos, true, false, not, ◌&&◌, ◌||◌, List, [], ◌∷◌, Option, IsSome, None, All, Contains, find, length, map}
 use Rattle.std.specs.BTreeMap.{BTreeMap, get}
 use Rattle.std.specs.BTreeSet.{BTreeSet, contains}
 use Rattle.std.specs.Cmp.Lexicographic.{slice_cmp}
 use Rattle.std.specs.List.{list_any}
 use Rattle.std.specs.Option.{option_map, unwrap_or}
 use Rattle.std.specs.Ordering.{nat_cmp}
-use Rattle.token_grammar.specs.TokenTests.{is_word_of}
-use Rattle.term_values.specs.Fits.{der}
+use Rattle.term_values.specs.Syntaxes.TypeSyntax.{Integer}
 use Rattle.term_values.specs.Typed.TypedValue.{Int}
+use Rattle.term_values.specs.Written.{der}
 use Rattle.term_model.specs.declared.name.Rdn.{Rdn}
 use Rattle.term_model.specs.declared.object.Attribute.{Attribute}
 use Rattle.term_model.specs.declared.object.Object.{Object}
+use Rattle.term_model.specs.declared.packages.Property.{Property}
 use Rattle.term_model.specs.declared.schema.AttrRec.{AttrRec}
-use Rattle.term_model.specs.declared.schema.Property.{Property}
 use Rattle.term_model.specs.Comparing.{is_same_octets}
 use Rattle.term_model.specs.ObjectOperation.{object_octets}
 use Rattle.first_document.specs.declared.parts.AttributePart.{AttributePart}
@@ -22,7 +22,7 @@ use Rattle.first_document.specs.declared.parts.GivenValue.{GivenValue}
 use Rattle.first_document.specs.declared.parts.RootPart.{RootPart}
 use Rattle.first_document.specs.Contents.{attribute_contents}
 use Rattle.first_document.specs.FirstDocument.{AreArcs, AreDistinct, IsNumberBelow}
-use Rattle.first_document.specs.Records.{attribute_record, by_rising_identifier, number_of}
+use Rattle.first_document.specs.Records.{attribute_record, by_rising_identifier, number_of, property_of}
 
 abbrev pub use_labels : List AttributeUse → List (List ℕ)
 use_labels uses = map (λ (one : AttributeUse). one.label.text) uses
@@ -85,11 +85,7 @@ abbrev pub IsKnown : Identifiers → AttributeUse → Type 0
 IsKnown identifiers one = IsSome (found_under identifiers one.label.text)
 
 abbrev pub property_under : Identifiers → AttributeUse → Property
-property_under identifiers one = record {
-  attribute = identifier_under identifiers one.label.text;
-  get = true;
-  replace = is_word_of (codes "GET-REPLACE") one.access;
-}
+property_under identifiers one = property_of (identifier_under identifiers one.label.text) one
 
 -- the label is that of an attribute, and the number is a value
 pub record IsGivable (identifiers : Identifiers) (one : GivenValue) : Type 0 where
@@ -105,7 +101,8 @@ attribute_under identifiers one = record {
 -- the name that a value gives
 abbrev pub name_under : Identifiers → GivenValue → Rdn
 name_under identifiers one =
-    record { attribute = identifier_under identifiers one.label.text; value = der (Int (pos (number_of one.number))) }
+    let value = der (Integer [] []) (Int (pos (number_of one.number))) in
+    record { attribute = identifier_under identifiers one.label.text; value = value }
 
 -- the values of AT and WITH
 abbrev pub all_given : RootPart → List GivenValue
@@ -119,8 +116,8 @@ attributes_by identifiers root = by_rising_identifier (map (attribute_under iden
 abbrev pub object_of : List Attribute → Object
 object_of attributes = record { class = []; binding = None; chosen = []; attrs = attributes }
 
-abbrev pub size_of : List Attribute → ℕ
-size_of attributes = length (object_octets (object_of attributes))
+abbrev pub size_of : List AttrRec → List Attribute → ℕ
+size_of records attributes = length (object_octets records (object_of attributes))
 
 -- the attribute that an entry stands for
 abbrev pub entry_attribute : List ℕ × ℤ → Attribute

@@ -1,8 +1,8 @@
 //! Documents in the first form: docs/PROFILE.md, section 6.
 
-ghost use Rattle.std.specs.Prelude.{◌≡◌, IfOk};
+ghost use Rattle.std.specs.Prelude.{◌≡◌, [], IfOk};
 ghost use Rattle.term_model.specs.declared.schema.Set.{Set};
-ghost use Rattle.term_model.specs.AgentState.{start};
+ghost use Rattle.term_model.specs.AgentState.{with_opened};
 ghost use Rattle.term_model.specs.WellFormedMib.{IsWellFormedMib};
 ghost use Rattle.first_document.specs.declared.parts.DocumentParts.{DocumentParts};
 ghost use Rattle.first_document.specs.Contents.{document_contents};
@@ -46,7 +46,7 @@ pub fn read_document(alloc: Global, tokens: &[Token]) -> Result<Set, DocumentRef
     ensures only { IfOk result (λ schema. (other : Set) → IsFirstDocument tokens.now other → other ≡ schema) }
 
     // The objects at the opening obey their templates.
-    ensures opening { IfOk result (λ schema. IsWellFormedMib schema (start schema).objects) }
+    ensures opening { IfOk result (λ schema. IsWellFormedMib schema (with_opened [] schema.instances)) }
 
     // Tokens outside the form are a document of no records.
     ensures outside { result ≡ Err DocumentRefusal.Outside → (schema : Set) → IsFirstDocument tokens.now schema → ⊥ }

@@ -10,8 +10,8 @@ use crate::numbers::read_identifier;
 use crate::parts::{AttributePart, ClassPart};
 use std::alloc::Global;
 use std::collections::{BTreeMap, BTreeSet};
-use term_model::{AttrRec, Rules};
-use term_values::{Bytes, Oid, Syntax, SyntaxForm};
+use term_model::AttrRec;
+use term_values::{Bytes, Oid, Rules, Syntax};
 use text_lex::Token;
 
 /// The identifiers of attributes by label.
@@ -34,9 +34,7 @@ fn attribute_record(alloc: Global, attribute: &AttributePart) -> Result<AttrRec,
     Ok(AttrRec {
         id,
         label,
-        syntax: Syntax {
-            form: SyntaxForm::Int,
-        },
+        syntax: Syntax::integer(alloc),
         rules,
     })
 }

@@ -18,8 +18,3 @@ pub use document::read_document;
 pub use document_refusal::DocumentRefusal;
 pub use parts::DocumentParts;
 pub use reading::read_parts;
-
-#[cfg(test)]
-mod record_tests;
-#[cfg(test)]
-mod tests;

@@ -1,21 +1,28 @@
 //! The records that the parts of a document define, where these keep the conditions of the first form: X.722, sections 8.3,
 //! 8.4 and 8.7; docs/PROFILE.md, section 6.
 
-ghost use Rattle.std.specs.Prelude.{◌≡◌, ◌↔◌, All, IfOk, IsTrue, OnOk, map};
+ghost use Rattle.std.specs.Prelude.{◌≡◌, ◌≤◌, ◌↔◌, [], ◌∷◌, All, IfOk, IsTrue, OnOk, map, true};
 ghost use Rattle.first_document.specs.declared.parts.AttributePart.{AttributePart};
 ghost use Rattle.first_document.specs.Contents.{attribute_contents, document_contents};
-ghost use Rattle.first_document.specs.FirstDocument.{HasType, IsConsistent};
-ghost use Rattle.first_document.specs.Gathering.{IsKnown, property_under};
-ghost use Rattle.first_document.specs.Records.{records_of};
+ghost use Rattle.first_document.specs.FirstDocument.{AreDistinct, HasType, IsConsistent};
+ghost use Rattle.first_document.specs.Gathering.{GivesEach, IsGivable, IsKnown, all_given, attributes_by, given_texts, property_under, size_of, use_labels};
+ghost use Rattle.first_document.specs.Records.{class_of, package_of, records_of};
+ghost use Rattle.term_model.specs.WellFormedMib.{most_object};
 
 use crate::document_refusal::DocumentRefusal;
 use crate::identifiers::{Identifiers, attribute_records, check_names, labelled};
 use crate::label_sets::{check_given, is_same_text, text_of, used_labels};
 use crate::numbers::read_identifier;
-use crate::parts::{AttributePart, AttributeUse, DocumentParts, ModulePart};
+use crate::parts::{AttributePart, AttributeUse, ClassPart, DocumentParts, ModulePart, RootPart};
 use crate::root_values::{root_record, system_name};
-use std::alloc::Global;
-use term_model::{AttrRecs, ClassRec, ClassRecs, InstRecs, Properties, Property, Set};
+use std::alloc::{AllocError, Global};
+use term_model::{
+    ActRecs, AttrRecs, BindRecs, ClassRec, ClassRecs, GroupRecs, GroupUses, InstRecs, Name,
+    NoteRecs, Oids, PackageRec, PackageRecs, Properties, Property, RuleRecs, Set, Syntaxes,
+    TypeNames,
+};
+use term_values::Oid;
+use text_lex::Token;
 use token_grammar::token_tests::is_word_of;
 
 /// The word of a use that lets managers replace the attribute's value.
@@ -56,6 +63,17 @@ fn property(
         attribute,
         get: true,
         replace: is_word_of(&one.access, GET_REPLACE),
+        add: false,
+        remove: false,
+        set_to_default: false,
+        default: None,
+        initial: None,
+        permitted: Syntaxes {
+            items: Vec::new(alloc),
+        },
+        required: TypeNames {
+            items: Vec::new(alloc),
+        },
     })
 }
 
@@ -77,6 +95,164 @@ fn properties(
     Ok(Properties { items })
 }
 
+/// The packages of the class, of which there is one with these properties.
+fn package_records(
+    alloc: Global,
+    label: &Token,
+    attributes: Properties,
+) -> Result<PackageRecs, AllocError>
+    ensures { IfOk result (λ made. made ≡ package_of label.now.text attributes ∷ []) }
+{
+    let label = text_of(alloc, label)?;
+    let mut items = Vec::new(alloc);
+    items.push(PackageRec {
+        id: None,
+        label,
+        attributes,
+        groups: GroupUses {
+            items: Vec::new(alloc),
+        },
+        actions: Oids {
+            items: Vec::new(alloc),
+        },
+        notifications: Oids {
+            items: Vec::new(alloc),
+        },
+    })?;
+    Ok(PackageRecs { items })
+}
+
+/// The record of the class. `Outside`: a label that it uses is no attribute's or stands twice, or AT and WITH do not give each
+/// of these labels once, or give another one.
+fn class_record(
+    alloc: Global,
+    identifiers: &Identifiers,
+    id: Oid,
+    labels: &ClassPart,
+    uses: &[AttributeUse],
+    root: &RootPart,
+) -> Result<ClassRec, DocumentRefusal>
+    ensures known { OnOk result (All (IsKnown identifiers.now) uses.now) }
+    ensures once { OnOk result (AreDistinct (use_labels uses.now)) }
+    ensures gives { OnOk result (GivesEach (use_labels uses.now) (given_texts (all_given root.now))) }
+    ensures found { IfOk result (λ made. made ≡ class_of id labels.now.label.text labels.now.package.text
+        (map (property_under identifiers.now) uses.now)) }
+    ensures outside { result ≡ Err DocumentRefusal.Outside → All (IsKnown identifiers.now) uses.now
+        → AreDistinct (use_labels uses.now) → GivesEach (use_labels uses.now) (given_texts (all_given root.now)) → ⊥ }
+{
+    let used = used_labels(alloc, uses)?;
+    check_given(alloc, used, root)?;
+    let joined = properties(alloc, identifiers, uses)?;
+    let attributes = properties(alloc, identifiers, uses)?;
+    let mandatory = package_records(alloc, &labels.package, attributes)?;
+    let label = text_of(alloc, &labels.label)?;
+    Ok(ClassRec {
+        id,
+        label,
+        superclasses: Oids {
+            items: Vec::new(alloc),
+        },
+        mandatory,
+        conditional: PackageRecs {
+            items: Vec::new(alloc),
+        },
+        properties: joined,
+    })
+}
+
+/// The records of the classes, of which there is one. `Outside`: as of its record.
+fn class_records(
+    alloc: Global,
+    identifiers: &Identifiers,
+    id: Oid,
+    labels: &ClassPart,
+    uses: &[AttributeUse],
+    root: &RootPart,
+) -> Result<ClassRecs, DocumentRefusal>
+    ensures known { OnOk result (All (IsKnown identifiers.now) uses.now) }
+    ensures once { OnOk result (AreDistinct (use_labels uses.now)) }
+    ensures gives { OnOk result (GivesEach (use_labels uses.now) (given_texts (all_given root.now))) }
+    ensures found { IfOk result (λ made. made ≡ class_of id labels.now.label.text labels.now.package.text
+        (map (property_under identifiers.now) uses.now) ∷ []) }
+    ensures outside { result ≡ Err DocumentRefusal.Outside → All (IsKnown identifiers.now) uses.now
+        → AreDistinct (use_labels uses.now) → GivesEach (use_labels uses.now) (given_texts (all_given root.now)) → ⊥ }
+{
+    let class = class_record(alloc, identifiers, id, labels, uses, root)?;
+    let mut items = Vec::new(alloc);
+    items.push(class)?;
+    Ok(ClassRecs { items })
+}
+
+/// The records of the instances, of which there is the root. `Outside`: as of its record.
+fn root_records(
+    alloc: Global,
+    identifiers: &Identifiers,
+    records: &AttrRecs,
+    class: &Oid,
+    root: &RootPart,
+) -> Result<InstRecs, DocumentRefusal>
+    ensures givable { OnOk result (All (IsGivable identifiers.now) (all_given root.now)) }
+    ensures small { OnOk result (size_of records.now (attributes_by identifiers.now root.now) ≤ most_object) }
+    ensures found { IfOk result (λ made. made ≡ record {
+      root = true;
+      class = class.now;
+      name = [];
+      given = attributes_by identifiers.now root.now;
+      chosen = [];
+    } ∷ []) }
+    ensures outside { result ≡ Err DocumentRefusal.Outside
+        → All (IsGivable identifiers.now) (all_given root.now)
+        → size_of records.now (attributes_by identifiers.now root.now) ≤ most_object → ⊥ }
+{
+    let sole = root_record(alloc, identifiers, records, class, root)?;
+    let mut items = Vec::new(alloc);
+    items.push(sole)?;
+    Ok(InstRecs { items })
+}
+
+/// The schema of these records, which has no others.
+fn schema_of(
+    alloc: Global,
+    classes: ClassRecs,
+    attributes: AttrRecs,
+    instances: InstRecs,
+    system: Name,
+) -> Set
+    ensures { result ≡ record {
+      classes = classes;
+      attributes = attributes;
+      groups = [];
+      bindings = [];
+      actions = [];
+      notifications = [];
+      rules = [];
+      instances = instances;
+      system = system;
+    } }
+{
+    Set {
+        classes,
+        attributes,
+        groups: GroupRecs {
+            items: Vec::new(alloc),
+        },
+        bindings: BindRecs {
+            items: Vec::new(alloc),
+        },
+        actions: ActRecs {
+            items: Vec::new(alloc),
+        },
+        notifications: NoteRecs {
+            items: Vec::new(alloc),
+        },
+        rules: RuleRecs {
+            items: Vec::new(alloc),
+        },
+        instances,
+        system,
+    }
+}
+
 /// The records that the parts of a document define. `Outside`: the parts break a condition of the first form.
 pub(crate) fn records_of(alloc: Global, parts: &DocumentParts) -> Result<Set, DocumentRefusal>
     ensures found { IfOk result (λ schema. IsConsistent (document_contents parts.now)
@@ -94,24 +270,16 @@ pub(crate) fn records_of(alloc: Global, parts: &DocumentParts) -> Result<Set, Do
     let attributes = attribute_records(alloc, &parts.attributes)?;
     let id = read_identifier(alloc, &parts.class.arcs)?;
     let identifiers = check_names(alloc, &parts.class, &id, &attributes)?;
-    let properties = properties(alloc, &identifiers, &parts.class.uses)?;
-    let labels = used_labels(alloc, &parts.class.uses)?;
-    check_given(alloc, labels, &parts.root)?;
-    let root = root_record(alloc, &identifiers, &id, &parts.root)?;
+    let records = AttrRecs { items: attributes };
+    let instances = root_records(alloc, &identifiers, &records, &id, &parts.root)?;
     let system = system_name(alloc, &identifiers, &parts.root.named_by)?;
-    let label = text_of(alloc, &parts.class.label)?;
-    let mut classes = Vec::new(alloc);
-    classes.push(ClassRec {
+    let classes = class_records(
+        alloc,
+        &identifiers,
         id,
-        label,
-        properties,
-    })?;
-    let mut instances = Vec::new(alloc);
-    instances.push(root)?;
-    Ok(Set {
-        classes: ClassRecs { items: classes },
-        attributes: AttrRecs { items: attributes },
-        instances: InstRecs { items: instances },
-        system,
-    })
+        &parts.class,
+        &parts.class.uses,
+        &parts.root,
+    )?;
+    Ok(schema_of(alloc, classes, records, instances, system))
 }

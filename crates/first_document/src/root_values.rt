@@ -1,6 +1,6 @@
 //! The root's record: X.720, section 5; docs/PROFILE.md, section 6.
 
-ghost use Rattle.std.specs.Prelude.{◌≡◌, ◌≤◌, ◌^◌, [], ◌∷◌, All, IfOk, OnOk, map, pos};
+ghost use Rattle.std.specs.Prelude.{◌≡◌, ◌≤◌, ◌^◌, [], ◌∷◌, All, IfOk, OnOk, map, pos, true};
 ghost use Rattle.std.specs.BTreeMap.{insert_entry};
 ghost use Rattle.std.specs.Cmp.Lexicographic.{slice_cmp};
 ghost use Rattle.std.specs.Ordering.{nat_cmp};
@@ -14,12 +14,13 @@ use crate::identifiers::{Identifiers, labelled};
 use crate::numbers::number_below;
 use crate::parts::{GivenValue, RootPart};
 use ber_tree::value_writing::write_value;
-use op_object::object_reading::{attribute_set, write_typed};
+use ber_values::encoding::encode_into;
+use op_object::object_reading::attribute_set;
 use std::alloc::{AllocError, Global};
 use std::collections::BTreeMap;
 use term_model::object::MOST_OBJECT;
-use term_model::{Attribute, Attrs, InstRec, Name, Rdn};
-use term_values::{Bytes, Oid, Tag, Value};
+use term_model::{AttrRecs, Attribute, Attrs, InstRec, Name, Oids, Rdn};
+use term_values::{Bytes, Oid, Syntax, Tag, Value};
 
 /// Values are below this number.
 const VALUES: u64 = 1 << 63;
@@ -86,11 +87,11 @@ fn root_attributes(
 }
 
 /// `Outside`: the attributes as SET OF Attribute have more octets than an object may have.
-fn check_size(alloc: Global, attrs: &Attrs) -> Result<(), DocumentRefusal>
-    ensures small { OnOk result (size_of attrs.now ≤ most_object) }
-    ensures outside { result ≡ Err DocumentRefusal.Outside → size_of attrs.now ≤ most_object → ⊥ }
+fn check_size(alloc: Global, records: &AttrRecs, attrs: &Attrs) -> Result<(), DocumentRefusal>
+    ensures small { OnOk result (size_of records.now attrs.now ≤ most_object) }
+    ensures outside { result ≡ Err DocumentRefusal.Outside → size_of records.now attrs.now ≤ most_object → ⊥ }
 {
-    let contents = attribute_set(alloc, attrs)?;
+    let contents = attribute_set(alloc, records, attrs)?;
     let mut whole = Vec::new(alloc);
     write_value(true, Tag::SET, &contents, &mut whole)?;
     if whole.as_slice().len() > MOST_OBJECT {
@@ -104,25 +105,34 @@ fn check_size(alloc: Global, attrs: &Attrs) -> Result<(), DocumentRefusal>
 pub(crate) fn root_record(
     alloc: Global,
     identifiers: &Identifiers,
+    records: &AttrRecs,
     class: &Oid,
     root: &RootPart,
 ) -> Result<InstRec, DocumentRefusal>
     ensures givable { OnOk result (All (IsGivable identifiers.now) (all_given root.now)) }
-    ensures class { IfOk result (λ made. made.class ≡ class.now) }
-    ensures name { IfOk result (λ made. made.name ≡ []) }
-    ensures given { IfOk result (λ made. made.given ≡ attributes_by identifiers.now root.now) }
-    ensures small { IfOk result (λ made. size_of made.given ≤ most_object) }
+    ensures made { IfOk result (λ made. made ≡ record {
+      root = true;
+      class = class.now;
+      name = [];
+      given = attributes_by identifiers.now root.now;
+      chosen = [];
+    }) }
+    ensures small { OnOk result (size_of records.now (attributes_by identifiers.now root.now) ≤ most_object) }
     ensures outside { result ≡ Err DocumentRefusal.Outside
         → All (IsGivable identifiers.now) (all_given root.now)
-        → size_of (attributes_by identifiers.now root.now) ≤ most_object → ⊥ }
+        → size_of records.now (attributes_by identifiers.now root.now) ≤ most_object → ⊥ }
 {
     let given = root_attributes(alloc, identifiers, root)?;
-    check_size(alloc, &given)?;
+    check_size(alloc, records, &given)?;
     let class = class.copy(alloc)?;
     Ok(InstRec {
+        root: true,
         class,
         name: Name::root(alloc),
         given,
+        chosen: Oids {
+            items: Vec::new(alloc),
+        },
     })
 }
 
@@ -139,7 +149,12 @@ pub(crate) fn system_name(
     let attribute = labelled(alloc, identifiers, &given.label)?;
     let number = given_number(given)?;
     let mut items = Vec::new(alloc);
-    write_typed(alloc, &Value::integer(number), &mut items)?;
+    encode_into(
+        alloc,
+        &Syntax::integer(alloc),
+        &Value::integer(number),
+        &mut items,
+    )?;
     let mut parts = Vec::new(alloc);
     parts.push(Rdn {
         attribute,

@@ -7,6 +7,3 @@ pub mod script_refusal;
 
 pub use script_form::{Script, read_script};
 pub use script_refusal::ScriptRefusal;
-
-#[cfg(test)]
-mod tests;

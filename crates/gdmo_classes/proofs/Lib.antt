@@ -1,11 +1,9 @@
 -- The lemmas of this crate.
-pub mod OpenParts
 pub mod OpenClauses
 pub mod PartEnds
 pub mod Values
 pub mod Modifiers
 pub mod Boxed
-pub mod Bindings
 pub mod UseValues
 pub mod TemplateValues
 pub mod SameUses

@@ -1,6 +1,6 @@
 -- Laws on the modifiers of the clauses CREATE and DELETE.
 use Rattle.std.proofs.Common.{◌≡◌, ℕ, Bool, true, false, ◌||◌, List, [], ◌∷◌, refl, codes}
-use Rattle.text_lex.specs.declared.token.Token.{Token}
+use Rattle.token_grammar.specs.declared.token.Token.{Token}
 use Rattle.token_grammar.specs.Spelling.{At}
 use Rattle.token_grammar.specs.TokenTests.{is_word_of, is_one_of}
 use Rattle.token_grammar.proofs.Heads.{at_wider}

@@ -1,21 +1,22 @@
 -- Laws on clauses in any order that are no clause's end by themselves: a clause may go on with a token with
 -- which no clause begins.
-use Rattle.std.proofs.Common.{◌≡◌, ◌≢◌, ℕ, zero, suc, ◌≤◌, Bool, true, false, ◌||◌, List, ◌⊎◌, inl, inr, refl, ◌∙◌, ap, subst, arith, slice_get}
-use Rattle.text_lex.specs.declared.token.Token.{Token}
-use Rattle.text_lex.specs.declared.syntax_refusal.SyntaxRefusal.{SyntaxRefusal}
+use Rattle.std.proofs.Common.{◌≡◌, ◌≢◌, ℕ, zero, suc, ◌≤◌, Bool, true, false, not, ◌||◌, ◌&&◌, List, Option, Some, is_none, is_some, option_map, Result, Ok, Err, ◌⊎◌, inl, inr, refl, sym, ◌∙◌, ap, subst, arith, slice_get}
+use Rattle.token_grammar.specs.declared.token.Token.{Token}
+use Rattle.token_grammar.specs.declared.syntax_refusal.SyntaxRefusal.{SyntaxRefusal}
 use Rattle.token_grammar.specs.Form.{Form, Tree, AnyOrder, Slots, Slot, NoSlots, form_at, is_open, filled}
 use Rattle.token_grammar.specs.Spelling as S
 use Rattle.token_grammar.specs.Spelling.{At, passes, Spells}
 use Rattle.token_grammar.specs.Beginning as B
 use Rattle.token_grammar.specs.Beginning.{Begins}
-use Rattle.token_grammar.specs.Turns.{Leads, IsTaken}
-use Rattle.token_grammar.specs.Outcome.{IsFault, IsSpelt, Fails}
+use Rattle.token_grammar.specs.Turns.{Leads, IsTaken, TakesClause, KeepsClause}
+use Rattle.token_grammar.specs.Outcome.{closed, IsFault, IsSpelt, Fails, Reads}
 use Rattle.token_grammar.proofs.Places.{spells_begins, spells_from, begins_from}
 use Rattle.token_grammar.proofs.Heads.{Firsts, Heads, skips, starts, opens, advances, at_wider}
-use Rattle.token_grammar.proofs.Sequences.{not_closed, spelt_order, fails_by}
+use Rattle.token_grammar.proofs.Sequences.{not_closed, spelt_order, spelt_wider, fails_by, fails_wider}
 use Rattle.token_grammar.proofs.Parts.{at_within}
-use Rattle.token_grammar.proofs.Clauses.{OthersStop, same_place, others_stop_by, opens_but}
-use Rattle.gdmo_classes.proofs.OpenParts.{Meets, meets_by}
+use Rattle.token_grammar.proofs.Clauses.{OthersStop, same_place, others_stop_by, opens_but, came_not, comes_here}
+use Rattle.token_grammar.proofs.ByWord.{clause_kept}
+use Rattle.token_grammar.proofs.OpenParts.{Meets, meets_by}
 
 opens_filled : (named : Firsts) (n : ℕ) (a : Tree) (s : Slots) (t : Token) → opens named (filled n a s) t ≡ opens named s t
 opens_filled named n a NoSlots t = refl
@@ -115,3 +116,28 @@ open_clause_taken {tokens} named heads on {p} n s {i} {j} meet full wide away st
 
 pub fails_open_clause : {tokens : List Token} {grammar : ℕ → Form} (named : Firsts) → Heads grammar named → {part : Token → Bool} (on : Token → Bool) {p : Token → Bool} (n : ℕ) (s : Slots) {i : ℕ} {e : SyntaxRefusal} → AllMeet tokens grammar part on s → ((t : Token) → p t ≡ true → on t ≡ true) → ((t : Token) → p t ≡ true → opens_but named n s t ≡ false) → is_open n s ≡ true → passes p (slice_get tokens i) ≡ true → Fails tokens grammar part (form_at n s) i e → Fails tokens grammar on (AnyOrder s) i e
 fails_open_clause named heads on n s meet wide away still comes r = fails_by (λ k one. open_clause_fault n s still (at_wider on wide (record { passed = comes })) meet one (others_stop_by named heads n s one.stops.order (record { passed = comes }) away)) r
+
+-- What a reader of a closed form answers, as of one that might have gone on.
+pub reads_wider : (tokens : List Token) (grammar : ℕ → Form) (on : Token → Bool) (f : Form) {X : Type 0}
+    (view : X → Tree) (i : ℕ) (read : Result (X × ℕ) SyntaxRefusal) → Reads tokens grammar closed f i view read →
+    Reads tokens grammar on f i view read
+reads_wider tokens grammar on f view i (Ok x) one = spelt_wider on one
+reads_wider tokens grammar on f view i (Err e) one = fails_wider on one
+
+-- The clause at n comes, which p tells from the others, and is kept: from what the code asked, whether the clause
+-- is still missing (b) and whether p is passed (w).
+pub open_clause_kept : (tokens : List Token) {grammar : ℕ → Form} (named : Firsts) → Heads grammar named →
+    (part on : Token → Bool) {p : Token → Bool} (n : ℕ) (s : Slots) {X : Type 0} (view : X → Tree)
+    (put : Option X → Slots) (o : Option X) (b : Bool) {w : Bool} (new : Option X) (i : ℕ)
+    (read : Result (X × ℕ) SyntaxRefusal) (answer : Result (Option ℕ) SyntaxRefusal) → is_open n s ≡ is_none
+    (option_map view o) → AllMeet tokens grammar part on s → skips named (form_at n s) ≡ false →
+    ((t : Token) → p t ≡ true → on t ≡ true) → ((t : Token) → p t ≡ true → opens_but named n s t ≡ false) →
+    ((x : X) → put (Some x) ≡ filled n (view x) s) → is_some o ≡ not b → w ≡ passes p (slice_get tokens i) → (b && w)
+    ≡ true → Reads tokens grammar part (form_at n s) i view read → KeepsClause read o new answer → TakesClause tokens
+    grammar on s (put new) i answer
+open_clause_kept tokens named heads part on n s view put o b {w} new i read answer mine meet full wide away fills
+    missing asked comes one kept =
+    clause_kept tokens part on n s view put o new i read answer fills
+    (λ j a spelt. open_clause_taken named heads on n s meet full wide away (mine ∙ came_not view o b w missing comes) (sym asked ∙ comes_here b w comes) spelt)
+    (λ e fault. fails_open_clause named heads on n s meet wide away (mine ∙ came_not view o b w missing comes) (sym asked ∙ comes_here b w comes) fault)
+    one kept

@@ -1,6 +1,6 @@
 -- Which parts are apart from the tokens with which the parts before them go on.
 use Rattle.std.proofs.Common.{◌≡◌, ℕ, Bool, true, false, not, ◌||◌, List, [], ◌∷◌, refl, codes}
-use Rattle.text_lex.specs.declared.token.Token.{Token}
+use Rattle.token_grammar.specs.declared.token.Token.{Token}
 use Rattle.token_grammar.specs.Form.{Form}
 use Rattle.token_grammar.specs.Spelling.{At}
 use Rattle.token_grammar.specs.TokenTests.{is_word_of, is_word, is_string, is_label}
@@ -19,7 +19,7 @@ use Rattle.gdmo_classes.specs.UseTrees.{properties_slots}
 use Rattle.gdmo_classes.specs.PackageTrees.{is_package_clause}
 use Rattle.gdmo_classes.specs.ClassTrees.{is_class_clause}
 use Rattle.gdmo_classes.specs.BindingTrees.{is_name_binding_clause}
-use Rattle.gdmo_classes.proofs.OpenParts.{Meets, meets_by}
+use Rattle.token_grammar.proofs.OpenParts.{Meets, meets_by}
 use Rattle.gdmo_classes.proofs.OpenClauses.{AllMeet, all_meet_by}
 
 -- what holds of words and of strings

@@ -1,7 +1,7 @@
 -- An example of a template, computed: X.722, section 8.3.
 use Rattle.std.proofs.Common.{List, [], ◌∷◌, refl, codes}
-use Rattle.text_lex.specs.declared.token.Token.{Token}
-use Rattle.text_lex.specs.declared.token.TheConstants.{WORD, NUMBER, SIGN}
+use Rattle.token_grammar.specs.declared.token.Token.{Token}
+use Rattle.token_grammar.specs.Kinds.{word_kind, number_kind, sign_kind}
 use Rattle.token_grammar.specs.Form.{Named, Bare, Leaf, Pair, First, Absent, Empty, After, Numbered}
 use Rattle.token_grammar.specs.Spelling.{Spells, no_marks, marks, keep, both, first, no_more, another, enough, named}
 use Rattle.token_grammar.proofs.Known.{token_of}
@@ -10,21 +10,22 @@ use Rattle.gdmo_members.specs.Templates.{templates}
 
 -- c MANAGED OBJECT CLASS REGISTERED AS {2 6};
 abbrev label : Token
-label = token_of WORD 0 (codes "c")
+label = token_of word_kind 0 (codes "c")
 
 abbrev brace : Token
-brace = token_of SIGN 37 (codes "{")
+brace = token_of sign_kind 37 (codes "{")
 
 abbrev first_number : Token
-first_number = token_of NUMBER 38 (codes "2")
+first_number = token_of number_kind 38 (codes "2")
 
 abbrev second_number : Token
-second_number = token_of NUMBER 40 (codes "6")
+second_number = token_of number_kind 40 (codes "6")
 
 abbrev small_class : List Token
-small_class = label ∷ token_of WORD 2 (codes "MANAGED") ∷ token_of WORD 10 (codes "OBJECT") ∷ token_of WORD 17 (codes "CLASS")
-    ∷ token_of WORD 23 (codes "REGISTERED") ∷ token_of WORD 34 (codes "AS")
-    ∷ brace ∷ first_number ∷ second_number ∷ token_of SIGN 41 (codes "}") ∷ token_of SIGN 42 (codes ";") ∷ []
+small_class = label ∷ token_of word_kind 2 (codes "MANAGED") ∷ token_of word_kind 10 (codes "OBJECT") ∷ token_of
+    word_kind 17 (codes "CLASS")
+    ∷ token_of word_kind 23 (codes "REGISTERED") ∷ token_of word_kind 34 (codes "AS")
+    ∷ brace ∷ first_number ∷ second_number ∷ token_of sign_kind 41 (codes "}") ∷ token_of sign_kind 42 (codes ";") ∷ []
 
 -- its label, the three clauses, of which none came, and its identifier
 class_example : Spells small_class templates (Named classes) 0 11

@@ -1,6 +1,6 @@
 -- Laws on the value of a property: the words DERIVATION RULE tell a rule from the name of a value.
 use Rattle.std.proofs.Common.{◌≡◌, ℕ, ◌+◌, ◌≤◌, Bool, true, false, ◌&&◌, List, [], ◌∷◌, Some, refl, slice_get, codes}
-use Rattle.text_lex.specs.declared.token.Token.{Token}
+use Rattle.token_grammar.specs.declared.token.Token.{Token}
 use Rattle.token_grammar.specs.Form.{Form, Then, Marks}
 use Rattle.token_grammar.specs.Spelling.{passes}
 use Rattle.token_grammar.specs.Beginning as B

@@ -1,6 +1,6 @@
 -- BindingTrees: what a name binding template says, and which of its clauses came (X.722, section 8.6).
 use Rattle.std.specs.Prelude.{Bool, true, false, [], ◌∷◌, Option, option_map, codes}
-use Rattle.text_lex.specs.declared.token.Token.{Token}
+use Rattle.token_grammar.specs.declared.token.Token.{Token}
 use Rattle.token_grammar.specs.Form.{Tree, Bare, Leaf, Pair, First, Second, Present, Slots, Slot, NoSlots}
 use Rattle.token_grammar.specs.TokenTests.{is_one_of}
 use Rattle.token_grammar.specs.Parts.{optional_tree, vector_tree}

@@ -1,12 +1,12 @@
 -- ClassForms: the parts of the forms of packages, classes and name bindings, and the form of a template of
 -- one of these (X.722, sections 8.3, 8.4 and 8.6), with the tokens with which their open parts go on.
 use Rattle.std.specs.Prelude.{ℕ, Bool, List, [], ◌∷◌, codes, not, ◌&&◌, ◌||◌}
-use Rattle.text_lex.specs.declared.token.Token.{Token}
-use Rattle.token_grammar.specs.Form.{Form, Marks, Keep, Then, Or, Maybe, Listed, Named, Empty}
+use Rattle.token_grammar.specs.declared.token.Token.{Token}
+use Rattle.token_grammar.specs.Form.{Form, Marks, Keep, Then, Or, Maybe, Listed, AnyOrder, Named, Empty}
 use Rattle.token_grammar.specs.TokenTests.{is_word_of, is_one_of, is_label, is_word, is_string}
 use Rattle.token_grammar.specs.Parts.{words, either, qualified_name}
 use Rattle.gdmo_members.specs.Clauses.{attributes, parameters, groups, actions, notifications, packages, classes, name_bindings, comma, clause, reference, references, reference_row}
-use Rattle.gdmo_members.specs.Templates.{property_value, valued, attribute_use, member_use, conditional_package, class_with_subclasses, create_modifiers, delete_modifier}
+use Rattle.gdmo_members.specs.Templates.{property_value, property_slots, valued, attribute_use, member_use, conditional_package, class_with_subclasses, create_modifiers, delete_modifier}
 
 -- a word in capitals
 abbrev pub is_keyword : Token → Bool
@@ -72,6 +72,14 @@ superclasses_clause = clause (codes "DERIVED" ∷ codes "FROM" ∷ []) (referenc
 
 abbrev pub packages_clause : Form
 packages_clause = clause (codes "CHARACTERIZED" ∷ codes "BY" ∷ []) (references packages)
+
+-- what stands behind an attribute in a package: its properties and its parameters
+abbrev pub use_parts : Form
+use_parts = Then (AnyOrder property_slots) (reference_row parameters)
+
+-- `PRESENT IF string`, which stands behind a package in this clause
+abbrev pub condition : Form
+condition = Then (Marks (words (codes "PRESENT" ∷ codes "IF" ∷ []))) (Keep is_string)
 
 abbrev pub conditional_clause : Form
 conditional_clause = clause (codes "CONDITIONAL" ∷ codes "PACKAGES" ∷ []) (Listed comma Empty conditional_package)

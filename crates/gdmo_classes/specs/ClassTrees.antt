@@ -3,7 +3,7 @@
 use Rattle.std.specs.Prelude.{Bool, false, [], ◌∷◌, Option, option_map, codes}
 use Rattle.std.specs.declared.alloc.Global.{Global}
 use Rattle.std.specs.declared.vec.Vec.{Vec}
-use Rattle.text_lex.specs.declared.token.Token.{Token}
+use Rattle.token_grammar.specs.declared.token.Token.{Token}
 use Rattle.token_grammar.specs.Form.{Tree, Bare, Pair, First, Second, Absent, Present, Empty, After, Slots, Slot, NoSlots}
 use Rattle.token_grammar.specs.TokenTests.{is_one_of}
 use Rattle.token_grammar.specs.Parts.{optional_tree, label_reference_tree, vector_tree}

@@ -1,6 +1,6 @@
 -- PackageTrees: what a package template says, and which of its clauses came (X.722, section 8.4).
 use Rattle.std.specs.Prelude.{Bool, false, [], ◌∷◌, option_map, codes}
-use Rattle.text_lex.specs.declared.token.Token.{Token}
+use Rattle.token_grammar.specs.declared.token.Token.{Token}
 use Rattle.token_grammar.specs.Form.{Tree, Bare, Leaf, Pair, First, Second, Slots, Slot, NoSlots, slots_tree}
 use Rattle.token_grammar.specs.TokenTests.{is_one_of}
 use Rattle.token_grammar.specs.Parts.{label_reference_tree, vector_tree}
@@ -35,6 +35,10 @@ is_package_clause = is_one_of (codes "BEHAVIOUR" ∷ codes "ATTRIBUTES" ∷ code
 abbrev pub package_reference_tree : PackageReference → Tree
 package_reference_tree (Label label) = First (label_reference_tree label)
 package_reference_tree (Template template) = Second (package_tree template)
+
+-- when some objects have a package
+abbrev pub condition_tree : Token → Tree
+condition_tree text = Pair Bare (Leaf text)
 
 -- a package that some objects have, and when they have it
 abbrev pub conditional_tree : ConditionalPackage → Tree

@@ -1,6 +1,8 @@
 -- UseTrees: what a package says of its attributes, attribute groups, actions and notifications (X.722,
 -- section 8.4).
-use Rattle.std.specs.Prelude.{false, option_map}
+use Rattle.std.specs.Prelude.{false, option_map, Vec}
+use Rattle.std.specs.declared.alloc.Global.{Global}
+use Rattle.gdmo_members.specs.declared.parameter.ParameterReference.{ParameterReference}
 use Rattle.token_grammar.specs.declared.qualified_name.QualifiedName.{QualifiedName}
 use Rattle.token_grammar.specs.Form.{Tree, Bare, Leaf, Pair, First, Second, Slots, Slot, NoSlots, slots_tree}
 use Rattle.token_grammar.specs.Parts.{label_reference_tree, qualified_name_tree, vector_tree}
@@ -67,6 +69,9 @@ properties_slots x = Slot false reset_property (option_map Leaf x.replace_with_d
 
 abbrev pub properties_tree : Properties → Tree
 properties_tree x = slots_tree (properties_slots x)
+
+abbrev pub use_parts_tree : Properties × Vec ParameterReference Global → Tree
+use_parts_tree x = Pair (properties_tree x.0) (vector_tree parameter_reference_tree x.1)
 
 abbrev pub attribute_use_tree : AttributeUse → Tree
 attribute_use_tree x = Pair (attribute_reference_tree x.attribute) (Pair (properties_tree x.properties) (vector_tree parameter_reference_tree x.parameters))

@@ -11,18 +11,22 @@ ghost use Rattle.gdmo_members.specs.Clauses.{classes, comma, reference, referenc
 ghost use Rattle.gdmo_members.specs.Templates.{templates, class_clauses, conditional_package};
 ghost use Rattle.gdmo_members.specs.Trees.{clause_tree, registered_ending_tree};
 ghost use Rattle.gdmo_members.specs.MemberTrees.{template_tree};
-ghost use Rattle.gdmo_classes.specs.ClassForms.{superclasses_clause, packages_clause, conditional_clause};
-ghost use Rattle.gdmo_classes.specs.PackageTrees.{package_reference_tree, conditional_tree};
+ghost use Rattle.gdmo_classes.specs.ClassForms.{superclasses_clause, packages_clause, condition, conditional_clause};
+ghost use Rattle.gdmo_classes.specs.PackageTrees.{package_reference_tree, condition_tree, conditional_tree};
 ghost use Rattle.gdmo_classes.specs.ClassTrees.{class_tree, class_slots, class_clauses_tree, is_class_clause, class_reference_tree};
 
 use super::package::{PackageReference, read_package_list, read_package_reference};
 use gdmo_members::registration::read_registered_ending;
 use std::alloc::Global;
-use text_lex::{SyntaxRefusal, Token};
+use token_grammar::clause_ending::end_clause;
+use token_grammar::clause_keeping::keep_clause;
 use token_grammar::label_reference::{LabelReference, read_label_reference};
 use token_grammar::object_identifier::ObjectIdentifier;
+use token_grammar::part_keeping::keep_part;
+use token_grammar::parts_beside::beside;
 use token_grammar::token_reading::{place_behind, read_label, read_string, skip_sign, skip_words};
 use token_grammar::token_tests::{is_template_at, is_word_at};
+use token_grammar::{SyntaxRefusal, Token};
 
 /// A package that some objects of a class have.
 #[derive(Drop)]
@@ -69,6 +73,18 @@ struct ClassClauses {
     conditional: Option<Vec<ConditionalPackage>>,
 }
 
+/// Reads `PRESENT IF string`.
+fn read_condition(
+    alloc: Global,
+    tokens: &[Token],
+    at: usize,
+) -> Result<(Token, usize), SyntaxRefusal>
+    ensures { Reads tokens.now templates closed condition at condition_tree result }
+{
+    let next = skip_words(tokens, at, &["PRESENT", "IF"])?;
+    read_string(alloc, tokens, next)
+}
+
 /// Reads a package and the string that says when it is present.
 fn read_conditional_package(
     alloc: Global,
@@ -78,8 +94,8 @@ fn read_conditional_package(
     ensures { Reads tokens.now templates closed conditional_package at conditional_tree result }
 {
     let (package, next) = read_package_reference(alloc, tokens, at)?;
-    let next = skip_words(tokens, next, &["PRESENT", "IF"])?;
-    let (condition, next) = read_string(alloc, tokens, next)?;
+    let (parts, next) = beside(package, read_condition(alloc, tokens, next))?;
+    let (package, condition) = parts;
     Ok((ConditionalPackage { package, condition }, next))
 }
 
@@ -94,8 +110,7 @@ fn read_conditional_list(
     let mut list = Vec::new(alloc);
     let mut next = at;
     'turns: loop {
-        let (part, behind) = read_conditional_package(alloc, tokens, next)?;
-        list.push(part)?;
+        let behind = keep_part(&mut list, read_conditional_package(alloc, tokens, next))?;
         let Some(place) = place_behind(tokens, behind, ",") else {
             return Ok((list, behind));
         };
@@ -114,9 +129,7 @@ fn read_conditional_clause(
     ensures { Reads tokens.now templates closed conditional_clause at (clause_tree (vector_tree conditional_tree)) result }
 {
     let next = skip_words(tokens, at, &["CONDITIONAL", "PACKAGES"])?;
-    let (list, next) = read_conditional_list(alloc, tokens, next)?;
-    let next = skip_sign(tokens, next, ";")?;
-    Ok((list, next))
+    end_clause(tokens, read_conditional_list(alloc, tokens, next))
 }
 
 /// Reads the clause `CHARACTERIZED BY ref, ..;`. It isn't inlined, so that its locals take no room while a
@@ -130,9 +143,7 @@ fn read_packages_clause(
     ensures { Reads tokens.now templates closed packages_clause at (clause_tree (vector_tree package_reference_tree)) result }
 {
     let next = skip_words(tokens, at, &["CHARACTERIZED", "BY"])?;
-    let (list, next) = read_package_list(alloc, tokens, next)?;
-    let next = skip_sign(tokens, next, ";")?;
-    Ok((list, next))
+    end_clause(tokens, read_package_list(alloc, tokens, next))
 }
 
 /// Reads a managed object class template from the place `at` on, and answers it with the place behind it.
@@ -280,21 +291,24 @@ fn read_class_clause(
 {
     let has_superclasses = clauses.superclasses.is_none() & is_word_at(tokens, at, "DERIVED");
     if has_superclasses {
-        let (superclasses, next) = read_superclasses_clause(alloc, tokens, at)?;
-        clauses.superclasses = Some(superclasses);
-        return Ok(Some(next));
+        return keep_clause(
+            &mut clauses.superclasses,
+            read_superclasses_clause(alloc, tokens, at),
+        );
     }
     let has_packages = clauses.packages.is_none() & is_word_at(tokens, at, "CHARACTERIZED");
     if has_packages {
-        let (packages, next) = read_packages_clause(alloc, tokens, at)?;
-        clauses.packages = Some(packages);
-        return Ok(Some(next));
+        return keep_clause(
+            &mut clauses.packages,
+            read_packages_clause(alloc, tokens, at),
+        );
     }
     let has_conditional = clauses.conditional.is_none() & is_word_at(tokens, at, "CONDITIONAL");
     if has_conditional {
-        let (conditional, next) = read_conditional_clause(alloc, tokens, at)?;
-        clauses.conditional = Some(conditional);
-        return Ok(Some(next));
+        return keep_clause(
+            &mut clauses.conditional,
+            read_conditional_clause(alloc, tokens, at),
+        );
     }
     Ok(None)
 }

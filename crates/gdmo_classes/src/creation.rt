@@ -14,9 +14,11 @@ ghost use Rattle.gdmo_classes.specs.BindingTrees.{further_tree, modifier_row_tre
 use super::rows::read_parameter_row;
 use gdmo_members::parameter::ParameterReference;
 use std::alloc::Global;
-use text_lex::{SyntaxRefusal, Token};
-use token_grammar::token_reading::{read_one_of, read_sign, skip_sign, skip_words};
+use token_grammar::clause_ending::end_clause;
+use token_grammar::parts_beside::beside;
+use token_grammar::token_reading::{read_one_of, read_sign, skip_words};
 use token_grammar::token_tests::{is_one_of_at, is_sign_at, is_sign_of, is_word_at, is_word_of};
+use token_grammar::{SyntaxRefusal, Token};
 
 /// The second create modifier.
 #[derive(Drop)]
@@ -214,7 +216,8 @@ fn read_creation(
     ensures { Reads tokens.now templates is_part_end creation at creation_tree result }
 {
     let (modifiers, next) = read_optional_create(alloc, tokens, at)?;
-    let (parameters, next) = read_parameter_row(alloc, tokens, next)?;
+    let (parts, next) = beside(modifiers, read_parameter_row(alloc, tokens, next))?;
+    let (modifiers, parameters) = parts;
     Ok((
         Creation {
             modifiers,
@@ -252,9 +255,7 @@ pub fn read_create_clause(
     ensures { Reads tokens.now templates closed create_clause at (clause_tree creation_tree) result }
 {
     let next = skip_words(tokens, at, &["CREATE"])?;
-    let (creation, next) = read_creation(alloc, tokens, next)?;
-    let next = skip_sign(tokens, next, ";")?;
-    Ok((creation, next))
+    end_clause(tokens, read_creation(alloc, tokens, next))
 }
 
 /// Reads the clause `DELETE [modifier] ref ..;`.
@@ -266,7 +267,5 @@ pub fn read_delete_clause(
     ensures { Reads tokens.now templates closed delete_clause at (clause_tree deletion_tree) result }
 {
     let next = skip_words(tokens, at, &["DELETE"])?;
-    let (deletion, next) = read_deletion(alloc, tokens, next)?;
-    let next = skip_sign(tokens, next, ";")?;
-    Ok((deletion, next))
+    end_clause(tokens, read_deletion(alloc, tokens, next))
 }

@@ -23,6 +23,3 @@ pub use package::{PackageReference, PackageTemplate};
 pub use properties::{Properties, PropertyValue};
 pub use references::{ActionReference, GroupReference, NotificationReference};
 pub use template::{ClassTemplate, read_template};
-
-#[cfg(test)]
-mod tests;

@@ -19,8 +19,11 @@ use super::rows::{read_attribute_row, read_parameter_row};
 use gdmo_members::attribute::AttributeReference;
 use gdmo_members::parameter::ParameterReference;
 use std::alloc::Global;
-use text_lex::{SyntaxRefusal, Token};
-use token_grammar::token_reading::{place_behind, skip_sign, skip_words};
+use token_grammar::clause_ending::end_clause;
+use token_grammar::part_keeping::keep_part;
+use token_grammar::parts_beside::beside;
+use token_grammar::token_reading::{place_behind, skip_words};
+use token_grammar::{SyntaxRefusal, Token};
 
 /// An attribute group of a package.
 #[derive(Drop)]
@@ -58,7 +61,8 @@ fn read_group_use(
     ensures { Reads tokens.now templates is_word_or_string (member_use groups attributes) at group_use_tree result }
 {
     let (group, next) = read_group_reference(alloc, tokens, at)?;
-    let (attributes, next) = read_attribute_row(alloc, tokens, next)?;
+    let (parts, next) = beside(group, read_attribute_row(alloc, tokens, next))?;
+    let (group, attributes) = parts;
     Ok((GroupUse { group, attributes }, next))
 }
 
@@ -73,8 +77,7 @@ fn read_group_uses(
     let mut list = Vec::new(alloc);
     let mut next = at;
     'turns: loop {
-        let (part, behind) = read_group_use(alloc, tokens, next)?;
-        list.push(part)?;
+        let behind = keep_part(&mut list, read_group_use(alloc, tokens, next))?;
         let Some(place) = place_behind(tokens, behind, ",") else {
             return Ok((list, behind));
         };
@@ -91,9 +94,7 @@ pub fn read_groups_clause(
     ensures { Reads tokens.now templates closed groups_clause at (clause_tree (vector_tree group_use_tree)) result }
 {
     let next = skip_words(tokens, at, &["ATTRIBUTE", "GROUPS"])?;
-    let (list, next) = read_group_uses(alloc, tokens, next)?;
-    let next = skip_sign(tokens, next, ";")?;
-    Ok((list, next))
+    end_clause(tokens, read_group_uses(alloc, tokens, next))
 }
 
 /// Reads an action and its further parameters.
@@ -105,7 +106,8 @@ fn read_action_use(
     ensures { Reads tokens.now templates is_word_or_string (member_use actions parameters) at action_use_tree result }
 {
     let (action, next) = read_action_reference(alloc, tokens, at)?;
-    let (parameters, next) = read_parameter_row(alloc, tokens, next)?;
+    let (parts, next) = beside(action, read_parameter_row(alloc, tokens, next))?;
+    let (action, parameters) = parts;
     Ok((ActionUse { action, parameters }, next))
 }
 
@@ -120,8 +122,7 @@ fn read_action_uses(
     let mut list = Vec::new(alloc);
     let mut next = at;
     'turns: loop {
-        let (part, behind) = read_action_use(alloc, tokens, next)?;
-        list.push(part)?;
+        let behind = keep_part(&mut list, read_action_use(alloc, tokens, next))?;
         let Some(place) = place_behind(tokens, behind, ",") else {
             return Ok((list, behind));
         };
@@ -138,9 +139,7 @@ pub fn read_actions_clause(
     ensures { Reads tokens.now templates closed actions_clause at (clause_tree (vector_tree action_use_tree)) result }
 {
     let next = skip_words(tokens, at, &["ACTIONS"])?;
-    let (list, next) = read_action_uses(alloc, tokens, next)?;
-    let next = skip_sign(tokens, next, ";")?;
-    Ok((list, next))
+    end_clause(tokens, read_action_uses(alloc, tokens, next))
 }
 
 /// Reads a notification and its further parameters.
@@ -152,7 +151,8 @@ fn read_notification_use(
     ensures { Reads tokens.now templates is_word_or_string (member_use notifications parameters) at notification_use_tree result }
 {
     let (notification, next) = read_notification_reference(alloc, tokens, at)?;
-    let (parameters, next) = read_parameter_row(alloc, tokens, next)?;
+    let (parts, next) = beside(notification, read_parameter_row(alloc, tokens, next))?;
+    let (notification, parameters) = parts;
     Ok((
         NotificationUse {
             notification,
@@ -173,8 +173,7 @@ fn read_notification_uses(
     let mut list = Vec::new(alloc);
     let mut next = at;
     'turns: loop {
-        let (part, behind) = read_notification_use(alloc, tokens, next)?;
-        list.push(part)?;
+        let behind = keep_part(&mut list, read_notification_use(alloc, tokens, next))?;
         let Some(place) = place_behind(tokens, behind, ",") else {
             return Ok((list, behind));
         };
@@ -191,7 +190,5 @@ pub fn read_notifications_clause(
     ensures { Reads tokens.now templates closed notifications_clause at (clause_tree (vector_tree notification_use_tree)) result }
 {
     let next = skip_words(tokens, at, &["NOTIFICATIONS"])?;
-    let (list, next) = read_notification_uses(alloc, tokens, next)?;
-    let next = skip_sign(tokens, next, ";")?;
-    Ok((list, next))
+    end_clause(tokens, read_notification_uses(alloc, tokens, next))
 }

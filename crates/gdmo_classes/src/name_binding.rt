@@ -1,7 +1,7 @@
 //! The name binding template (X.722, section 8.6).
 
-ghost use Rattle.std.specs.Prelude.{◌≡◌, ℕ};
-ghost use Rattle.token_grammar.specs.Form.{AnyOrder, Named, Maybe};
+ghost use Rattle.std.specs.Prelude.{◌≡◌, ℕ, IfSome, None, true, false};
+ghost use Rattle.token_grammar.specs.Form.{AnyOrder, Named, Maybe, is_complete, slots_tree};
 ghost use Rattle.token_grammar.specs.Outcome.{Reads, closed};
 ghost use Rattle.token_grammar.specs.Parts.{optional_tree};
 ghost use Rattle.token_grammar.specs.Turns.{TakesClause};
@@ -18,10 +18,13 @@ use gdmo_members::attribute::{AttributeReference, read_attribute_reference};
 use gdmo_members::behaviour::{BehaviourReference, read_behaviour_clause};
 use gdmo_members::registration::read_registered_ending;
 use std::alloc::Global;
-use text_lex::{SyntaxRefusal, Token};
+use token_grammar::clause_ending::end_clause;
+use token_grammar::clause_keeping::keep_clause;
 use token_grammar::object_identifier::ObjectIdentifier;
-use token_grammar::token_reading::{read_label, read_one_of, skip_sign, skip_words};
+use token_grammar::parts_beside::beside;
+use token_grammar::token_reading::{read_label, read_one_of, skip_words};
 use token_grammar::token_tests::is_word_at;
+use token_grammar::{SyntaxRefusal, Token};
 
 /// A class of a name binding, alone or with its subclasses.
 #[derive(Drop)]
@@ -102,7 +105,8 @@ fn read_class_scope(
     ensures { Reads tokens.now templates is_part_end class_with_subclasses at class_scope_tree result }
 {
     let (class, next) = read_class_reference(alloc, tokens, at)?;
-    let (subclasses, next) = read_subclasses(alloc, tokens, next)?;
+    let (parts, next) = beside(class, read_subclasses(alloc, tokens, next))?;
+    let (class, subclasses) = parts;
     Ok((ClassScope { class, subclasses }, next))
 }
 
@@ -115,9 +119,7 @@ fn read_subordinate_clause(
     ensures { Reads tokens.now templates closed subordinate_clause at (clause_tree class_scope_tree) result }
 {
     let next = skip_words(tokens, at, &["SUBORDINATE", "OBJECT", "CLASS"])?;
-    let (scope, next) = read_class_scope(alloc, tokens, next)?;
-    let next = skip_sign(tokens, next, ";")?;
-    Ok((scope, next))
+    end_clause(tokens, read_class_scope(alloc, tokens, next))
 }
 
 /// Reads the clause `NAMED BY SUPERIOR OBJECT CLASS ref ..;`.
@@ -129,9 +131,7 @@ fn read_superior_clause(
     ensures { Reads tokens.now templates closed superior_clause at (clause_tree class_scope_tree) result }
 {
     let next = skip_words(tokens, at, &["NAMED", "BY", "SUPERIOR", "OBJECT", "CLASS"])?;
-    let (scope, next) = read_class_scope(alloc, tokens, next)?;
-    let next = skip_sign(tokens, next, ";")?;
-    Ok((scope, next))
+    end_clause(tokens, read_class_scope(alloc, tokens, next))
 }
 
 /// Reads the clause `WITH ATTRIBUTE ref;`.
@@ -143,9 +143,7 @@ fn read_naming_clause(
     ensures { Reads tokens.now templates closed naming_clause at (clause_tree attribute_reference_tree) result }
 {
     let next = skip_words(tokens, at, &["WITH", "ATTRIBUTE"])?;
-    let (attribute, next) = read_attribute_reference(alloc, tokens, next)?;
-    let next = skip_sign(tokens, next, ";")?;
-    Ok((attribute, next))
+    end_clause(tokens, read_attribute_reference(alloc, tokens, next))
 }
 
 /// Reads a name binding template from the place `at` on, and answers it with the place behind it. `Syntax`
@@ -161,7 +159,8 @@ pub fn read_name_binding(
     let (label, next) = read_label(alloc, tokens, at)?;
     let next = skip_words(tokens, next, &["NAME", "BINDING"])?;
     let (clauses, next) = read_name_binding_clauses(alloc, tokens, next)?;
-    let (registration, next) = read_registered_ending(alloc, tokens, next)?;
+    let (parts, next) = beside(clauses, read_registered_ending(alloc, tokens, next))?;
+    let (clauses, registration) = parts;
     Ok((
         NameBindingTemplate {
             document: 0,
@@ -198,34 +197,28 @@ fn read_name_binding_clauses(
     'turns: while let Some(behind) = read_name_binding_clause(alloc, tokens, next, &mut draft)? {
         next = behind;
     }
-    let NameBindingDraft {
-        subordinate,
-        superior,
-        attribute,
-        behaviour,
-        create,
-        delete,
-    } = draft;
-    let Some(subordinate) = subordinate else {
-        return Err(SyntaxRefusal::Syntax { token: next as u64 });
-    };
-    let Some(superior) = superior else {
-        return Err(SyntaxRefusal::Syntax { token: next as u64 });
-    };
-    let Some(attribute) = attribute else {
-        return Err(SyntaxRefusal::Syntax { token: next as u64 });
-    };
-    Ok((
-        NameBindingClauses {
+    match complete_clauses(draft) {
+        Some(clauses) => Ok((clauses, next)),
+        None => Err(SyntaxRefusal::Syntax { token: next as u64 }),
+    }
+}
+
+/// The clauses, where the needed ones came.
+fn complete_clauses(draft: NameBindingDraft) -> Option<NameBindingClauses>
+    ensures missing { result ≡ None → is_complete (name_binding_slots draft) ≡ false }
+    ensures made { IfSome result (λ clauses. (is_complete (name_binding_slots draft) ≡ true) × (name_binding_clauses_tree clauses ≡ slots_tree (name_binding_slots draft))) }
+{
+    match draft.subordinate.zip(draft.superior).zip(draft.attribute) {
+        Some(((subordinate, superior), attribute)) => Some(NameBindingClauses {
             subordinate,
             superior,
             attribute,
-            behaviour,
-            create,
-            delete,
-        },
-        next,
-    ))
+            behaviour: draft.behaviour,
+            create: draft.create,
+            delete: draft.delete,
+        }),
+        None => None,
+    }
 }
 
 /// Reads the next clause of a name binding template, where one comes that didn't come before.
@@ -239,39 +232,33 @@ fn read_name_binding_clause(
 {
     let has_subordinate = draft.subordinate.is_none() & is_word_at(tokens, at, "SUBORDINATE");
     if has_subordinate {
-        let (subordinate, next) = read_subordinate_clause(alloc, tokens, at)?;
-        draft.subordinate = Some(subordinate);
-        return Ok(Some(next));
+        return keep_clause(
+            &mut draft.subordinate,
+            read_subordinate_clause(alloc, tokens, at),
+        );
     }
     let has_superior = draft.superior.is_none() & is_word_at(tokens, at, "NAMED");
     if has_superior {
-        let (superior, next) = read_superior_clause(alloc, tokens, at)?;
-        draft.superior = Some(superior);
-        return Ok(Some(next));
+        return keep_clause(&mut draft.superior, read_superior_clause(alloc, tokens, at));
     }
     let has_attribute = draft.attribute.is_none() & is_word_at(tokens, at, "WITH");
     if has_attribute {
-        let (attribute, next) = read_naming_clause(alloc, tokens, at)?;
-        draft.attribute = Some(attribute);
-        return Ok(Some(next));
+        return keep_clause(&mut draft.attribute, read_naming_clause(alloc, tokens, at));
     }
     let has_behaviour = draft.behaviour.is_none() & is_word_at(tokens, at, "BEHAVIOUR");
     if has_behaviour {
-        let (behaviour, next) = read_behaviour_clause(alloc, tokens, at)?;
-        draft.behaviour = Some(behaviour);
-        return Ok(Some(next));
+        return keep_clause(
+            &mut draft.behaviour,
+            read_behaviour_clause(alloc, tokens, at),
+        );
     }
     let has_create = draft.create.is_none() & is_word_at(tokens, at, "CREATE");
     if has_create {
-        let (create, next) = read_create_clause(alloc, tokens, at)?;
-        draft.create = Some(create);
-        return Ok(Some(next));
+        return keep_clause(&mut draft.create, read_create_clause(alloc, tokens, at));
     }
     let has_delete = draft.delete.is_none() & is_word_at(tokens, at, "DELETE");
     if has_delete {
-        let (delete, next) = read_delete_clause(alloc, tokens, at)?;
-        draft.delete = Some(delete);
-        return Ok(Some(next));
+        return keep_clause(&mut draft.delete, read_delete_clause(alloc, tokens, at));
     }
     Ok(None)
 }

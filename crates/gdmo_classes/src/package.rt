@@ -18,11 +18,14 @@ use super::member_use::{
 use gdmo_members::behaviour::{BehaviourReference, read_behaviour_clause};
 use gdmo_members::registration::read_ending;
 use std::alloc::Global;
-use text_lex::{SyntaxRefusal, Token};
+use token_grammar::clause_keeping::keep_clause;
 use token_grammar::label_reference::{LabelReference, read_label_reference};
 use token_grammar::object_identifier::ObjectIdentifier;
+use token_grammar::part_keeping::keep_part;
+use token_grammar::parts_beside::beside;
 use token_grammar::token_reading::{place_behind, read_label, skip_words};
 use token_grammar::token_tests::{is_template_at, is_word_at};
+use token_grammar::{SyntaxRefusal, Token};
 
 /// A package template.
 #[derive(Drop)]
@@ -77,7 +80,8 @@ pub fn read_package(
     let (label, next) = read_label(alloc, tokens, at)?;
     let next = skip_words(tokens, next, &["PACKAGE"])?;
     let (clauses, next) = read_package_clauses(alloc, tokens, next)?;
-    let (registration, next) = read_ending(alloc, tokens, next)?;
+    let (parts, next) = beside(clauses, read_ending(alloc, tokens, next))?;
+    let (clauses, registration) = parts;
     Ok((
         PackageTemplate {
             document: 0,
@@ -126,34 +130,33 @@ fn read_package_clause(
 {
     let has_behaviour = clauses.behaviour.is_none() & is_word_at(tokens, at, "BEHAVIOUR");
     if has_behaviour {
-        let (behaviour, next) = read_behaviour_clause(alloc, tokens, at)?;
-        clauses.behaviour = Some(behaviour);
-        return Ok(Some(next));
+        return keep_clause(
+            &mut clauses.behaviour,
+            read_behaviour_clause(alloc, tokens, at),
+        );
     }
     let has_attributes = clauses.attributes.is_none() & is_word_at(tokens, at, "ATTRIBUTES");
     if has_attributes {
-        let (attributes, next) = read_attributes_clause(alloc, tokens, at)?;
-        clauses.attributes = Some(attributes);
-        return Ok(Some(next));
+        return keep_clause(
+            &mut clauses.attributes,
+            read_attributes_clause(alloc, tokens, at),
+        );
     }
     let has_groups = clauses.groups.is_none() & is_word_at(tokens, at, "ATTRIBUTE");
     if has_groups {
-        let (groups, next) = read_groups_clause(alloc, tokens, at)?;
-        clauses.groups = Some(groups);
-        return Ok(Some(next));
+        return keep_clause(&mut clauses.groups, read_groups_clause(alloc, tokens, at));
     }
     let has_actions = clauses.actions.is_none() & is_word_at(tokens, at, "ACTIONS");
     if has_actions {
-        let (actions, next) = read_actions_clause(alloc, tokens, at)?;
-        clauses.actions = Some(actions);
-        return Ok(Some(next));
+        return keep_clause(&mut clauses.actions, read_actions_clause(alloc, tokens, at));
     }
     let has_notifications = clauses.notifications.is_none()
         & is_word_at(tokens, at, "NOTIFICATIONS");
     if has_notifications {
-        let (notifications, next) = read_notifications_clause(alloc, tokens, at)?;
-        clauses.notifications = Some(notifications);
-        return Ok(Some(next));
+        return keep_clause(
+            &mut clauses.notifications,
+            read_notifications_clause(alloc, tokens, at),
+        );
     }
     Ok(None)
 }
@@ -185,8 +188,7 @@ pub fn read_package_list(
     let mut list = Vec::new(alloc);
     let mut next = at;
     'turns: loop {
-        let (reference, behind) = read_package_reference(alloc, tokens, next)?;
-        list.push(reference)?;
+        let behind = keep_part(&mut list, read_package_reference(alloc, tokens, next))?;
         let Some(place) = place_behind(tokens, behind, ",") else {
             return Ok((list, behind));
         };

@@ -11,10 +11,11 @@ ghost use Rattle.gdmo_classes.specs.UseTrees.{property_value_tree, valued_tree, 
 
 use gdmo_members::behaviour::{BehaviourReference, read_behaviour_reference};
 use std::alloc::Global;
-use text_lex::{SyntaxRefusal, Token};
+use token_grammar::clause_keeping::keep_clause;
 use token_grammar::qualified_name::{QualifiedName, read_qualified_name};
 use token_grammar::token_reading::{read_one_of, skip_words};
 use token_grammar::token_tests::{is_one_of_at, is_pair_at, is_word_at};
+use token_grammar::{SyntaxRefusal, Token};
 
 /// A default or an initial value.
 #[derive(Drop)]
@@ -125,47 +126,54 @@ fn read_property(
     let has_reset = properties.replace_with_default.is_none()
         & is_one_of_at(tokens, at, &["REPLACE-WITH-DEFAULT"]);
     if has_reset {
-        let (reset, next) = read_one_of(alloc, tokens, at, &["REPLACE-WITH-DEFAULT"])?;
-        properties.replace_with_default = Some(reset);
-        return Ok(Some(next));
+        return keep_clause(
+            &mut properties.replace_with_default,
+            read_one_of(alloc, tokens, at, &["REPLACE-WITH-DEFAULT"]),
+        );
     }
     let has_default = properties.default_value.is_none() & is_word_at(tokens, at, "DEFAULT");
     if has_default {
-        let (default, next) = read_default_value(alloc, tokens, at)?;
-        properties.default_value = Some(default);
-        return Ok(Some(next));
+        return keep_clause(
+            &mut properties.default_value,
+            read_default_value(alloc, tokens, at),
+        );
     }
     let has_initial = properties.initial_value.is_none() & is_word_at(tokens, at, "INITIAL");
     if has_initial {
-        let (initial, next) = read_initial_value(alloc, tokens, at)?;
-        properties.initial_value = Some(initial);
-        return Ok(Some(next));
+        return keep_clause(
+            &mut properties.initial_value,
+            read_initial_value(alloc, tokens, at),
+        );
     }
     let has_permitted = properties.permitted_values.is_none() & is_word_at(tokens, at, "PERMITTED");
     if has_permitted {
-        let (permitted, next) = read_permitted_values(alloc, tokens, at)?;
-        properties.permitted_values = Some(permitted);
-        return Ok(Some(next));
+        return keep_clause(
+            &mut properties.permitted_values,
+            read_permitted_values(alloc, tokens, at),
+        );
     }
     let has_required = properties.required_values.is_none() & is_word_at(tokens, at, "REQUIRED");
     if has_required {
-        let (required, next) = read_required_values(alloc, tokens, at)?;
-        properties.required_values = Some(required);
-        return Ok(Some(next));
+        return keep_clause(
+            &mut properties.required_values,
+            read_required_values(alloc, tokens, at),
+        );
     }
     let has_access = properties.access.is_none()
         & is_one_of_at(tokens, at, &["GET", "REPLACE", "GET-REPLACE"]);
     if has_access {
-        let (access, next) = read_one_of(alloc, tokens, at, &["GET", "REPLACE", "GET-REPLACE"])?;
-        properties.access = Some(access);
-        return Ok(Some(next));
+        return keep_clause(
+            &mut properties.access,
+            read_one_of(alloc, tokens, at, &["GET", "REPLACE", "GET-REPLACE"]),
+        );
     }
     let has_members = properties.members.is_none()
         & is_one_of_at(tokens, at, &["ADD", "REMOVE", "ADD-REMOVE"]);
     if has_members {
-        let (members, next) = read_one_of(alloc, tokens, at, &["ADD", "REMOVE", "ADD-REMOVE"])?;
-        properties.members = Some(members);
-        return Ok(Some(next));
+        return keep_clause(
+            &mut properties.members,
+            read_one_of(alloc, tokens, at, &["ADD", "REMOVE", "ADD-REMOVE"]),
+        );
     }
     Ok(None)
 }

@@ -12,9 +12,9 @@ use gdmo_members::action::{ActionTemplate, read_action};
 use gdmo_members::group::{GroupTemplate, read_group};
 use gdmo_members::notification::{NotificationTemplate, read_notification};
 use std::alloc::Global;
-use text_lex::{SyntaxRefusal, Token};
 use token_grammar::label_reference::{LabelReference, read_label_reference};
 use token_grammar::token_tests::is_template_at;
+use token_grammar::{SyntaxRefusal, Token};
 
 /// What names an attribute group.
 #[derive(Drop)]

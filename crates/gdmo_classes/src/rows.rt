@@ -12,9 +12,9 @@ ghost use Rattle.gdmo_classes.specs.ClassForms.{is_reference_start, is_word_or_s
 use gdmo_members::attribute::{AttributeReference, read_attribute_reference};
 use gdmo_members::parameter::{ParameterReference, read_parameter_reference};
 use std::alloc::Global;
-use text_lex::token::STRING;
-use text_lex::{SyntaxRefusal, Token};
+use token_grammar::token::STRING;
 use token_grammar::token_tests::is_label;
+use token_grammar::{SyntaxRefusal, Token};
 
 /// Whether a reference begins at a place: a label, or the name of a document.
 fn is_reference_at(tokens: &[Token], at: usize) -> bool

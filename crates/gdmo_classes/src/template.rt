@@ -11,8 +11,8 @@ use super::class::{ObjectClassTemplate, read_class};
 use super::name_binding::{NameBindingTemplate, read_name_binding};
 use super::package::{PackageTemplate, read_package};
 use std::alloc::Global;
-use text_lex::{SyntaxRefusal, Token};
 use token_grammar::token_tests::is_template_at;
+use token_grammar::{SyntaxRefusal, Token};
 
 /// A template that holds the others.
 #[derive(Drop)]

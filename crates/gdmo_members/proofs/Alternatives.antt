@@ -1,6 +1,6 @@
 -- Laws on the six templates, which begin alike: the words behind the label part them.
 use Rattle.std.proofs.Common.{◌≡◌, ℕ, ◌+◌, ◌≤◌, Bool, true, false, ◌&&◌, ◌||◌, List, Some, refl, arith, slice_get, codes}
-use Rattle.text_lex.specs.declared.token.Token.{Token}
+use Rattle.token_grammar.specs.declared.token.Token.{Token}
 use Rattle.token_grammar.specs.Form.{Then, AnyOrder, Named}
 use Rattle.token_grammar.specs.Spelling.{At, passes}
 use Rattle.token_grammar.specs.Beginning as B

@@ -1,6 +1,6 @@
 -- Which tokens the ends of clauses and templates are apart from.
 use Rattle.std.proofs.Common.{◌≡◌, ℕ, false, List, [], ◌∷◌, refl, codes}
-use Rattle.text_lex.specs.declared.token.Token.{Token}
+use Rattle.token_grammar.specs.declared.token.Token.{Token}
 use Rattle.token_grammar.specs.Form.{Form}
 use Rattle.token_grammar.specs.Parts.{either}
 use Rattle.token_grammar.specs.TokenTests.{is_word_of, is_sign_of}

@@ -1,6 +1,6 @@
 -- Each template begins with a label.
 use Rattle.std.proofs.Common.{◌≡◌, ℕ, zero, suc, true, false}
-use Rattle.text_lex.specs.declared.token.Token.{Token}
+use Rattle.token_grammar.specs.declared.token.Token.{Token}
 use Rattle.token_grammar.specs.TokenTests.{is_label}
 use Rattle.token_grammar.proofs.Heads.{Firsts, Heads, skips, starts}
 use Rattle.gdmo_members.specs.Templates.{templates}

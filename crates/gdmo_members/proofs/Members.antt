@@ -3,9 +3,9 @@ use Rattle.std.proofs.Common.{◌≡◌, ℕ, Bool, true, false, ◌&&◌, is_so
 use Rattle.std.specs.declared.alloc.Global.{Global}
 use Rattle.std.specs.declared.boxed.Box.{Box}
 use Rattle.std.specs.declared.vec.Vec.{Vec}
-use Rattle.text_lex.specs.declared.token.Token.{Token}
+use Rattle.token_grammar.specs.declared.token.Token.{Token}
 use Rattle.token_grammar.specs.Form.{Tree, Bare, Pair, Present, Second, Empty, After, AnyOrder, Slots, option_tree}
-use Rattle.text_lex.specs.declared.syntax_refusal.SyntaxRefusal.TheVariants.{Syntax}
+use Rattle.token_grammar.specs.declared.syntax_refusal.SyntaxRefusal.TheVariants.{Syntax}
 use Rattle.gdmo_members.specs.declared.context.Context.{Context}
 use Rattle.gdmo_members.specs.declared.parameter.ParameterDraft.{ParameterDraft}
 use Rattle.gdmo_members.specs.declared.parameter.ParameterSyntax.{ParameterSyntax}

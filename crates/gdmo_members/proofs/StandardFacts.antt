@@ -1,7 +1,7 @@
 -- An example of a template, computed: X.722, section 8.4.
 use Rattle.std.proofs.Common.{List, [], ◌∷◌, refl, codes}
-use Rattle.text_lex.specs.declared.token.Token.{Token}
-use Rattle.text_lex.specs.declared.token.TheConstants.{WORD, SIGN}
+use Rattle.token_grammar.specs.declared.token.Token.{Token}
+use Rattle.token_grammar.specs.Kinds.{word_kind, sign_kind}
 use Rattle.token_grammar.specs.Form.{Named, Bare, Leaf, Pair, Absent, Numbered}
 use Rattle.token_grammar.specs.Spelling.{Spells, no_marks, marks, keep, both, absent, enough, named}
 use Rattle.token_grammar.proofs.Known.{token_of}
@@ -10,10 +10,10 @@ use Rattle.gdmo_members.specs.Templates.{templates}
 
 -- p PACKAGE;
 abbrev label : Token
-label = token_of WORD 0 (codes "p")
+label = token_of word_kind 0 (codes "p")
 
 abbrev small_package : List Token
-small_package = label ∷ token_of WORD 2 (codes "PACKAGE") ∷ token_of SIGN 9 (codes ";") ∷ []
+small_package = label ∷ token_of word_kind 2 (codes "PACKAGE") ∷ token_of sign_kind 9 (codes ";") ∷ []
 
 -- its label, the five clauses, of which none came, and its end without a registration
 package_example : Spells small_package templates (Named packages) 0 3

@@ -3,7 +3,7 @@ use Rattle.std.proofs.Common.{◌≡◌, ℕ, Option, ap}
 use Rattle.token_grammar.specs.Parts.{optional_tree, vector_tree}
 use Rattle.std.specs.declared.alloc.Global.{Global}
 use Rattle.std.specs.declared.vec.Vec.{Vec}
-use Rattle.text_lex.specs.declared.token.Token.{Token}
+use Rattle.token_grammar.specs.declared.token.Token.{Token}
 use Rattle.token_grammar.specs.Form.{Tree, Bare, Leaf, Pair}
 use Rattle.token_grammar.specs.PartLaws.{OneValue, OneValueBy, OptionsAgree, IdentifiersAgree}
 use Rattle.token_grammar.proofs.Values.{lists_agree, one_list, pair_same, first_same, second_same, leaf_same, numbered_same, first_not_second, second_not_first, options_agree, one_option, one_token, one_label_reference, one_object_identifier}

@@ -1,7 +1,7 @@
 -- Laws on the clauses WITH INFORMATION SYNTAX and WITH REPLY SYNTAX, which begin alike, and on the tokens
 -- behind a notification's information.
 use Rattle.std.proofs.Common.{◌≡◌, ℕ, Bool, true, false, not, ◌&&◌, List, [], ◌∷◌, refl, codes}
-use Rattle.text_lex.specs.declared.token.Token.{Token}
+use Rattle.token_grammar.specs.declared.token.Token.{Token}
 use Rattle.token_grammar.specs.Spelling.{At}
 use Rattle.token_grammar.specs.TokenTests.{is_word_of}
 use Rattle.token_grammar.specs.Parts.{either}
@@ -22,10 +22,6 @@ with_not a4 false a6 true p s e f h g q = absurd (cc q)
 with_not a4 true true true p s e f h g q = absurd (cc g)
 with_not true true false true p s e f h g q = absurd (cc (e, f))
 with_not false true false true p s e f h g q = absurd (cc h)
-
-pub and_true : (a b : Bool) → a ≡ true → b ≡ true → (a && b) ≡ true
-and_true true b e f = f
-and_true false b e f = absurd (cc e)
 
 -- a semicolon ends a notification's information
 pub field_apart : {tokens : List Token} → Apart tokens templates is_field_end semicolon

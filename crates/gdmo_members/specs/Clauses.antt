@@ -1,6 +1,6 @@
 -- Clauses: parts that several templates have (X.722, section 8.2; docs/PROFILE.md, section 2).
 use Rattle.std.specs.Prelude.{ℕ, Bool, List, [], ◌∷◌, ◌||◌, codes}
-use Rattle.text_lex.specs.declared.token.Token.{Token}
+use Rattle.token_grammar.specs.declared.token.Token.{Token}
 use Rattle.token_grammar.specs.Form.{Form, Marks, Keep, Then, Or, Maybe, Listed, Many, Named, Empty}
 use Rattle.token_grammar.specs.TokenTests.{is_sign_of, is_one_of, is_word}
 use Rattle.token_grammar.specs.Parts.{words, sign, label_reference, object_identifier}

@@ -3,7 +3,7 @@
 use Rattle.std.specs.Prelude.{Bool, false, [], ◌∷◌, option_map, codes}
 use Rattle.std.specs.declared.alloc.Global.{Global}
 use Rattle.std.specs.declared.vec.Vec.{Vec}
-use Rattle.text_lex.specs.declared.token.Token.{Token}
+use Rattle.token_grammar.specs.declared.token.Token.{Token}
 use Rattle.token_grammar.specs.Form.{Keep, Tree, Bare, Leaf, Pair, Slots, Slot, NoSlots, slots_tree}
 use Rattle.token_grammar.specs.TokenTests.{is_one_of, is_string, is_word_of}
 use Rattle.token_grammar.specs.Parts.{either, optional_tree, qualified_name, qualified_name_tree, vector_tree}

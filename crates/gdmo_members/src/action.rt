@@ -17,11 +17,14 @@ use super::parameter::{ParameterReference, read_parameters_clause};
 use super::registration::read_registered_ending;
 use super::type_clause::read_type_clause;
 use std::alloc::Global;
-use text_lex::{SyntaxRefusal, Token};
+use token_grammar::clause_ending::end_clause;
+use token_grammar::clause_keeping::keep_clause;
 use token_grammar::object_identifier::ObjectIdentifier;
+use token_grammar::parts_beside::beside;
 use token_grammar::qualified_name::QualifiedName;
-use token_grammar::token_reading::{read_label, read_one_of, skip_sign, skip_words};
+use token_grammar::token_reading::{read_label, read_one_of, skip_words};
 use token_grammar::token_tests::{is_pair_at, is_word_at};
+use token_grammar::{SyntaxRefusal, Token};
 
 /// An action template.
 #[derive(Drop)]
@@ -67,7 +70,8 @@ pub fn read_action(
     let (label, next) = read_label(alloc, tokens, at)?;
     let next = skip_words(tokens, next, &["ACTION"])?;
     let (clauses, next) = read_action_clauses(alloc, tokens, next)?;
-    let (registration, next) = read_registered_ending(alloc, tokens, next)?;
+    let (parts, next) = beside(clauses, read_registered_ending(alloc, tokens, next))?;
+    let (clauses, registration) = parts;
     Ok((
         ActionTemplate {
             document: 0,
@@ -116,40 +120,37 @@ fn read_action_clause(
 {
     let has_behaviour = clauses.behaviour.is_none() & is_word_at(tokens, at, "BEHAVIOUR");
     if has_behaviour {
-        let (behaviour, next) = read_behaviour_clause(alloc, tokens, at)?;
-        clauses.behaviour = Some(behaviour);
-        return Ok(Some(next));
+        return keep_clause(
+            &mut clauses.behaviour,
+            read_behaviour_clause(alloc, tokens, at),
+        );
     }
     let has_mode = clauses.mode.is_none() & is_word_at(tokens, at, "MODE");
     if has_mode {
-        let (mode, next) = read_mode_clause(alloc, tokens, at)?;
-        clauses.mode = Some(mode);
-        return Ok(Some(next));
+        return keep_clause(&mut clauses.mode, read_mode_clause(alloc, tokens, at));
     }
     let has_parameters = clauses.parameters.is_none() & is_word_at(tokens, at, "PARAMETERS");
     if has_parameters {
-        let (parameters, next) = read_parameters_clause(alloc, tokens, at)?;
-        clauses.parameters = Some(parameters);
-        return Ok(Some(next));
+        return keep_clause(
+            &mut clauses.parameters,
+            read_parameters_clause(alloc, tokens, at),
+        );
     }
     let is_with = is_word_at(tokens, at, "WITH");
     let is_reply = clauses.reply.is_none() & is_pair_at(tokens, at, "WITH", "REPLY");
     let has_information = clauses.information.is_none() & is_with & !is_reply;
     if has_information {
-        let (information, next) = read_type_clause(
-            alloc,
-            tokens,
-            at,
-            &["WITH", "INFORMATION", "SYNTAX"],
-        )?;
-        clauses.information = Some(information);
-        return Ok(Some(next));
+        return keep_clause(
+            &mut clauses.information,
+            read_type_clause(alloc, tokens, at, &["WITH", "INFORMATION", "SYNTAX"]),
+        );
     }
     let has_reply = clauses.reply.is_none() & is_with;
     if has_reply {
-        let (reply, next) = read_type_clause(alloc, tokens, at, &["WITH", "REPLY", "SYNTAX"])?;
-        clauses.reply = Some(reply);
-        return Ok(Some(next));
+        return keep_clause(
+            &mut clauses.reply,
+            read_type_clause(alloc, tokens, at, &["WITH", "REPLY", "SYNTAX"]),
+        );
     }
     Ok(None)
 }
@@ -163,7 +164,5 @@ fn read_mode_clause(
     ensures { Reads tokens.now templates closed (flag (codes "MODE" ∷ []) (codes "CONFIRMED")) at (clause_tree Leaf) result }
 {
     let next = skip_words(tokens, at, &["MODE"])?;
-    let (word, next) = read_one_of(alloc, tokens, next, &["CONFIRMED"])?;
-    let next = skip_sign(tokens, next, ";")?;
-    Ok((word, next))
+    end_clause(tokens, read_one_of(alloc, tokens, next, &["CONFIRMED"]))
 }

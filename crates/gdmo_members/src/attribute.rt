@@ -1,11 +1,12 @@
 //! The attribute template (X.722, section 8.7) and references to it. It may have parameter templates in
 //! line, and they attribute templates.
 
-ghost use Rattle.std.specs.Prelude.{◌≡◌, ℕ, codes, IfOk};
+ghost use Rattle.std.specs.Prelude.{◌≡◌, ◌+◌, ◌&&◌, ℕ, codes, false, slice_get, IfOk};
 ghost use Rattle.token_grammar.specs.Form.{Form, AnyOrder, Named};
 ghost use Rattle.token_grammar.specs.Outcome.{Reads, closed};
 ghost use Rattle.token_grammar.specs.Turns.{TakesClause};
-ghost use Rattle.token_grammar.specs.TokenTests.{is_word_of};
+ghost use Rattle.token_grammar.specs.Spelling.{passes};
+ghost use Rattle.token_grammar.specs.TokenTests.{is_label, is_word_of};
 ghost use Rattle.gdmo_members.specs.Clauses.{ending, attributes, reference};
 ghost use Rattle.gdmo_members.specs.Templates.{templates, attribute_syntax, attribute_clauses};
 ghost use Rattle.gdmo_members.specs.Trees.{ending_tree};
@@ -17,12 +18,13 @@ use super::parameter::{ParameterReference, read_parameters_clause};
 use super::registration::read_ending;
 use super::type_clause::read_type_clause;
 use std::alloc::Global;
-use text_lex::{SyntaxRefusal, Token};
+use token_grammar::clause_keeping::keep_clause;
 use token_grammar::label_reference::{LabelReference, read_label_reference};
 use token_grammar::object_identifier::ObjectIdentifier;
 use token_grammar::qualified_name::QualifiedName;
 use token_grammar::token_reading::{read_label, skip_sign, skip_words};
 use token_grammar::token_tests::{is_one_of_at, is_template_at, is_word_at};
+use token_grammar::{SyntaxRefusal, Token};
 
 /// An attribute template.
 #[cycle(templates)]
@@ -155,6 +157,21 @@ pub fn read_attribute_reference(
         let (template, next) = read_attribute_in_line(alloc, tokens, at)?;
         return Ok((AttributeReference::Template(template), next));
     }
+    read_attribute_label(alloc, tokens, at)
+}
+
+/// Reads a label that names an attribute, where no template in line stands. It isn't inlined, so that its locals take
+/// no room while a template in line is read.
+#[inline(never)]
+fn read_attribute_label(
+    alloc: Global,
+    tokens: &[Token],
+    at: usize,
+) -> Result<(AttributeReference, usize), SyntaxRefusal>
+    requires { (passes is_label (slice_get tokens.now at)
+        && passes (is_word_of (codes "ATTRIBUTE")) (slice_get tokens.now (at + 1))) ≡ false }
+    ensures { Reads tokens.now templates (is_word_of (codes "ATTRIBUTE")) (reference attributes) at attribute_reference_tree result }
+{
     let (label, next) = read_label_reference(alloc, tokens, at)?;
     Ok((AttributeReference::Label(label), next))
 }
@@ -210,27 +227,25 @@ fn read_attribute_clause(
 {
     let has_syntax = draft.syntax.is_none() & is_one_of_at(tokens, at, &["WITH", "DERIVED"]);
     if has_syntax {
-        let (syntax, next) = read_attribute_syntax(alloc, tokens, at)?;
-        draft.syntax = Some(syntax);
-        return Ok(Some(next));
+        return keep_clause(&mut draft.syntax, read_attribute_syntax(alloc, tokens, at));
     }
     let has_rules = draft.rules.is_none() & is_word_at(tokens, at, "MATCHES");
     if has_rules {
-        let (rules, next) = read_rules_clause(alloc, tokens, at)?;
-        draft.rules = Some(rules);
-        return Ok(Some(next));
+        return keep_clause(&mut draft.rules, read_rules_clause(alloc, tokens, at));
     }
     let has_behaviour = draft.behaviour.is_none() & is_word_at(tokens, at, "BEHAVIOUR");
     if has_behaviour {
-        let (behaviour, next) = read_behaviour_clause(alloc, tokens, at)?;
-        draft.behaviour = Some(behaviour);
-        return Ok(Some(next));
+        return keep_clause(
+            &mut draft.behaviour,
+            read_behaviour_clause(alloc, tokens, at),
+        );
     }
     let has_parameters = draft.parameters.is_none() & is_word_at(tokens, at, "PARAMETERS");
     if has_parameters {
-        let (parameters, next) = read_parameters_clause(alloc, tokens, at)?;
-        draft.parameters = Some(parameters);
-        return Ok(Some(next));
+        return keep_clause(
+            &mut draft.parameters,
+            read_parameters_clause(alloc, tokens, at),
+        );
     }
     Ok(None)
 }

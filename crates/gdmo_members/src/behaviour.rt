@@ -11,10 +11,12 @@ ghost use Rattle.gdmo_members.specs.Templates.{templates};
 ghost use Rattle.gdmo_members.specs.Trees.{behaviour_tree, behaviour_reference_tree, behaviour_list_tree, clause_tree};
 
 use std::alloc::Global;
-use text_lex::{SyntaxRefusal, Token};
+use token_grammar::clause_ending::end_clause;
 use token_grammar::label_reference::{LabelReference, read_label_reference};
+use token_grammar::part_keeping::keep_part;
 use token_grammar::token_reading::{place_behind, read_label, read_string, skip_sign, skip_words};
 use token_grammar::token_tests::is_template_at;
+use token_grammar::{SyntaxRefusal, Token};
 
 /// A behaviour template, `label BEHAVIOUR DEFINED AS string;`.
 #[derive(Drop)]
@@ -87,8 +89,7 @@ fn read_behaviour_list(
     let mut list = Vec::new(alloc);
     let mut next = at;
     'turns: loop {
-        let (reference, behind) = read_behaviour_reference(alloc, tokens, next)?;
-        list.push(reference)?;
+        let behind = keep_part(&mut list, read_behaviour_reference(alloc, tokens, next))?;
         let Some(place) = place_behind(tokens, behind, ",") else {
             return Ok((list, behind));
         };
@@ -105,7 +106,5 @@ pub fn read_behaviour_clause(
     ensures { Reads tokens.now templates closed behaviour_clause at (clause_tree behaviour_list_tree) result }
 {
     let next = skip_words(tokens, at, &["BEHAVIOUR"])?;
-    let (list, next) = read_behaviour_list(alloc, tokens, next)?;
-    let next = skip_sign(tokens, next, ";")?;
-    Ok((list, next))
+    end_clause(tokens, read_behaviour_list(alloc, tokens, next))
 }

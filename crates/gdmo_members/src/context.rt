@@ -12,10 +12,10 @@ ghost use Rattle.gdmo_members.specs.Templates.{templates};
 ghost use Rattle.gdmo_members.specs.Trees.{context_tree, context_word_tree};
 
 use std::alloc::Global;
-use text_lex::token::WORD;
-use text_lex::{SyntaxRefusal, Token};
+use token_grammar::token::WORD;
 use token_grammar::token_reading::{read_any_word, read_sign};
 use token_grammar::token_tests::{is_sign_at, is_sign_of};
+use token_grammar::{SyntaxRefusal, Token};
 
 /// A word of a context behind the first one.
 #[derive(Drop)]

@@ -15,12 +15,16 @@ ghost use Rattle.gdmo_members.specs.FurtherTrees.{group_tree, group_slots, group
 use super::attribute::{AttributeReference, read_attribute_reference};
 use super::registration::read_registered_ending;
 use std::alloc::Global;
-use text_lex::{SyntaxRefusal, Token};
+use token_grammar::clause_ending::end_clause;
+use token_grammar::clause_keeping::keep_clause;
 use token_grammar::object_identifier::ObjectIdentifier;
+use token_grammar::part_keeping::keep_part;
+use token_grammar::parts_beside::beside;
 use token_grammar::token_reading::{
     place_behind, read_label, read_one_of, read_string, skip_sign, skip_words,
 };
 use token_grammar::token_tests::is_word_at;
+use token_grammar::{SyntaxRefusal, Token};
 
 /// An attribute group template.
 #[derive(Drop)]
@@ -60,7 +64,8 @@ pub fn read_group(
     let (label, next) = read_label(alloc, tokens, at)?;
     let next = skip_words(tokens, next, &["ATTRIBUTE", "GROUP"])?;
     let (clauses, next) = read_group_clauses(alloc, tokens, next)?;
-    let (registration, next) = read_registered_ending(alloc, tokens, next)?;
+    let (parts, next) = beside(clauses, read_registered_ending(alloc, tokens, next))?;
+    let (clauses, registration) = parts;
     Ok((
         GroupTemplate {
             document: 0,
@@ -105,21 +110,21 @@ fn read_group_clause(
 {
     let has_elements = clauses.elements.is_none() & is_word_at(tokens, at, "GROUP");
     if has_elements {
-        let (elements, next) = read_elements_clause(alloc, tokens, at)?;
-        clauses.elements = Some(elements);
-        return Ok(Some(next));
+        return keep_clause(
+            &mut clauses.elements,
+            read_elements_clause(alloc, tokens, at),
+        );
     }
     let has_fixed = clauses.fixed.is_none() & is_word_at(tokens, at, "FIXED");
     if has_fixed {
-        let (fixed, next) = read_fixed_clause(alloc, tokens, at)?;
-        clauses.fixed = Some(fixed);
-        return Ok(Some(next));
+        return keep_clause(&mut clauses.fixed, read_fixed_clause(alloc, tokens, at));
     }
     let has_description = clauses.description.is_none() & is_word_at(tokens, at, "DESCRIPTION");
     if has_description {
-        let (description, next) = read_description_clause(alloc, tokens, at)?;
-        clauses.description = Some(description);
-        return Ok(Some(next));
+        return keep_clause(
+            &mut clauses.description,
+            read_description_clause(alloc, tokens, at),
+        );
     }
     Ok(None)
 }
@@ -135,8 +140,7 @@ fn read_attribute_list(
     let mut list = Vec::new(alloc);
     let mut next = at;
     'turns: loop {
-        let (reference, behind) = read_attribute_reference(alloc, tokens, next)?;
-        list.push(reference)?;
+        let behind = keep_part(&mut list, read_attribute_reference(alloc, tokens, next))?;
         let Some(place) = place_behind(tokens, behind, ",") else {
             return Ok((list, behind));
         };
@@ -153,9 +157,7 @@ fn read_elements_clause(
     ensures { Reads tokens.now templates closed (clause (codes "GROUP" ∷ codes "ELEMENTS" ∷ []) (references attributes)) at (clause_tree (vector_tree attribute_reference_tree)) result }
 {
     let next = skip_words(tokens, at, &["GROUP", "ELEMENTS"])?;
-    let (list, next) = read_attribute_list(alloc, tokens, next)?;
-    let next = skip_sign(tokens, next, ";")?;
-    Ok((list, next))
+    end_clause(tokens, read_attribute_list(alloc, tokens, next))
 }
 
 /// Reads the clause `FIXED;`.
@@ -180,7 +182,5 @@ fn read_description_clause(
     ensures { Reads tokens.now templates closed (clause (codes "DESCRIPTION" ∷ []) (Keep is_string)) at (clause_tree Leaf) result }
 {
     let next = skip_words(tokens, at, &["DESCRIPTION"])?;
-    let (description, next) = read_string(alloc, tokens, next)?;
-    let next = skip_sign(tokens, next, ";")?;
-    Ok((description, next))
+    end_clause(tokens, read_string(alloc, tokens, next))
 }

@@ -22,6 +22,3 @@ pub use group::GroupTemplate;
 pub use member::{MemberTemplate, read_template};
 pub use notification::NotificationTemplate;
 pub use parameter::{ParameterReference, ParameterSyntax, ParameterTemplate};
-
-#[cfg(test)]
-mod tests;

@@ -9,8 +9,9 @@ ghost use Rattle.token_grammar.specs.Parts.{vector_tree};
 ghost use Rattle.gdmo_members.specs.Trees.{clause_tree};
 
 use std::alloc::Global;
-use text_lex::{SyntaxRefusal, Token};
-use token_grammar::token_reading::{place_behind, read_one_of, skip_sign, skip_words};
+use token_grammar::clause_ending::end_clause;
+use token_grammar::token_reading::{place_behind, read_one_of, skip_words};
+use token_grammar::{SyntaxRefusal, Token};
 
 /// Reads matching rules with commas between them.
 fn read_rule_list(
@@ -52,7 +53,5 @@ pub fn read_rules_clause(
     ensures { Reads tokens.now templates closed rules_clause at (clause_tree (vector_tree Leaf)) result }
 {
     let next = skip_words(tokens, at, &["MATCHES", "FOR"])?;
-    let (list, next) = read_rule_list(alloc, tokens, next)?;
-    let next = skip_sign(tokens, next, ";")?;
-    Ok((list, next))
+    end_clause(tokens, read_rule_list(alloc, tokens, next))
 }

@@ -13,8 +13,8 @@ use super::group::{GroupTemplate, read_group};
 use super::notification::{NotificationTemplate, read_notification};
 use super::parameter::{ParameterTemplate, read_parameter};
 use std::alloc::Global;
-use text_lex::{SyntaxRefusal, Token};
 use token_grammar::token_tests::{is_pair_template_at, is_template_at};
+use token_grammar::{SyntaxRefusal, Token};
 
 /// A template of a package's member.
 #[derive(Drop)]

@@ -18,11 +18,15 @@ use super::parameter::{ParameterReference, read_parameters_clause};
 use super::registration::read_registered_ending;
 use super::type_clause::read_type_clause;
 use std::alloc::Global;
-use text_lex::{SyntaxRefusal, Token};
+use token_grammar::clause_ending::end_clause;
+use token_grammar::clause_keeping::keep_clause;
 use token_grammar::object_identifier::ObjectIdentifier;
+use token_grammar::part_keeping::keep_part;
+use token_grammar::parts_beside::beside;
 use token_grammar::qualified_name::{QualifiedName, read_qualified_name};
-use token_grammar::token_reading::{place_behind, read_label, read_name, skip_sign, skip_words};
+use token_grammar::token_reading::{place_behind, read_label, read_name, skip_words};
 use token_grammar::token_tests::{is_pair_at, is_word_at};
+use token_grammar::{SyntaxRefusal, Token};
 
 /// A component of a notification's information that is an attribute.
 #[derive(Drop)]
@@ -83,7 +87,8 @@ pub fn read_notification(
     let (label, next) = read_label(alloc, tokens, at)?;
     let next = skip_words(tokens, next, &["NOTIFICATION"])?;
     let (clauses, next) = read_notification_clauses(alloc, tokens, next)?;
-    let (registration, next) = read_registered_ending(alloc, tokens, next)?;
+    let (parts, next) = beside(clauses, read_registered_ending(alloc, tokens, next))?;
+    let (clauses, registration) = parts;
     Ok((
         NotificationTemplate {
             document: 0,
@@ -130,29 +135,33 @@ fn read_notification_clause(
 {
     let has_behaviour = clauses.behaviour.is_none() & is_word_at(tokens, at, "BEHAVIOUR");
     if has_behaviour {
-        let (behaviour, next) = read_behaviour_clause(alloc, tokens, at)?;
-        clauses.behaviour = Some(behaviour);
-        return Ok(Some(next));
+        return keep_clause(
+            &mut clauses.behaviour,
+            read_behaviour_clause(alloc, tokens, at),
+        );
     }
     let has_parameters = clauses.parameters.is_none() & is_word_at(tokens, at, "PARAMETERS");
     if has_parameters {
-        let (parameters, next) = read_parameters_clause(alloc, tokens, at)?;
-        clauses.parameters = Some(parameters);
-        return Ok(Some(next));
+        return keep_clause(
+            &mut clauses.parameters,
+            read_parameters_clause(alloc, tokens, at),
+        );
     }
     let is_with = is_word_at(tokens, at, "WITH");
     let is_reply = clauses.reply.is_none() & is_pair_at(tokens, at, "WITH", "REPLY");
     let has_information = clauses.information.is_none() & is_with & !is_reply;
     if has_information {
-        let (information, next) = read_information_clause(alloc, tokens, at)?;
-        clauses.information = Some(information);
-        return Ok(Some(next));
+        return keep_clause(
+            &mut clauses.information,
+            read_information_clause(alloc, tokens, at),
+        );
     }
     let has_reply = clauses.reply.is_none() & is_with;
     if has_reply {
-        let (reply, next) = read_type_clause(alloc, tokens, at, &["WITH", "REPLY", "SYNTAX"])?;
-        clauses.reply = Some(reply);
-        return Ok(Some(next));
+        return keep_clause(
+            &mut clauses.reply,
+            read_type_clause(alloc, tokens, at, &["WITH", "REPLY", "SYNTAX"]),
+        );
     }
     Ok(None)
 }
@@ -177,8 +186,7 @@ fn read_field_list(
     let mut list = Vec::new(alloc);
     let mut next = at;
     'turns: loop {
-        let (field, behind) = read_field(alloc, tokens, next)?;
-        list.push(field)?;
+        let behind = keep_part(&mut list, read_field(alloc, tokens, next))?;
         let Some(place) = place_behind(tokens, behind, ",") else {
             return Ok((list, behind));
         };
@@ -211,9 +219,7 @@ fn read_information_clause(
     ensures { Reads tokens.now templates closed information_clause at (clause_tree information_tree) result }
 {
     let next = skip_words(tokens, at, &["WITH", "INFORMATION", "SYNTAX"])?;
-    let (information, next) = read_information(alloc, tokens, next)?;
-    let next = skip_sign(tokens, next, ";")?;
-    Ok((information, next))
+    end_clause(tokens, read_information(alloc, tokens, next))
 }
 
 /// Reads the type of a notification's information and the attributes that its components are.

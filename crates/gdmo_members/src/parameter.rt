@@ -18,12 +18,14 @@ use super::context::{Context, read_context};
 use super::registration::read_ending;
 use super::type_clause::read_type_clause;
 use std::alloc::Global;
-use text_lex::{SyntaxRefusal, Token};
+use token_grammar::clause_ending::end_clause;
+use token_grammar::clause_keeping::keep_clause;
 use token_grammar::label_reference::{LabelReference, read_label_reference};
 use token_grammar::object_identifier::ObjectIdentifier;
 use token_grammar::qualified_name::QualifiedName;
 use token_grammar::token_reading::{place_behind, read_label, skip_sign, skip_words};
 use token_grammar::token_tests::{is_one_of_at, is_template_at, is_word_at};
+use token_grammar::{SyntaxRefusal, Token};
 
 /// A parameter template.
 #[cycle(templates)]
@@ -242,21 +244,18 @@ fn read_parameter_clause(
 {
     let has_context = draft.context.is_none() & is_word_at(tokens, at, "CONTEXT");
     if has_context {
-        let (context, next) = read_context_clause(alloc, tokens, at)?;
-        draft.context = Some(context);
-        return Ok(Some(next));
+        return keep_clause(&mut draft.context, read_context_clause(alloc, tokens, at));
     }
     let has_syntax = draft.syntax.is_none() & is_one_of_at(tokens, at, &["WITH", "ATTRIBUTE"]);
     if has_syntax {
-        let (syntax, next) = read_parameter_syntax(alloc, tokens, at)?;
-        draft.syntax = Some(syntax);
-        return Ok(Some(next));
+        return keep_clause(&mut draft.syntax, read_parameter_syntax(alloc, tokens, at));
     }
     let has_behaviour = draft.behaviour.is_none() & is_word_at(tokens, at, "BEHAVIOUR");
     if has_behaviour {
-        let (behaviour, next) = read_behaviour_clause(alloc, tokens, at)?;
-        draft.behaviour = Some(behaviour);
-        return Ok(Some(next));
+        return keep_clause(
+            &mut draft.behaviour,
+            read_behaviour_clause(alloc, tokens, at),
+        );
     }
     Ok(None)
 }
@@ -270,9 +269,7 @@ fn read_context_clause(
     ensures { Reads tokens.now templates closed (clause (codes "CONTEXT" ∷ []) context) at (clause_tree context_tree) result }
 {
     let next = skip_words(tokens, at, &["CONTEXT"])?;
-    let (context, next) = read_context(alloc, tokens, next)?;
-    let next = skip_sign(tokens, next, ";")?;
-    Ok((context, next))
+    end_clause(tokens, read_context(alloc, tokens, next))
 }
 
 /// Reads `WITH SYNTAX Module.Type;` or `ATTRIBUTE ref;`.

@@ -10,10 +10,10 @@ ghost use Rattle.gdmo_members.specs.Templates.{templates};
 ghost use Rattle.gdmo_members.specs.Trees.{registration_tree, ending_tree, registered_ending_tree};
 
 use std::alloc::Global;
-use text_lex::{SyntaxRefusal, Token};
 use token_grammar::object_identifier::{ObjectIdentifier, read_object_identifier};
 use token_grammar::token_reading::{skip_sign, skip_words};
 use token_grammar::token_tests::is_word_at;
+use token_grammar::{SyntaxRefusal, Token};
 
 /// Reads `REGISTERED AS oid`.
 fn read_registration(

@@ -10,9 +10,10 @@ ghost use Rattle.gdmo_members.specs.Templates.{templates};
 ghost use Rattle.gdmo_members.specs.Trees.{clause_tree};
 
 use std::alloc::Global;
-use text_lex::{SyntaxRefusal, Token};
+use token_grammar::clause_ending::end_clause;
 use token_grammar::qualified_name::{QualifiedName, read_qualified_name};
-use token_grammar::token_reading::{skip_sign, skip_words};
+use token_grammar::token_reading::skip_words;
+use token_grammar::{SyntaxRefusal, Token};
 
 /// Reads the words, the name of a type and a semicolon.
 pub fn read_type_clause(
@@ -24,7 +25,5 @@ pub fn read_type_clause(
     ensures { Reads tokens.now templates closed (Then (Marks (map (λ word. is_word_of word.now) words.now)) (Then qualified_name semicolon)) at (clause_tree qualified_name_tree) result }
 {
     let next = skip_words(tokens, at, words)?;
-    let (name, next) = read_qualified_name(alloc, tokens, next)?;
-    let next = skip_sign(tokens, next, ";")?;
-    Ok((name, next))
+    end_clause(tokens, read_qualified_name(alloc, tokens, next))
 }

@@ -6,7 +6,7 @@ ghost use Rattle.term_model.specs.Texts.{cause_text, placed_text, line, line_fee
 
 use itoa::Buffer;
 use std::alloc::{AllocError, Global};
-use term_model::{AgentState, Association, Entries, Entry, Why};
+use term_model::{AgentState, Association, Entry, Why};
 
 /// The byte that ends each line.
 pub const LINE_FEED: u8 = 10;
@@ -126,10 +126,10 @@ pub fn write_entry(alloc: Global, entry: &Entry, into: &mut Vec<u8>) -> Result<(
 }
 
 /// Appends a line for each entry.
-pub fn write_journal(alloc: Global, journal: &Entries, into: &mut Vec<u8>) -> Result<(), AllocError>
+pub fn write_journal(alloc: Global, journal: &[Entry], into: &mut Vec<u8>) -> Result<(), AllocError>
     ensures { OnOk result (into.new.items ≡ into.old.items ++ journal_text journal.now) }
 {
-    for entry in &journal.items {
+    for entry in journal {
         write_entry(alloc, entry, into)?;
     }
     Ok(())
@@ -163,11 +163,11 @@ pub fn write_outs(alloc: Global, agent: &AgentState, into: &mut Vec<u8>) -> Resu
     for (place, association) in agent.associations.items.iter().enumerate() {
         write_out_line(alloc, place as u64 + 1, association, into)?;
     }
-    write_number(b"objects ", agent.objects.items.len() as u64, into)
+    write_number(b"objects ", agent.objects.as_slice().len() as u64, into)
 }
 
 /// What `run` prints of a journal and the agent after it.
-pub fn run_text(alloc: Global, journal: &Entries, agent: &AgentState) -> Result<Vec<u8>, AllocError>
+pub fn run_text(alloc: Global, journal: &[Entry], agent: &AgentState) -> Result<Vec<u8>, AllocError>
     ensures { IfOk result (λ text. text.items ≡ journal_text journal.now ++ (separator ++ outs agent.now)) }
 {
     let mut text = Vec::new(alloc);

@@ -1,5 +1,5 @@
-pub mod FindingLaws
-pub mod HeldLaws
-pub mod JournalLaws
+mod CommitLaws
+mod JournalLaws
+mod OpeningLaws
 pub mod PlayLaws
 mod StandardFacts

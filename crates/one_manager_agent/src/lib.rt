@@ -2,4 +2,5 @@
 #![tactic(auto)]
 
 pub mod agent_steps;
+pub mod performing;
 pub mod playing;

@@ -1,187 +1,295 @@
 //! Plays a script on the one-manager agent: the journal that it gives, and the state after it.
 
-ghost use Rattle.std.specs.Prelude.{◌≡◌, ◌+◌, ◌^◌, ◌<◌, ◌++◌, [], ◌∷◌, length, IsTrue, OnOk, IfOk, IsSome};
+ghost use Rattle.std.specs.Prelude.{◌≡◌, ◌+◌, ◌^◌, ◌<◌, ◌≤◌, ◌++◌, [], ◌∷◌, length, vec_capacity, vec_len, IsTrue, OnErr, OnOk, IfOk, IsSome, Some};
 ghost use Rattle.std.specs.List.{All};
-ghost use Rattle.term_model.specs.AgentState.{start};
+ghost use Rattle.term_model.specs.AgentState.{start, with_opened};
 ghost use Rattle.term_model.specs.Bind.{title_in};
 ghost use Rattle.term_model.specs.History.{came, is_legal_journal, replay};
-ghost use Rattle.term_model.specs.Played.{answered, closed, line_played, played, taken_all, with_entry};
+ghost use Rattle.term_model.specs.Moment.{moment_text};
+ghost use Rattle.term_model.specs.Played.{answered, beginning, closed, line_played, played, taken_all, with_entry};
 ghost use Rattle.term_model.specs.Played.ScriptLine.{Open, Send};
 ghost use Rattle.term_model.specs.Settled.{IsSettled};
-ghost use Rattle.term_model.specs.Step.{is_legal};
+ghost use Rattle.term_model.specs.Step.{is_legal, last_moment};
 ghost use Rattle.term_model.specs.TextLaws.{IsEntry};
-ghost use Rattle.one_manager_agent.specs.Playing.{IsFresh, IsReady, script_lines, so_far, sole};
+ghost use Rattle.one_manager_agent.specs.Playing.{granted_text, IsFresh, IsReady, script_lines, sole};
 
-use crate::agent_steps::{
-    SCRIPT_START, arrive, close_at_end, commit, finish, grant, open, take_all,
-};
+use crate::agent_steps::{arrive, close_at_end, finish, grant, open, take_all};
+use crate::performing::commit;
 use std::alloc::{AllocError, Global};
+use std::marker::Model;
 use term_model::{
-    AgentState, Associations, Entries, Entry, NamedObject, Object, Objects, Oids, Operations, Set,
-    Why,
+    AgentState, Associations, Entry, Limits, NamedObject, Object, Objects, Operations, Set,
+    WaitingRecords, Why,
 };
 use term_values::Bytes;
 
 /// The number of the one association of a script.
 pub const ASSOCIATION: u64 = 1;
 
-/// What a script came to: the agent and the journal.
+/// The moment at which a script begins, in seconds since 1970.
+const SCRIPT_START: u64 = 0;
+
+/// That moment as GeneralizedTime.
+const SCRIPT_START_TEXT: &[u8] = b"19700101000000Z";
+
+/// An agent with its journal, and the moment at which it grants operations. The journal is legal, comes to the agent by
+/// replay, and holds numbers of 64 bits and octets of 8 alone.
 #[derive(Drop)]
 pub struct Play {
-    pub agent: AgentState,
-    pub journal: Entries,
+    agent: AgentState,
+    journal: Vec<Entry>,
+    moment: u64,
+    time: Vec<u8>,
 }
 
-/// The agent before any entry: the objects at the opening, and nothing else. The instances go into the objects.
-pub fn opened_agent(alloc: Global, schema: Set) -> Result<AgentState, AllocError>
-    ensures { IfOk result (λ agent. agent ≡ start schema) }
+impl Model for Play {
+    ghost use Rattle.std.specs.Coded.{codes};
+    ghost use Rattle.term_values.specs.SyntaxCode.{syntax_code};
+    ghost use Rattle.term_values.specs.Typed.{value_code};
+    ghost use Rattle.term_model.specs.Played.{Play};
+    ghost use Rattle.one_manager_agent.specs.Playing.{IsJournaled, IsTold};
+
+    ghost Value = { Play };
+
+    ghost coded = { Prim.hlevel (codes, value_code, syntax_code) };
+
+    ghost view = { λ play. record { agent = play.agent; journal = play.journal.items; moment = play.moment } };
+
+    ghost invariant = { λ play. IsJournaled play.agent play.journal.items × IsTold play.moment play.time.items };
+}
+
+/// The objects at the opening.
+fn opened_objects(alloc: Global, schema: &Set) -> Result<Objects, AllocError>
+    ensures { IfOk result (λ objects. objects ≡ with_opened [] schema.now.instances) }
 {
-    let mut items = Vec::new(alloc);
+    let mut objects = Objects::new(alloc);
     for instance in &schema.instances.items {
-        items.push(NamedObject {
+        objects.store(NamedObject {
             name: instance.name.copy(alloc)?,
             object: Object {
                 class: instance.class.copy(alloc)?,
                 binding: None,
-                chosen: Oids {
-                    items: Vec::new(alloc),
-                },
+                chosen: instance.chosen.copy(alloc)?,
                 attrs: instance.given.copy(alloc)?,
             },
         })?;
     }
+    Ok(objects)
+}
+
+/// The agent before any entry: the objects at the opening, and nothing else.
+pub fn opened_agent(alloc: Global, schema: Set, limits: Limits) -> Result<AgentState, AllocError>
+    ensures { IfOk result (λ agent. agent ≡ start schema limits) }
+{
+    let objects = opened_objects(alloc, &schema)?;
     Ok(AgentState {
         schema,
-        objects: Objects { items },
+        limits,
+        objects,
         associations: Associations {
             items: Vec::new(alloc),
         },
         operations: Operations {
             items: Vec::new(alloc),
         },
+        waiting: WaitingRecords {
+            items: Vec::new(alloc),
+        },
         entries: 0,
     })
 }
 
-/// Makes room in a journal for so many entries.
-fn make_room(journal: &mut Entries, count: usize) -> Result<(), AllocError>
-    ensures kept { journal.new ≡ journal.old }
-    ensures room { OnOk result (length journal.old + count < 2 ^ 64) }
+/// Makes room in a journal for one more entry.
+fn make_room(journal: &mut Vec<Entry>) -> Result<(), AllocError>
+    ensures kept { journal.new.items ≡ journal.old.items }
+    ensures room { OnOk result (vec_len journal.new < vec_capacity journal.new) }
+    ensures counts { OnOk result (length journal.new.items + 1 < 2 ^ 64) }
 {
-    journal.items.reserve(count)
+    journal.reserve(1)
 }
 
-/// Writes an entry down.
-fn write_down(journal: &mut Entries, entry: Entry) -> Result<(), AllocError>
-    ensures { OnOk result (journal.new ≡ journal.old ++ entry ∷ []) }
+/// Writes down an entry for which there is room.
+fn write_down(journal: &mut Vec<Entry>, entry: Entry)
+    requires { vec_len journal.old < vec_capacity journal.old }
+    ensures { journal.new.items ≡ journal.old.items ++ entry ∷ [] }
 {
-    journal.items.push(entry)?;
-    Ok(())
-}
-
-/// How many operations there are.
-fn count_operations(agent: &AgentState) -> u64
-    ensures { result ≡ length agent.now.operations }
-{
-    agent.operations.items.len() as u64
+    if let Err(_refused) = journal.push(entry) {}
 }
 
 impl Play {
-    /// Takes all that is left, and writes down how much, where something is left.
-    fn take(&mut self) -> Result<(), AllocError>
-        requires counted { self.old.agent.entries ≡ length self.old.journal }
-        ensures played { OnOk result (so_far self.new.agent self.new.journal
-            ≡ taken_all ASSOCIATION (so_far self.old.agent self.old.journal)) }
-        ensures held { OnOk result (All IsEntry self.old.journal → All IsEntry self.new.journal) }
+    /// An agent of these records before any entry, which grants operations at the moment 0.
+    pub fn new(alloc: Global, schema: Set, limits: Limits) -> Result<Play, AllocError>
+        ensures { IfOk result (λ play. play ≡ beginning schema limits) }
     {
-        make_room(&mut self.journal, 1)?;
+        let time = Vec::from_slice(alloc, SCRIPT_START_TEXT)?;
+        let agent = opened_agent(alloc, schema, limits)?;
+        Ok(Play {
+            agent,
+            journal: Vec::new(alloc),
+            moment: SCRIPT_START,
+            time,
+        })
+    }
+
+    /// The agent as it is.
+    pub fn agent(&self) -> &AgentState
+        ensures { result.now ≡ self.now.agent }
+    {
+        &self.agent
+    }
+
+    /// The journal so far. It is legal, comes to the agent, and holds numbers of 64 bits and octets of 8 alone.
+    pub fn journal(&self) -> &[Entry]
+        ensures journal { result.now ≡ self.now.journal }
+        ensures legal { IsTrue (is_legal_journal self.now.agent.schema self.now.agent.limits self.now.journal) }
+        ensures replayed { replay self.now.agent.schema self.now.agent.limits self.now.journal ≡ self.now.agent }
+        ensures held { All IsEntry self.now.journal }
+    {
+        self.journal.as_slice()
+    }
+
+    /// Opens the association by a BIND. After want of memory nothing has changed.
+    fn open(&mut self, alloc: Global, bind: Bytes) -> Result<(), AllocError>
+        requires legal { IsTrue (is_legal self.old.agent (Entry.Opened ASSOCIATION bind)) }
+        ensures entered { OnOk result (self.new ≡ with_entry self.old (Entry.Opened ASSOCIATION bind)) }
+        ensures kept { OnErr result (self.new ≡ self.old) }
+    {
+        make_room(&mut self.journal)?;
+        let octets = bind.as_slice();
+        open(alloc, &mut self.agent, ASSOCIATION, octets)?;
+        write_down(&mut self.journal, Entry::Opened(ASSOCIATION, bind));
+        Ok(())
+    }
+
+    /// Brings an APDU of the association. After want of memory nothing has changed.
+    fn arrive(&mut self, alloc: Global, apdu: Bytes) -> Result<(), AllocError>
+        requires legal { IsTrue (is_legal self.old.agent (Entry.Arrived ASSOCIATION apdu)) }
+        ensures entered { OnOk result (self.new ≡ with_entry self.old (Entry.Arrived ASSOCIATION apdu)) }
+        ensures kept { OnErr result (self.new ≡ self.old) }
+    {
+        make_room(&mut self.journal)?;
+        let octets = apdu.as_slice();
+        arrive(alloc, &mut self.agent, ASSOCIATION, octets)?;
+        write_down(&mut self.journal, Entry::Arrived(ASSOCIATION, apdu));
+        Ok(())
+    }
+
+    /// Grants the operation under this number. After want of memory nothing has changed.
+    fn grant(&mut self, number: u64) -> Result<(), AllocError>
+        requires legal { IsTrue (is_legal self.old.agent (Entry.Granted number self.old.moment)) }
+        ensures entered { OnOk result (self.new ≡ with_entry self.old (Entry.Granted number self.old.moment)) }
+        ensures kept { OnErr result (self.new ≡ self.old) }
+    {
+        make_room(&mut self.journal)?;
+        grant(&mut self.agent, number, self.moment);
+        write_down(&mut self.journal, Entry::Granted(number, self.moment));
+        Ok(())
+    }
+
+    /// Commits the operation under this number, which was granted at this moment. After want of memory nothing has
+    /// changed.
+    fn commit(&mut self, alloc: Global, number: u64) -> Result<(), AllocError>
+        requires granted { granted_text self.old.agent number ≡ Some (moment_text self.old.moment) }
+        ensures entered { OnOk result (self.new ≡ with_entry self.old (Entry.Committed number)) }
+        ensures kept { OnErr result (self.new ≡ self.old) }
+    {
+        make_room(&mut self.journal)?;
+        commit(alloc, &mut self.agent, number, self.time.as_slice())?;
+        write_down(&mut self.journal, Entry::Committed(number));
+        Ok(())
+    }
+
+    /// Takes all that is left of the association, where something is left. After want of memory nothing has changed.
+    fn take(&mut self) -> Result<(), AllocError>
+        ensures taken { OnOk result (self.new ≡ taken_all ASSOCIATION self.old) }
+        ensures kept { OnErr result (self.new ≡ self.old) }
+    {
+        make_room(&mut self.journal)?;
         let count = take_all(&mut self.agent, ASSOCIATION);
         if count == 0 {
             return Ok(());
         }
-        write_down(&mut self.journal, Entry::Taken(ASSOCIATION, count))?;
+        write_down(&mut self.journal, Entry::Taken(ASSOCIATION, count));
         Ok(())
     }
 
-    /// Opens the association.
-    fn open(&mut self, alloc: Global, bind: Bytes) -> Result<(), AllocError>
-        requires titled { IsSome (title_in bind) }
-        requires fresh { IsFresh self.old.agent self.old.journal }
-        ensures played { OnOk result (so_far self.new.agent self.new.journal
-            ≡ line_played (so_far self.old.agent self.old.journal) (Open bind)) }
-        ensures ready { OnOk result (IsReady self.new.agent self.new.journal) }
-        ensures held { OnOk result (All IsEntry self.old.journal → All IsEntry self.new.journal) }
+    /// Finishes the association. After want of memory nothing has changed.
+    fn finish(&mut self) -> Result<(), AllocError>
+        requires legal { IsTrue (is_legal self.old.agent (Entry.Finished ASSOCIATION)) }
+        ensures entered { OnOk result (self.new ≡ with_entry self.old (Entry.Finished ASSOCIATION)) }
+        ensures kept { OnErr result (self.new ≡ self.old) }
     {
-        let octets = bind.as_slice();
-        open(alloc, &mut self.agent, ASSOCIATION, octets)?;
-        write_down(&mut self.journal, Entry::Opened(ASSOCIATION, bind))?;
+        make_room(&mut self.journal)?;
+        finish(&mut self.agent, ASSOCIATION);
+        write_down(&mut self.journal, Entry::Finished(ASSOCIATION));
+        Ok(())
+    }
+
+    /// Closes the association at its end. After want of memory nothing has changed.
+    fn close(&mut self) -> Result<(), AllocError>
+        requires legal { IsTrue (is_legal self.old.agent (Entry.Closed ASSOCIATION Why.End)) }
+        ensures entered { OnOk result (self.new ≡ with_entry self.old (Entry.Closed ASSOCIATION Why.End)) }
+        ensures kept { OnErr result (self.new ≡ self.old) }
+    {
+        make_room(&mut self.journal)?;
+        close_at_end(&mut self.agent, ASSOCIATION);
+        write_down(&mut self.journal, Entry::Closed(ASSOCIATION, Why::End));
+        Ok(())
+    }
+
+    /// How many operations there are. The moment of their grants is one that a journal can tell.
+    fn count_operations(&self) -> u64
+        ensures counted { result ≡ length self.now.agent.operations }
+        ensures within { self.now.moment ≤ last_moment }
+    {
+        self.agent.operations.items.len() as u64
+    }
+
+    /// Grants and commits the last operation, where there are more than so many.
+    fn answer(&mut self, alloc: Global, before: u64) -> Result<(), AllocError>
+        requires legal { before < length self.old.agent.operations
+            → IsTrue (is_legal self.old.agent (Entry.Granted (length self.old.agent.operations) self.old.moment)) }
+        ensures { OnOk result (self.new ≡ answered before self.old) }
+    {
+        let number = self.count_operations();
+        if number <= before {
+            return Ok(());
+        }
+        self.grant(number)?;
+        self.commit(alloc, number)
+    }
+
+    /// Plays the line that opens the association.
+    fn play_open(&mut self, alloc: Global, bind: Bytes) -> Result<(), AllocError>
+        requires titled { IsSome (title_in bind) }
+        requires fresh { IsFresh self.old.agent }
+        ensures played { OnOk result (self.new ≡ line_played self.old (Open bind)) }
+        ensures ready { OnOk result (IsReady self.new.agent) }
+    {
+        self.open(alloc, bind)?;
         self.take()
     }
 
-    /// Brings an APDU, performs the operation that it queues, and takes the reply.
-    fn send(&mut self, alloc: Global, apdu: Bytes) -> Result<(), AllocError>
-        requires { IsReady self.old.agent self.old.journal }
-        ensures played { OnOk result (so_far self.new.agent self.new.journal
-            ≡ line_played (so_far self.old.agent self.old.journal) (Send ASSOCIATION apdu)) }
-        ensures ready { OnOk result (IsReady self.new.agent self.new.journal) }
-        ensures held { OnOk result (All IsEntry self.old.journal → All IsEntry self.new.journal) }
+    /// Plays a line that sends an APDU.
+    fn play_send(&mut self, alloc: Global, apdu: Bytes) -> Result<(), AllocError>
+        requires ready { IsReady self.old.agent }
+        ensures played { OnOk result (self.new ≡ line_played self.old (Send ASSOCIATION apdu)) }
+        ensures ready { OnOk result (IsReady self.new.agent) }
     {
-        let before = count_operations(&self.agent);
-        make_room(&mut self.journal, 1)?;
-        let octets = apdu.as_slice();
-        arrive(alloc, &mut self.agent, ASSOCIATION, octets)?;
-        write_down(&mut self.journal, Entry::Arrived(ASSOCIATION, apdu))?;
+        let before = self.count_operations();
+        self.arrive(alloc, apdu)?;
         self.answer(alloc, before)?;
         self.take()
     }
 
-    /// Performs the last operation, where there are more than so many.
-    fn answer(&mut self, alloc: Global, before: u64) -> Result<(), AllocError>
-        requires counted { self.old.agent.entries ≡ length self.old.journal }
-        requires legal { before < length self.old.agent.operations
-            → IsTrue (is_legal self.old.agent (Entry.Granted (length self.old.agent.operations) SCRIPT_START)) }
-        ensures played { OnOk result (so_far self.new.agent self.new.journal
-            ≡ answered before (so_far self.old.agent self.old.journal)) }
-        ensures held { OnOk result (All IsEntry self.old.journal → All IsEntry self.new.journal) }
+    /// Plays the end of the script for the association.
+    fn play_end(&mut self) -> Result<(), AllocError>
+        requires ready { IsReady self.old.agent }
+        ensures played { OnOk result (self.new ≡ closed ASSOCIATION self.old) }
     {
-        let number = count_operations(&self.agent);
-        if number <= before {
-            return Ok(());
-        }
-        self.perform(alloc, number)
-    }
-
-    /// Grants and commits the operation under this number.
-    fn perform(&mut self, alloc: Global, number: u64) -> Result<(), AllocError>
-        requires counted { self.old.agent.entries ≡ length self.old.journal }
-        requires legal { IsTrue (is_legal self.old.agent (Entry.Granted number SCRIPT_START)) }
-        ensures played { OnOk result (so_far self.new.agent self.new.journal
-            ≡ with_entry (with_entry (so_far self.old.agent self.old.journal) (Entry.Granted number SCRIPT_START))
-            (Entry.Committed number)) }
-        ensures held { OnOk result (All IsEntry self.old.journal → All IsEntry self.new.journal) }
-    {
-        make_room(&mut self.journal, 2)?;
-        grant(&mut self.agent, number);
-        write_down(&mut self.journal, Entry::Granted(number, SCRIPT_START))?;
-        commit(alloc, &mut self.agent, number)?;
-        write_down(&mut self.journal, Entry::Committed(number))?;
-        Ok(())
-    }
-
-    /// Finishes and closes the association.
-    fn close(&mut self) -> Result<(), AllocError>
-        requires { IsReady self.old.agent self.old.journal }
-        ensures played { OnOk result (so_far self.new.agent self.new.journal
-            ≡ closed ASSOCIATION (so_far self.old.agent self.old.journal)) }
-        ensures held { OnOk result (All IsEntry self.old.journal → All IsEntry self.new.journal) }
-    {
-        make_room(&mut self.journal, 2)?;
-        finish(&mut self.agent, ASSOCIATION);
-        write_down(&mut self.journal, Entry::Finished(ASSOCIATION))?;
+        self.finish()?;
         self.take()?;
-        close_at_end(&mut self.agent, ASSOCIATION);
-        write_down(&mut self.journal, Entry::Closed(ASSOCIATION, Why::End))?;
-        Ok(())
+        self.close()
     }
 }
 
@@ -190,36 +298,28 @@ impl Play {
 pub fn perform_script(
     alloc: Global,
     schema: Set,
+    limits: Limits,
     bind: Bytes,
     sends: Vec<Bytes>,
 ) -> Result<Play, AllocError>
     requires { IsSome (title_in bind) }
-    ensures played { IfOk result (λ play. so_far play.agent play.journal
-        ≡ played schema (script_lines bind sends.items)) }
+    ensures played { IfOk result (λ play. play ≡ played schema limits (script_lines bind sends.items)) }
 
-    // The journal is one that the agent may have, and comes to the agent as it is.
-    ensures legal { IfOk result (λ play. IsTrue (is_legal_journal schema play.journal)) }
-    ensures replayed { IfOk result (λ play. replay schema play.journal ≡ play.agent) }
+    // The agent has these records and limits.
+    ensures schema { IfOk result (λ play. play.agent.schema ≡ schema) }
+    ensures limits { IfOk result (λ play. play.agent.limits ≡ limits) }
 
     // Its frames are the BIND and these APDUs, in their order, and no others.
     ensures frames { IfOk result (λ play. came sole play.journal ≡ bind ∷ sends.items) }
 
     // At the end the association is closed, all that was placed for it was taken, and none of its operations is outstanding.
     ensures settled { IfOk result (λ play. IsSettled play.agent) }
-
-    // Each number of the journal has 64 bits, and each octet has 8.
-    ensures held { IfOk result (λ play. All IsEntry play.journal) }
 {
-    let mut play = Play {
-        agent: opened_agent(alloc, schema)?,
-        journal: Entries {
-            items: Vec::new(alloc),
-        },
-    };
-    play.open(alloc, bind)?;
+    let mut play = Play::new(alloc, schema, limits)?;
+    play.play_open(alloc, bind)?;
     for apdu in sends {
-        play.send(alloc, apdu)?;
+        play.play_send(alloc, apdu)?;
     }
-    play.close()?;
+    play.play_end()?;
     Ok(play)
 }

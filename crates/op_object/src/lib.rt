@@ -2,6 +2,4 @@
 #![tactic(auto)]
 
 pub mod object_reading;
-mod property_lists;
-#[cfg(test)]
-mod tests;
+pub mod property_lists;

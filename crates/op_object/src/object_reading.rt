@@ -1,18 +1,17 @@
 //! What a Get does to one object: X.711, section 7.4.
 
-ghost use Rattle.std.specs.Prelude.{◌≡◌, ◌++◌, IfOk, OnOk, IsTrue, List, map, flat_map};
+ghost use Rattle.std.specs.Prelude.{◌≡◌, ◌++◌, IfOk, OnOk, IsTrue, map, flat_map};
 ghost use Rattle.term_model.specs.GetRequest.{class_octets, instance_octets, rdn_octets};
-ghost use Rattle.term_model.specs.ObjectOperation.{attribute_octets, attributes_octets, get_one, readable, time_octets};
+ghost use Rattle.term_model.specs.ObjectOperation.{attribute_octets, attributes_octets, get_one, readable, time_octets, value_octets};
 ghost use Rattle.term_model.specs.Rising.{rising};
-ghost use Rattle.term_values.specs.Fits.{der};
 
-use crate::property_lists::readable_attributes;
-use ber_tree::tree_writing::write_integer_contents;
+use crate::property_lists::{readable_attributes, syntax_of};
 use ber_tree::value_writing::{write_oid, write_value};
+use ber_values::encoding::encode_into;
 use std::alloc::{AllocError, Global};
-use term_model::{Attribute, Attrs, Object, Rdn, Set};
+use term_model::{AttrRecs, Attribute, Attrs, Object, Rdn, Set};
 use term_values::tag::CONTEXT;
-use term_values::{Bytes, Oid, Tag, Value, ValueForm};
+use term_values::{Bytes, Tag};
 
 /// The tag of globalForm: X.711, ObjectClass and AttributeId.
 pub const GLOBAL_FORM: Tag = Tag {
@@ -38,29 +37,32 @@ const ATTRIBUTE_LIST: Tag = Tag {
     number: 6,
 };
 
-/// The moment 0 as GeneralizedTime.
-const EPOCH_TEXT: &[u8] = b"19700101000000Z";
-
-/// Appends the written encoding of a value.
-pub fn write_typed(alloc: Global, value: &Value, into: &mut Vec<u8>) -> Result<(), AllocError>
-    ensures { OnOk result (into.new.items ≡ into.old.items ++ der value.now) }
+/// Appends the written encoding of an attribute's value; one without a record has none.
+fn write_attribute_value(
+    alloc: Global,
+    records: &AttrRecs,
+    attribute: &Attribute,
+    into: &mut Vec<u8>,
+) -> Result<(), AllocError>
+    ensures { OnOk result (into.new.items ≡ into.old.items ++ value_octets records.now attribute.now) }
 {
-    match value.form {
-        ValueForm::Int(number) => {
-            let mut contents = Vec::new(alloc);
-            write_integer_contents(number, &mut contents)?;
-            write_value(false, Tag::INTEGER, &contents, into)
-        }
+    match syntax_of(records, &attribute.id) {
+        Some(syntax) => encode_into(alloc, syntax, &attribute.value, into),
+        None => Ok(()),
     }
 }
 
 /// An Attribute: its identifier in globalForm and its value.
-fn attribute_octets(alloc: Global, attribute: &Attribute) -> Result<Bytes, AllocError>
-    ensures { IfOk result (λ octets. octets ≡ attribute_octets attribute.now) }
+fn attribute_octets(
+    alloc: Global,
+    records: &AttrRecs,
+    attribute: &Attribute,
+) -> Result<Bytes, AllocError>
+    ensures { IfOk result (λ octets. octets ≡ attribute_octets records.now attribute.now) }
 {
     let mut contents = Vec::new(alloc);
     write_oid(alloc, GLOBAL_FORM, &attribute.id, &mut contents)?;
-    write_typed(alloc, &attribute.value, &mut contents)?;
+    write_attribute_value(alloc, records, attribute, &mut contents)?;
     let mut items = Vec::new(alloc);
     write_value(true, Tag::SEQUENCE, &contents, &mut items)?;
     Ok(Bytes { items })
@@ -78,12 +80,17 @@ pub fn write_members(mut members: Vec<Bytes>, into: &mut Vec<u8>) -> Result<(), 
 }
 
 /// The octets of attributes as the contents of a SET OF Attribute.
-pub fn attribute_set(alloc: Global, attrs: &Attrs) -> Result<Vec<u8>, AllocError>
-    ensures { IfOk result (λ octets. octets.items ≡ flat_map (λ member. member) (rising (map attribute_octets attrs.now))) }
+pub fn attribute_set(
+    alloc: Global,
+    records: &AttrRecs,
+    attrs: &Attrs,
+) -> Result<Vec<u8>, AllocError>
+    ensures { IfOk result (λ octets. octets.items
+        ≡ flat_map (λ member. member) (rising (map (attribute_octets records.now) attrs.now))) }
 {
     let mut members = Vec::new(alloc);
     for attribute in &attrs.items {
-        members.push(attribute_octets(alloc, attribute)?)?;
+        members.push(attribute_octets(alloc, records, attribute)?)?;
     }
     let mut contents = Vec::new(alloc);
     write_members(members, &mut contents)?;
@@ -92,13 +99,14 @@ pub fn attribute_set(alloc: Global, attrs: &Attrs) -> Result<Vec<u8>, AllocError
 
 /// The octets of the attributes that a Get without a list gives, as the contents of a SET OF Attribute.
 fn readable_set(alloc: Global, schema: &Set, object: &Object) -> Result<Vec<u8>, AllocError>
-    ensures { IfOk result (λ octets. octets.items ≡ flat_map (λ member. member) (rising (map attribute_octets (readable schema.now object.now)))) }
+    ensures { IfOk result (λ octets. octets.items
+        ≡ flat_map (λ member. member) (rising (map (attribute_octets schema.now.attributes) (readable schema.now object.now)))) }
 {
     let ids = readable_attributes(alloc, schema, &object.class)?;
     let mut members = Vec::new(alloc);
     for attribute in &object.attrs.items {
         if ids.contains(&attribute.id) {
-            members.push(attribute_octets(alloc, attribute)?)?;
+            members.push(attribute_octets(alloc, &schema.attributes, attribute)?)?;
         }
     }
     let mut contents = Vec::new(alloc);
@@ -134,11 +142,11 @@ pub fn write_instance(alloc: Global, name: &[Rdn], into: &mut Vec<u8>) -> Result
     write_value(true, LOCAL_DISTINGUISHED_NAME, &rdns, into)
 }
 
-/// Appends the time of a result, the moment 0.
-fn write_epoch(into: &mut Vec<u8>) -> Result<(), AllocError>
-    ensures { OnOk result (into.new.items ≡ into.old.items ++ time_octets 0) }
+/// Appends the time of a result, as GeneralizedTime.
+fn write_time(time: &[u8], into: &mut Vec<u8>) -> Result<(), AllocError>
+    ensures { OnOk result (into.new.items ≡ into.old.items ++ time_octets time.now) }
 {
-    write_value(false, CURRENT_TIME, EPOCH_TEXT, into)
+    write_value(false, CURRENT_TIME, time, into)
 }
 
 /// Appends the attributes that a Get without a list gives.
@@ -148,40 +156,43 @@ fn write_attributes(
     object: &Object,
     into: &mut Vec<u8>,
 ) -> Result<(), AllocError>
-    ensures { OnOk result (into.new.items ≡ into.old.items ++ attributes_octets (readable schema.now object.now)) }
+    ensures { OnOk result (into.new.items ≡ into.old.items ++ attributes_octets schema.now.attributes (readable schema.now object.now)) }
 {
     let attributes = readable_set(alloc, schema, object)?;
     write_value(true, ATTRIBUTE_LIST, &attributes, into)
 }
 
-/// What stands in the GetResult of an object, granted at the moment 0.
+/// What stands in the GetResult of an object, granted at the moment that `time` tells.
 fn result_contents(
     alloc: Global,
     schema: &Set,
     name: &[Rdn],
     object: &Object,
+    time: &[u8],
 ) -> Result<Vec<u8>, AllocError>
     ensures { IfOk result (λ octets. octets.items
-        ≡ class_octets object.now.class ++ (instance_octets name.now ++ (time_octets 0 ++ attributes_octets (readable schema.now object.now)))) }
+        ≡ class_octets object.now.class ++ (instance_octets name.now ++ (time_octets time.now
+        ++ attributes_octets schema.now.attributes (readable schema.now object.now)))) }
 {
     let mut contents = Vec::new(alloc);
     write_oid(alloc, GLOBAL_FORM, &object.class, &mut contents)?;
     write_instance(alloc, name, &mut contents)?;
-    write_epoch(&mut contents)?;
+    write_time(time, &mut contents)?;
     write_attributes(alloc, schema, object, &mut contents)?;
     Ok(contents)
 }
 
-/// The GetResult of an object, granted at the moment 0.
+/// The GetResult of an object, granted at the moment that `time` tells as GeneralizedTime.
 pub fn get_one(
     alloc: Global,
     schema: &Set,
     name: &[Rdn],
     object: &Object,
+    time: &[u8],
 ) -> Result<Bytes, AllocError>
-    ensures { IfOk result (λ octets. octets ≡ get_one schema.now name.now object.now 0) }
+    ensures { IfOk result (λ octets. octets ≡ get_one schema.now name.now object.now time.now) }
 {
-    let contents = result_contents(alloc, schema, name, object)?;
+    let contents = result_contents(alloc, schema, name, object, time)?;
     let mut items = Vec::new(alloc);
     write_value(true, Tag::SEQUENCE, &contents, &mut items)?;
     Ok(Bytes { items })

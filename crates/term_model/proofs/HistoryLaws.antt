@@ -1,6 +1,6 @@
 -- Replaying a journal that follows another, and what stays of an association's bytes.
 use Rattle.std.proofs.Common.{◌≡◌, ℕ, zero, suc, ◌-◌, Bool, true, false, List, [], ◌∷◌, ◌++◌, Option, Some, None, refl, sym, ap, ◌∙◌, append_assoc, subst}
-use Rattle.std.specs.Prelude.{◌==◌, ◌&&◌, slice_get, slice_set, if◌then◌else◌}
+use Rattle.std.specs.Prelude.{ℤ, ◌==◌, ◌&&◌, slice_get, slice_set, position, if◌then◌else◌}
 use Rattle.std.specs.Option.{option_map_or}
 use Rattle.std.proofs.lemmas.Bool.{and_from}
 use Rattle.std.proofs.lemmas.List.{append-nil}
@@ -9,14 +9,20 @@ use Rattle.term_model.specs.declared.agent_state.AgentState.{AgentState}
 use Rattle.term_model.specs.declared.agent_state.Association.{Association}
 use Rattle.term_model.specs.declared.agent_state.AssociationState.TheVariants as standing
 use Rattle.term_model.specs.declared.agent_state.Operation.{Operation}
+use Rattle.term_model.specs.declared.agent_state.Work.{Work}
+use Rattle.term_model.specs.declared.agent_state.Work.TheVariants as work
 use Rattle.term_model.specs.declared.entry.Entry.{Entry}
 use Rattle.term_model.specs.declared.entry.Entry.TheVariants as entry
+use Rattle.term_model.specs.declared.limits.Limits.{Limits}
 use Rattle.term_model.specs.declared.schema.Set.{Set}
 use Rattle.term_model.specs.AgentState.{start, association_of, operation_of, numbered, granted_moment}
 use Rattle.term_model.specs.Bind.{title_in}
 use Rattle.term_model.specs.History.{replay, replay_from, is_legal_from, is_legal_journal, out}
-use Rattle.term_model.specs.Operation.{exec}
-use Rattle.term_model.specs.Step.{is_legal, effect, counted, step, bound, changed_association, performed, reply_bytes, with_placed, with_state, with_taken}
+use Rattle.term_model.specs.Operation.{exec, operation_number, replied}
+use Rattle.term_model.specs.Arriving.{Arriving, arriving}
+use Rattle.term_model.specs.Arriving.Arriving.{Rejected, Cancels, NoEffect, Queued}
+use Rattle.term_model.specs.RemoteOperation.{error_apdu, frame, integer, reject_apdu}
+use Rattle.term_model.specs.Step.{is_legal, effect, counted, step, bound, changed_association, performed, with_placed, with_replies, with_state, with_taken, cancelled_at, cancelled_where, cancelling, is_get, is_outstanding_as, mistyped_operation, no_such_invoke_id, received}
 
 -- a journal that follows another goes on where that one ended
 pub replay_append : (agent : AgentState) (xs ys : List Entry) → replay_from agent (xs ++ ys) ≡ replay_from (replay_from agent xs) ys
@@ -32,11 +38,18 @@ legal_append agent [] ys = refl
 legal_append agent (x ∷ xs) ys = ap (λ b. is_legal agent x && b) (legal_append (step agent x) xs ys) ∙ and_assoc (is_legal agent x) (is_legal_from (step agent x) xs) (is_legal_from (replay_from (step agent x) xs) ys)
 
 -- one entry more
-pub replay_more : (schema : Set) (journal : List Entry) (next : Entry) → replay schema (journal ++ next ∷ []) ≡ step (replay schema journal) next
-replay_more schema journal next = replay_append (start schema) journal (next ∷ [])
+pub replay_more : (schema : Set) (limits : Limits) (journal : List Entry) (next : Entry)
+    → replay schema limits (journal ++ next ∷ []) ≡ step (replay schema limits journal) next
+replay_more schema limits journal next = replay_append (start schema limits) journal (next ∷ [])
 
-pub legal_more : (schema : Set) (journal : List Entry) (next : Entry) → is_legal_journal schema journal ≡ true → is_legal (replay schema journal) next ≡ true → is_legal_journal schema (journal ++ next ∷ []) ≡ true
-legal_more schema journal next h k = legal_append (start schema) journal (next ∷ []) ∙ and_from (is_legal_journal schema journal) (is_legal (replay schema journal) next && true) h (and_from (is_legal (replay schema journal) next) true k refl)
+pub legal_more : (schema : Set) (limits : Limits) (journal : List Entry) (next : Entry)
+    → is_legal_journal schema limits journal ≡ true → is_legal (replay schema limits journal) next ≡ true
+    → is_legal_journal schema limits (journal ++ next ∷ []) ≡ true
+legal_more schema limits journal next h k =
+    let after = replay schema limits journal in
+    legal_append (start schema limits) journal (next ∷ [])
+    ∙ and_from (is_legal_journal schema limits journal) (is_legal after next && true) h
+    (and_from (is_legal after next) true k refl)
 
 -- a list of octets begins another
 pub record Begins (shorter longer : List ℕ) : Type 0 where
@@ -89,37 +102,85 @@ module _ (change : Association → Association) (places : (a : Association) → 
 abbrev placed_in : AgentState → ℕ → List ℕ
 placed_in agent k = placed_of (association_of agent k)
 
-performed_begins : (agent : AgentState) (number k : ℕ) (o : Operation) (q : Option ℕ) → Begins (placed_in agent k) (placed_in (option_map_or (performed agent number o) q agent) k)
-performed_begins agent number k o None = begins_itself (placed_in agent k)
-performed_begins agent number k o (Some moment) =
-    let bytes = reply_bytes o (exec agent.schema agent.objects o.request moment) in
-    change_begins (with_placed bytes) (λ a. record { rest = bytes; whole = refl }) agent.associations o.association k
+either_begins : (b : Bool) (agent one other : AgentState) (k : ℕ) → Begins (placed_in agent k) (placed_in one k)
+    → Begins (placed_in agent k) (placed_in other k) → Begins (placed_in agent k) (placed_in (if b then one else other) k)
+either_begins true agent one other k h g = h
+either_begins false agent one other k h g = g
 
-committed_begins : (agent : AgentState) (number k : ℕ) (q : Option Operation) → Begins (placed_in agent k) (placed_in (option_map_or (λ (o : Operation). option_map_or (performed agent number o) (granted_moment o.state) agent) q agent) k)
+work_begins : (agent : AgentState) (number k : ℕ) (w : Work) (moment : ℕ)
+    → Begins (placed_in agent k) (placed_in (performed agent number w moment) k)
+work_begins agent number k (work.Asked association invoke request) moment =
+    let replies = (exec agent.schema agent.objects request moment).replies in
+    let change = with_replies invoke (operation_number request) replies in
+    change_begins change
+    (λ a. record { rest = (replied invoke (operation_number request) a.next_own replies).octets; whole = refl })
+    agent.associations association k
+work_begins agent number k (work.Append log own) moment = begins_itself (placed_in agent k)
+
+performed_begins : (agent : AgentState) (number k : ℕ) (o : Operation) (q : Option ℕ)
+    → Begins (placed_in agent k) (placed_in (option_map_or (performed agent number o.work) q agent) k)
+performed_begins agent number k o None = begins_itself (placed_in agent k)
+performed_begins agent number k o (Some moment) = work_begins agent number k o.work moment
+
+committed_begins : (agent : AgentState) (number k : ℕ) (q : Option Operation)
+    → Begins (placed_in agent k)
+    (placed_in (option_map_or (λ (o : Operation). option_map_or (performed agent number o.work) (granted_moment o.state) agent)
+    q agent) k)
 committed_begins agent number k None = begins_itself (placed_in agent k)
 committed_begins agent number k (Some o) = performed_begins agent number k o (granted_moment o.state)
 
+-- what is placed for an association stands behind what was placed before
+placing_begins : (agent : AgentState) (number k : ℕ) (bytes : List ℕ)
+    → Begins (placed_in agent k)
+    (placed_in (record agent { associations = changed_association agent.associations number (with_placed bytes) }) k)
+placing_begins agent number k bytes =
+    change_begins (with_placed bytes) (λ a. record { rest = bytes; whole = refl }) agent.associations number k
+
+cancelled_at_begins : (agent : AgentState) (number k : ℕ) (id cancelled : ℤ) (index : ℕ) (found : Option Operation)
+    → Begins (placed_in agent k) (placed_in (option_map_or (cancelled_at agent number id cancelled index) found agent) k)
+cancelled_at_begins agent number k id cancelled index None = begins_itself (placed_in agent k)
+cancelled_at_begins agent number k id cancelled index (Some o) =
+    either_begins (is_get o.work) agent _ _ k (placing_begins agent number k (cancelling id cancelled))
+    (placing_begins agent number k (frame (error_apdu id mistyped_operation [])))
+
+cancelled_begins : (agent : AgentState) (number k : ℕ) (id cancelled : ℤ) (index : Option ℕ)
+    → Begins (placed_in agent k) (placed_in (cancelled_where agent number id cancelled index) k)
+cancelled_begins agent number k id cancelled None =
+    placing_begins agent number k (frame (error_apdu id no_such_invoke_id (integer cancelled)))
+cancelled_begins agent number k id cancelled (Some index) =
+    cancelled_at_begins agent number k id cancelled index (slice_get agent.operations index)
+
+received_begins : (agent : AgentState) (number k : ℕ) (brings : Arriving)
+    → Begins (placed_in agent k) (placed_in (received agent number brings) k)
+received_begins agent number k (Rejected invoke kind problem) =
+    placing_begins agent number k (frame (reject_apdu invoke kind problem))
+received_begins agent number k (Cancels id cancelled) =
+    cancelled_begins agent number k id cancelled (position (is_outstanding_as number cancelled) agent.operations)
+received_begins agent number k NoEffect = begins_itself (placed_in agent k)
+received_begins agent number k (Queued invocation) = begins_itself (placed_in agent k)
+
 effect_begins : (agent : AgentState) (next : Entry) (k : ℕ) → Begins (placed_in agent k) (placed_in (effect agent next) k)
 effect_begins agent (entry.Opened number bind) k = numbered_begins agent.associations (agent.associations ++ bound number (title_in bind) ∷ []) k (λ i. more_begins agent.associations (bound number (title_in bind)) i)
-effect_begins agent (entry.Arrived number apdu) k = begins_itself (placed_in agent k)
+effect_begins agent (entry.Arrived number apdu) k = received_begins agent number k (arriving agent number apdu)
 effect_begins agent (entry.Granted number moment) k = begins_itself (placed_in agent k)
 effect_begins agent (entry.Committed number) k = committed_begins agent number k (operation_of agent number)
 effect_begins agent (entry.Taken number count) k = change_begins (with_taken count) (λ a. begins_itself a.placed) agent.associations number k
 effect_begins agent (entry.Finished number) k = change_begins (with_state standing.Finished) (λ a. begins_itself a.placed) agent.associations number k
 effect_begins agent (entry.Closed number cause) k = change_begins (with_state (standing.Closed cause)) (λ a. begins_itself a.placed) agent.associations number k
 
-chosen_begins : (b : Bool) (agent after : AgentState) (k : ℕ) → Begins (placed_in agent k) (placed_in after k) → Begins (placed_in agent k) (placed_in (if b then after else agent) k)
-chosen_begins true agent after k h = h
-chosen_begins false agent after k h = begins_itself (placed_in agent k)
-
 step_begins : (agent : AgentState) (next : Entry) (k : ℕ) → Begins (placed_in agent k) (placed_in (step agent next) k)
 unfolding step
-step_begins agent next k = chosen_begins (is_legal agent next) agent (counted (effect agent next)) k (effect_begins agent next k)
+step_begins agent next k =
+    either_begins (is_legal agent next) agent (counted (effect agent next)) agent k (effect_begins agent next k)
+    (begins_itself (placed_in agent k))
 
 replay_begins : (agent : AgentState) (journal : List Entry) (k : ℕ) → Begins (placed_in agent k) (placed_in (replay_from agent journal) k)
 replay_begins agent [] k = begins_itself (placed_in agent k)
 replay_begins agent (next ∷ journal) k = begins_through (placed_in agent k) (placed_in (step agent next) k) (placed_in (replay_from (step agent next) journal) k) (step_begins agent next k) (replay_begins (step agent next) journal k)
 
 -- what was placed after a journal begins what is placed after a longer one
-pub out_begins : (schema : Set) (number : ℕ) (xs ys : List Entry) → Begins (out schema number xs) (out schema number (xs ++ ys))
-out_begins schema number xs ys = subst (λ agent. Begins (out schema number xs) (placed_in agent number)) (sym (replay_append (start schema) xs ys)) (replay_begins (replay schema xs) ys number)
+pub out_begins : (schema : Set) (limits : Limits) (number : ℕ) (xs ys : List Entry)
+    → Begins (out schema limits number xs) (out schema limits number (xs ++ ys))
+out_begins schema limits number xs ys =
+    subst (λ agent. Begins (out schema limits number xs) (placed_in agent number))
+    (sym (replay_append (start schema limits) xs ys)) (replay_begins (replay schema limits xs) ys number)

@@ -1,3 +1,5 @@
+pub mod ExampleNetwork
+pub mod FindingLaws
 pub mod FrameLaws
 pub mod HistoryLaws
 mod ObeyingFacts
@@ -6,4 +8,5 @@ pub mod RisingLaws
 pub mod ScriptLaws
 mod StandardFacts
 pub mod StepLaws
+pub mod StoringLaws
 pub mod TextLaws

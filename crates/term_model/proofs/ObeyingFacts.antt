@@ -1,84 +1,118 @@
 -- An element with the values 1 and 7 obeys its templates: X.720, section 5.
-use Rattle.std.specs.Prelude.{None, pos, true, false, [], ◌∷◌, All, Contains, codes, refl}
+use Rattle.std.specs.Prelude.{◌≡◌, ◌⊎◌, ℕ, zero, suc, List, [], ◌∷◌, Some, All, Contains, refl}
 use Rattle.std.specs.List.Sorted.{IsStrictlySortedBy}
-use Rattle.std.proofs.Common.{arith}
+use Rattle.std.proofs.Common.{arith, inl, inr, ap, sym, subst}
 use Rattle.std.proofs.lemmas.List.Elements.{All-nil, All-cons}
-use Rattle.term_values.specs.Typed.TypeSyntax.{Integer}
-use Rattle.term_values.specs.Typed.TypedValue.{Int}
 use Rattle.term_values.specs.Der.{identifier_octets, length_octets}
 use Rattle.term_values.specs.Octets.{integer_contents}
 use Rattle.term_values.specs.Oid.{subidentifier}
-use Rattle.term_model.specs.declared.agent_state.NamedObject.{NamedObject}
-use Rattle.term_model.specs.declared.object.Attribute.{Attribute}
-use Rattle.term_model.specs.declared.object.Object.{Object}
-use Rattle.term_model.specs.declared.schema.AttrRec.{AttrRec}
+use Rattle.term_model.specs.declared.objects.NamedObject.{NamedObject}
+use Rattle.term_model.specs.declared.packages.PackageRec.{PackageRec}
+use Rattle.term_model.specs.declared.packages.Property.{Property}
 use Rattle.term_model.specs.declared.schema.ClassRec.{ClassRec}
-use Rattle.term_model.specs.declared.schema.Rules.{Rules}
-use Rattle.term_model.specs.declared.schema.Set.{Set}
+use Rattle.term_model.specs.AgentLimits.{shipped}
 use Rattle.term_model.specs.AgentState.{start}
-use Rattle.term_model.specs.WellFormedMib.{class_attributes, identifiers, FitsTemplate, IsWellFormedMib, ObeysTemplates}
-
-abbrev plain : Rules
-plain = record { equality = true; ordering = true; substrings = false; comparison = false; intersection = false }
-
-abbrev id_template : AttrRec
-id_template = record { id = 2 ∷ 999 ∷ 7 ∷ 1 ∷ []; label = codes "elementId"; syntax = Integer; rules = plain }
-
-abbrev load_template : AttrRec
-load_template = record { id = 2 ∷ 999 ∷ 7 ∷ 2 ∷ []; label = codes "load"; syntax = Integer; rules = plain }
-
-abbrev element_class : ClassRec
-element_class = record {
-  id = 2 ∷ 999 ∷ 3 ∷ 1 ∷ [];
-  label = codes "element";
-  properties = record { attribute = id_template.id; get = true; replace = false } ∷ record { attribute = load_template.id; get = true; replace = true } ∷ [];
-}
-
-abbrev id_value : Attribute
-id_value = record { id = id_template.id; value = Int (pos 1) }
-
-abbrev load_value : Attribute
-load_value = record { id = load_template.id; value = Int (pos 7) }
-
-abbrev network : Set
-network = record {
-  classes = element_class ∷ [];
-  attributes = id_template ∷ load_template ∷ [];
-  instances = record { class = element_class.id; name = []; given = id_value ∷ load_value ∷ [] } ∷ [];
-  system = [];
-}
-
-abbrev element : Object
-element = record { class = element_class.id; binding = None; chosen = []; attrs = id_value ∷ load_value ∷ [] }
+use Rattle.term_model.specs.Inheritance.{Derives, HasAttribute, HasPackage, IsAbove}
+use Rattle.term_model.specs.Inheritance.IsAbove.{Further, Itself}
+use Rattle.term_model.specs.WellFormedMib.{identifiers, FitsTemplate, IsWellFormedMib, ObeysTemplates}
+use Rattle.term_model.proofs.ExampleNetwork.{element, element_class, element_oid, element_package, id_oid, id_property, id_template, id_value, load_oid, load_property, load_template, load_value, network}
 
 id_fits : FitsTemplate network id_value
 unfolding identifier_octets length_octets integer_contents
-id_fits = record { template = id_template; known = (0, omega arith, refl); named = refl; fits = omega arith; small = omega arith }
+id_fits = record { template = id_template; known = (0, omega arith, refl); named = refl; fits = (omega arith, refl); small = omega arith }
 
 load_fits : FitsTemplate network load_value
 unfolding identifier_octets length_octets integer_contents
-load_fits = record { template = load_template; known = (1, omega arith, refl); named = refl; fits = omega arith; small = omega arith }
+load_fits = record { template = load_template; known = (1, omega arith, refl); named = refl; fits = (omega arith, refl); small = omega arith }
 
 both : {X : Type 0} (P : X → Type 0) (x y : X) → P x → P y → All P (x ∷ y ∷ [])
 both P x y p q = All-cons P x (y ∷ []) p (All-cons P y [] q (All-nil P))
+
+-- an element has the attributes of its package
+has_package : HasPackage network element_oid [] element_package
+has_package = record {
+  above = element_oid;
+  is_above = Itself;
+  of_class = element_class;
+  record_of = record { known = (0, omega arith, refl); named = refl };
+  there = inl (0, omega arith, refl);
+}
+
+has_id : HasAttribute network element_oid [] id_oid
+has_id = record {
+  of_package = element_package;
+  has = has_package;
+  property = id_property;
+  stated = (0, omega arith, refl);
+  is = refl;
+}
+
+has_load : HasAttribute network element_oid [] load_oid
+has_load = record {
+  of_package = element_package;
+  has = has_package;
+  property = load_property;
+  stated = (1, omega arith, refl);
+  is = refl;
+}
+
+-- and no others: it derives from no class, and has no other package
+contains_one : {X : Type 0} {x y : X} → Contains (x ∷ []) y → x ≡ y
+contains_one (zero, within, is) = is
+contains_one (suc i, within, is) = absurd (omega arith)
+
+contains_none : {X : Type 0} {y : X} → Contains {X = X} [] y → ⊥
+contains_none (i, within, is) = absurd (omega arith)
+
+only_itself : {above : List ℕ} → IsAbove network element_oid above → (class : List ℕ) → Derives network above class → ⊥
+only_itself is class derives =
+    contains_none (subst (λ (of_class : ClassRec). Contains of_class.superclasses class)
+    (sym (contains_one derives.has.known)) derives.from)
+
+above_element : {above : List ℕ} → IsAbove network element_oid above → element_oid ≡ above
+above_element Itself = refl
+above_element (Further is derives) = absurd (only_itself is _ derives)
+
+mandatory_of : (of_class : ClassRec) (is : element_class ≡ of_class) (has : PackageRec)
+    → Contains of_class.mandatory has ⊎ (Contains of_class.conditional has × ((id : List ℕ) × (has.id ≡ Some id) × Contains [] id))
+    → element_package ≡ has
+mandatory_of of_class is has (inl there) =
+    contains_one (subst (λ (c : ClassRec). Contains c.mandatory has) (sym is) there)
+mandatory_of of_class is has (inr there) =
+    absurd (contains_none (subst (λ (c : ClassRec). Contains c.conditional has) (sym is) there.0))
+
+element_package_only : {has : PackageRec} → HasPackage network element_oid [] has → element_package ≡ has
+element_package_only {has} h = mandatory_of h.of_class (contains_one h.record_of.known) has h.there
+
+of_two : (property : Property) → Contains (id_property ∷ load_property ∷ []) property
+    → Contains (identifiers element.attrs) property.attribute
+of_two property (zero, within, is) = (0, omega arith, ap (λ (p : Property). p.attribute) is)
+of_two property (suc zero, within, is) = (1, omega arith, ap (λ (p : Property). p.attribute) is)
+of_two property (suc (suc i), within, is) = absurd (omega arith)
+
+only_these : (attribute : List ℕ) → HasAttribute network element_oid [] attribute
+    → Contains (identifiers element.attrs) attribute
+only_these attribute h =
+    subst (Contains (identifiers element.attrs)) h.is
+    (of_two h.property (subst (λ (p : PackageRec). Contains p.attributes h.property) (sym (element_package_only h.has)) h.stated))
 
 element_obeys : ObeysTemplates network element
 unfolding IsStrictlySortedBy identifier_octets length_octets integer_contents subidentifier
 element_obeys = record {
   class = element_class;
-  known = (0, omega arith, refl);
-  named = refl;
+  known = record { known = (0, omega arith, refl); named = refl };
   once = ((refl, tt), (tt, tt));
-  of_class = both (Contains (class_attributes element_class)) id_template.id load_template.id (0, omega arith, refl) (1, omega arith, refl);
-  each = both (Contains (identifiers element.attrs)) id_template.id load_template.id (0, omega arith, refl) (1, omega arith, refl);
+  of_packages = both (HasAttribute network element_oid []) id_oid load_oid has_id has_load;
+  each = only_these;
   values = both (FitsTemplate network) id_value load_value id_fits load_fits;
   small = omega arith;
 }
 
-network_obeys : IsWellFormedMib network (start network).objects
+network_obeys : IsWellFormedMib network (start network shipped).objects
+unfolding IsStrictlySortedBy
 network_obeys = record {
   root = (0, omega arith, refl);
   few = omega arith;
-  once = λ i j d before within. absurd (omega (arith, before, within));
+  by_name = (tt, tt);
   each = All-cons (λ (entry : NamedObject). ObeysTemplates network entry.object) (record { name = []; object = element }) [] element_obeys (All-nil (λ (entry : NamedObject). ObeysTemplates network entry.object));
 }

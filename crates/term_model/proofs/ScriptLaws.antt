@@ -6,6 +6,7 @@ use Rattle.term_model.specs.declared.agent_state.Association.{Association}
 use Rattle.term_model.specs.declared.entry.Entry.{Entry}
 use Rattle.term_model.specs.declared.entry.Entry.TheVariants as entry
 use Rattle.term_model.specs.declared.entry.Why.TheVariants as why
+use Rattle.term_model.specs.declared.limits.Limits.{Limits}
 use Rattle.term_model.specs.declared.schema.Set.{Set}
 use Rattle.term_model.specs.AgentState.{association_of, left_to_take, is_live_state, is_closed_state}
 use Rattle.term_model.specs.History.{replay}
@@ -84,15 +85,18 @@ module _ (P : Play → Type 0) (keeps : (play : Play) (next : Entry) → P play 
   lines_keep play [] h = h
   lines_keep play (next ∷ others) h = lines_keep (line_played play next) others (line_keeps play next h)
 
-  pub script_keeps : (schema : Set) (script : List ScriptLine) → P (beginning schema) → P (played schema script)
+  pub script_keeps : (schema : Set) (limits : Limits) (script : List ScriptLine) → P (beginning schema limits)
+      → P (played schema limits script)
   unfolding played
-  script_keeps schema script h =
-      let lines = lines_played (beginning schema) script in
-      closed_from_keeps P (λ p next none. keeps p next) (length lines.agent.associations) 1 lines (lines_keep (beginning schema) script h)
+  script_keeps schema limits script h =
+      let lines = lines_played (beginning schema limits) script in
+      closed_from_keeps P (λ p next none. keeps p next) (length lines.agent.associations) 1 lines
+      (lines_keep (beginning schema limits) script h)
 
 -- the journal of a script comes to its agent
-pub script_replays : (schema : Set) (script : List ScriptLine) → replay schema (played schema script).journal ≡ (played schema script).agent
-script_replays schema script =
-    script_keeps (λ play. replay schema play.journal ≡ play.agent)
-    (λ play next h. replay_more schema play.journal next ∙ ap (λ s. step s next) h)
-    schema script refl
+pub script_replays : (schema : Set) (limits : Limits) (script : List ScriptLine)
+    → replay schema limits (played schema limits script).journal ≡ (played schema limits script).agent
+script_replays schema limits script =
+    script_keeps (λ play. replay schema limits play.journal ≡ play.agent)
+    (λ play next h. replay_more schema limits play.journal next ∙ ap (λ s. step s next) h)
+    schema limits script refl

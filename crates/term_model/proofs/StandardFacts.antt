@@ -5,8 +5,6 @@ use Rattle.std.specs.Fmt.{digits}
 use Rattle.std.proofs.Common.{arith, subst}
 use Rattle.std.proofs.lemmas.Bool.{false≢true}
 use Rattle.hex.specs.Hex.{IsBytes, encode_with}
-use Rattle.term_values.specs.Typed.TypeSyntax.{Integer}
-use Rattle.term_values.specs.Typed.TypedValue.{Int}
 use Rattle.term_values.specs.Oid.{subidentifier, oid_in}
 use Rattle.term_values.specs.Octets.{integer_contents, integer_in}
 use Rattle.term_values.specs.Der.{identifier_octets, length_octets}
@@ -17,8 +15,7 @@ use Rattle.term_model.specs.declared.agent_state.AssociationState.{AssociationSt
 use Rattle.term_model.specs.declared.agent_state.AssociationState.TheVariants.{Live, Closed}
 use Rattle.term_model.specs.declared.entry.Entry.TheVariants as entry
 use Rattle.term_model.specs.declared.entry.Why.TheVariants as why
-use Rattle.term_model.specs.declared.schema.Set.{Set}
-use Rattle.term_model.specs.declared.schema.Rules.{Rules}
+use Rattle.term_model.specs.AgentLimits.{shipped}
 use Rattle.term_model.specs.AgentState.{start}
 use Rattle.term_model.specs.JournalLaws.{frames_of}
 use Rattle.term_model.specs.Moment.{moment_text}
@@ -28,33 +25,8 @@ use Rattle.term_model.specs.Settled.{IsDone, IsSettled}
 use Rattle.term_model.specs.Step.{step}
 use Rattle.term_model.specs.Texts.{line}
 use Rattle.term_model.specs.TextLaws.{IsEntry}
+use Rattle.term_model.proofs.ExampleNetwork.{network}
 use Rattle.term_model.proofs.StepLaws.{numbered_alone}
-
--- 2.999.3.1 and the attributes 2.999.7.1 and 2.999.7.2 of an element
-abbrev element : List ℕ
-element = 2 ∷ 999 ∷ 3 ∷ 1 ∷ []
-
-abbrev element_id : List ℕ
-element_id = 2 ∷ 999 ∷ 7 ∷ 1 ∷ []
-
-abbrev load : List ℕ
-load = 2 ∷ 999 ∷ 7 ∷ 2 ∷ []
-
-abbrev ordered : Rules
-ordered = record { equality = true; ordering = true; substrings = false; comparison = false; intersection = false }
-
--- a class of two attributes, and a root of it with the values 1 and 7
-abbrev network : Set
-network = record {
-  classes = record {
-    id = element;
-    label = codes "element";
-    properties = record { attribute = element_id; get = true; replace = false } ∷ record { attribute = load; get = true; replace = true } ∷ [];
-  } ∷ [];
-  attributes = record { id = element_id; label = codes "elementId"; syntax = Integer; rules = ordered } ∷ record { id = load; label = codes "load"; syntax = Integer; rules = ordered } ∷ [];
-  instances = record { class = element; name = []; given = record { id = element_id; value = Int (pos 1) } ∷ record { id = load; value = Int (pos 7) } ∷ [] } ∷ [];
-  system = record { attribute = element_id; value = 2 ∷ 1 ∷ 1 ∷ [] } ∷ [];
-}
 
 -- title 2.999.11.1
 abbrev bind_octets : List ℕ
@@ -65,7 +37,7 @@ abbrev get_root : List ℕ
 get_root =
     0xA1 ∷ 0x10 ∷ 0x02 ∷ 0x01 ∷ 0x01 ∷ 0x02 ∷ 0x01 ∷ 0x03 ∷ 0x30 ∷ 0x08 ∷ 0x80 ∷ 0x04 ∷ 0x88 ∷ 0x37 ∷ 0x03 ∷ 0x01 ∷ 0xA4 ∷ 0x00 ∷ []
 
-run_of_the_root : run_text network (Open bind_octets ∷ Send 1 get_root ∷ []) ≡
+run_of_the_root : run_text network shipped (Open bind_octets ∷ Send 1 get_root ∷ []) ≡
     codes "opened 1 3006060488370B01\ntaken 1 12\narrived 1 A1100201010201033008800488370301A400\ngranted 1 0\ncommitted 1\ntaken 1 65\nfinished 1\nclosed 1 end\n--\nout 1 0000000830060A01000201010000003DA23B02010130360201033031800488370301A400850F31393730303130313030303030305AA61630098004883707010201013009800488370702020107\nobjects 1\n"
 unfolding digits encode_with subidentifier oid_in integer_contents integer_in identifier_octets length_octets identifier_of length_at front_of moment_text played step
 run_of_the_root = refl
@@ -75,7 +47,7 @@ abbrev get_five : List ℕ
 get_five =
     0xA1 ∷ 0x1D ∷ 0x02 ∷ 0x01 ∷ 0x01 ∷ 0x02 ∷ 0x01 ∷ 0x03 ∷ 0x30 ∷ 0x15 ∷ 0x80 ∷ 0x04 ∷ 0x88 ∷ 0x37 ∷ 0x03 ∷ 0x01 ∷ 0xA4 ∷ 0x0D ∷ 0x31 ∷ 0x0B ∷ 0x30 ∷ 0x09 ∷ 0x06 ∷ 0x04 ∷ 0x88 ∷ 0x37 ∷ 0x07 ∷ 0x01 ∷ 0x02 ∷ 0x01 ∷ 0x05 ∷ []
 
-run_of_five : run_text network (Open bind_octets ∷ Send 1 get_five ∷ []) ≡
+run_of_five : run_text network shipped (Open bind_octets ∷ Send 1 get_five ∷ []) ≡
     codes "opened 1 3006060488370B01\ntaken 1 12\narrived 1 A11D0201010201033015800488370301A40D310B3009060488370701020105\ngranted 1 0\ncommitted 1\ntaken 1 27\nfinished 1\nclosed 1 end\n--\nout 1 0000000830060A010002010100000017A315020101020101A40D310B3009060488370701020105\nobjects 1\n"
 unfolding digits encode_with subidentifier oid_in integer_contents integer_in identifier_octets length_octets identifier_of length_at front_of moment_text played step
 run_of_five = refl
@@ -95,12 +67,14 @@ frames_of_third = refl
 
 -- an association for which two octets were placed
 abbrev one_association : AssociationState → ℕ → AgentState
-one_association state taken = record (start network) { associations = record { title = None; state = state; placed = 1 ∷ 2 ∷ []; taken = taken } ∷ [] }
+one_association state taken = record (start network shipped) {
+  associations = record { title = None; state = state; next_own = 1; placed = 1 ∷ 2 ∷ []; taken = taken } ∷ [];
+}
 
 -- nothing is left to do once it is closed and both were taken
 settled_once_closed : IsSettled (one_association (Closed why.End) 2)
 settled_once_closed number a found =
-    let alone = numbered_alone (record { title = None; state = Closed why.End; placed = 1 ∷ 2 ∷ []; taken = 2 }) number a found in
+    let alone = numbered_alone (record { title = None; state = Closed why.End; next_own = 1; placed = 1 ∷ 2 ∷ []; taken = 2 }) number a found in
     subst (λ (x : Association). IsDone (one_association (Closed why.End) 2) number x) alone.1
     (record { closed = refl; taken = refl; idle = refl })
 

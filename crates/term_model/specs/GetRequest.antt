@@ -1,14 +1,14 @@
 -- The argument of m-Get, SEQUENCE { ObjectClass, ObjectInstance }, with the class in globalForm [0] and the instance in
 -- localDistinguishedName [4]: X.711, section 7.4.
-use Rattle.std.specs.Prelude.{ℕ, ℤ, pos, List, [], ◌∷◌, ◌++◌, true, false, if◌then◌else◌, Option, None, Some, option_and_then, flat_map}
+use Rattle.std.specs.Prelude.{ℕ, ℤ, pos, List, [], ◌∷◌, ◌++◌, true, false, if◌then◌else◌}
+use Rattle.std.specs.Prelude.{Option, None, Some, option_and_then, flat_map}
 use Rattle.std.specs.Option.{option_map}
 use Rattle.std.specs.Ordering.{int_eq}
 use Rattle.term_values.specs.declared.tag.Tag.{Tag}
-use Rattle.term_values.specs.declared.tag.TheConstants.Tag.{OBJECT_IDENTIFIER, SEQUENCE, SET}
 use Rattle.term_values.specs.BerReading.{tree_in}
 use Rattle.term_values.specs.Der.{encoded, written}
 use Rattle.term_values.specs.Oid.{oid_contents}
-use Rattle.term_values.specs.Tag.{context}
+use Rattle.term_values.specs.Tag.{context, universal}
 use Rattle.term_values.specs.Tree.{TreeValue, TreeValues}
 use Rattle.term_values.specs.Tree.TreeValues.{Nothing, Then}
 use Rattle.term_model.specs.declared.name.Rdn.{Rdn}
@@ -34,19 +34,21 @@ local_distinguished_name = context 4
 
 -- an attribute value assertion
 abbrev pub assertion_parts : TreeValue × TreeValue → Option Rdn
-assertion_parts parts = option_map (λ arcs. record { attribute = arcs; value = written parts.1 }) (oid_under OBJECT_IDENTIFIER parts.0)
+assertion_parts parts =
+    option_map (λ arcs. record { attribute = arcs; value = written parts.1 }) (oid_under (universal 6) parts.0)
 
 abbrev pub assertion_of : TreeValue → Option Rdn
-assertion_of tree = option_and_then assertion_parts (two_under SEQUENCE tree)
+assertion_of tree = option_and_then assertion_parts (two_under (universal 16) tree)
 
 -- one that is alone in its SET
 abbrev pub rdn_of : TreeValue → Option Rdn
-rdn_of tree = option_and_then assertion_of (one_under SET tree)
+rdn_of tree = option_and_then assertion_of (one_under (universal 17) tree)
 
 -- an RDNSequence
 abbrev pub rdns_of : TreeValues → Option (List Rdn)
 rdns_of Nothing = Some []
-rdns_of (Then first others) = option_and_then (λ rdn. option_map (λ rdns. rdn ∷ rdns) (rdns_of others)) (rdn_of first)
+rdns_of (Then first others) =
+    option_and_then (λ rdn. option_map (λ rdns. rdn ∷ rdns) (rdns_of others)) (rdn_of first)
 
 abbrev pub class_of : TreeValue → Option IdRef
 class_of tree = option_map Global (oid_under global_form tree)
@@ -54,17 +56,22 @@ class_of tree = option_map Global (oid_under global_form tree)
 -- an instance as it is given back, with what it names
 abbrev pub instance_of : TreeValue → Option Instance
 instance_of tree =
-    option_map (λ rdns. record { raw = written tree; named = named.Object rdns }) (option_and_then rdns_of (inside_under local_distinguished_name tree))
+    option_map (λ rdns. record { raw = written tree; named = named.Object rdns })
+    (option_and_then rdns_of (inside_under local_distinguished_name tree))
 
 abbrev pub get_parts : TreeValue × TreeValue → Option Request
-get_parts parts = option_and_then (λ class. option_map (λ base. Get (record { class = class; base = base })) (instance_of parts.1)) (class_of parts.0)
+get_parts parts =
+    option_and_then (λ class. option_map (λ base. Get (record { class = class; base = base })) (instance_of parts.1))
+    (class_of parts.0)
 
 abbrev pub get_of : TreeValue → Option Request
-get_of tree = option_and_then get_parts (two_under SEQUENCE tree)
+get_of tree = option_and_then get_parts (two_under (universal 16) tree)
 
 abbrev pub invocation_by : Invoke → Option Invocation
 invocation_by invoke =
-    if int_eq invoke.operation m_get then option_map (λ request. record { id = invoke.id; request = request }) (get_of invoke.argument) else None
+    if int_eq invoke.operation m_get
+    then option_map (λ request. record { id = invoke.id; request = request }) (get_of invoke.argument)
+    else None
 
 -- the request that an APDU brings
 abbrev pub invocation_in : List ℕ → Option Invocation
@@ -72,7 +79,9 @@ invocation_in bytes = option_and_then invocation_by (option_and_then invoke_of (
 
 -- the written encoding of names
 abbrev pub rdn_octets : Rdn → List ℕ
-rdn_octets rdn = encoded true SET (encoded true SEQUENCE (encoded false OBJECT_IDENTIFIER (oid_contents rdn.attribute) ++ rdn.value))
+rdn_octets rdn =
+    encoded true (universal 17)
+    (encoded true (universal 16) (encoded false (universal 6) (oid_contents rdn.attribute) ++ rdn.value))
 
 abbrev pub instance_octets : List Rdn → List ℕ
 instance_octets name = encoded true local_distinguished_name (flat_map rdn_octets name)
@@ -82,4 +91,6 @@ class_octets class = encoded false global_form (oid_contents class)
 
 -- the written invoke of an m-Get
 abbrev pub get_apdu : ℤ → List ℕ → List Rdn → List ℕ
-get_apdu id class name = encoded true invoke_tag (integer id ++ (integer m_get ++ encoded true SEQUENCE (class_octets class ++ instance_octets name)))
+get_apdu id class name =
+    encoded true invoke_tag
+    (integer id ++ (integer m_get ++ encoded true (universal 16) (class_octets class ++ instance_octets name)))

@@ -1,5 +1,5 @@
--- Journals: which are legal, what the one-manager agent is after one, and what came, went out and was taken of an association;
--- docs/PROFILE.md, section 7.
+-- Journals: which are legal, what the one-manager agent is after one, and what came, went out and was taken of an
+-- association; docs/PROFILE.md, section 7.
 use Rattle.std.specs.Prelude.{ℕ, ◌==◌, ◌&&◌, Bool, true, List, [], ◌∷◌, Option, None, Some, sum, if◌then◌else◌}
 use Rattle.std.specs.List.{filter_map}
 use Rattle.std.specs.Option.{option_map_or}
@@ -7,6 +7,7 @@ use Rattle.term_model.specs.declared.agent_state.AgentState.{AgentState}
 use Rattle.term_model.specs.declared.agent_state.Association.{Association}
 use Rattle.term_model.specs.declared.entry.Entry.{Entry}
 use Rattle.term_model.specs.declared.entry.Entry.TheVariants as entry
+use Rattle.term_model.specs.declared.limits.Limits.{Limits}
 use Rattle.term_model.specs.declared.schema.Set.{Set}
 use Rattle.term_model.specs.AgentState.{start, association_of}
 use Rattle.term_model.specs.Step.{is_legal, step}
@@ -21,11 +22,11 @@ abbrev pub is_legal_from : AgentState → List Entry → Bool
 is_legal_from agent [] = true
 is_legal_from agent (next ∷ others) = is_legal agent next && is_legal_from (step agent next) others
 
-abbrev pub replay : Set → List Entry → AgentState
-replay schema journal = replay_from (start schema) journal
+abbrev pub replay : Set → Limits → List Entry → AgentState
+replay schema limits journal = replay_from (start schema limits) journal
 
-abbrev pub is_legal_journal : Set → List Entry → Bool
-is_legal_journal schema journal = is_legal_from (start schema) journal
+abbrev pub is_legal_journal : Set → Limits → List Entry → Bool
+is_legal_journal schema limits journal = is_legal_from (start schema limits) journal
 
 -- what an association brought in an entry
 abbrev pub brought : ℕ → Entry → Option (List ℕ)
@@ -46,5 +47,6 @@ abbrev pub taken : ℕ → List Entry → ℕ
 taken number journal = sum (filter_map (count_taken number) journal)
 
 -- all bytes that were placed for an association
-abbrev pub out : Set → ℕ → List Entry → List ℕ
-out schema number journal = option_map_or (λ (a : Association). a.placed) (association_of (replay schema journal) number) []
+abbrev pub out : Set → Limits → ℕ → List Entry → List ℕ
+out schema limits number journal =
+    option_map_or (λ (a : Association). a.placed) (association_of (replay schema limits journal) number) []

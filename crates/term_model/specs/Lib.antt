@@ -1,11 +1,17 @@
 -- The definitions that the contracts of this crate cite.
+pub mod AgentLimits
 pub mod AgentState
+pub mod Arriving
 pub mod Bind
 pub mod Comparing
 pub mod GetRequest
 pub mod History
+pub mod Inheritance
 pub mod JournalLaws
 pub mod Moment
+pub mod NameLaws
+pub mod NameOrder
+pub mod NamedObjects
 pub mod ObjectOperation
 pub mod Operation
 pub mod Parts

@@ -1,17 +1,18 @@
 -- Which objects obey their templates: X.720, section 5; X.722, sections 8.3 and 8.4; the sizes are this project's own.
-use Rattle.std.specs.Prelude.{◌≡◌, ◌≤◌, ◌≢◌, ℕ, List, [], All, AllPairs, Contains, length, map}
+use Rattle.std.specs.Prelude.{◌≡◌, ◌≤◌, ℕ, List, [], All, Contains, length, map}
 use Rattle.std.specs.Cmp.Lexicographic.{slice_cmp}
 use Rattle.std.specs.List.Sorted.{IsStrictlySortedBy}
 use Rattle.std.specs.Ordering.{nat_cmp}
-use Rattle.term_values.specs.Fits.{Fits, der}
-use Rattle.term_model.specs.declared.agent_state.NamedObject.{NamedObject}
-use Rattle.term_model.specs.declared.name.Rdn.{Rdn}
+use Rattle.term_values.specs.Fits.{Fits}
+use Rattle.term_values.specs.Written.{der}
 use Rattle.term_model.specs.declared.object.Attribute.{Attribute}
 use Rattle.term_model.specs.declared.object.Object.{Object}
+use Rattle.term_model.specs.declared.objects.NamedObject.{NamedObject}
 use Rattle.term_model.specs.declared.schema.AttrRec.{AttrRec}
 use Rattle.term_model.specs.declared.schema.ClassRec.{ClassRec}
-use Rattle.term_model.specs.declared.schema.Property.{Property}
 use Rattle.term_model.specs.declared.schema.Set.{Set}
+use Rattle.term_model.specs.Inheritance.{HasAttribute, HasRecord}
+use Rattle.term_model.specs.NamedObjects.{IsByName, names}
 use Rattle.term_model.specs.ObjectOperation.{object_octets}
 
 -- the most objects of a system
@@ -29,35 +30,28 @@ most_value = 8192
 abbrev pub identifiers : List Attribute → List (List ℕ)
 identifiers attributes = map (λ (attribute : Attribute). attribute.id) attributes
 
--- the attributes of the objects of a class
-abbrev pub class_attributes : ClassRec → List (List ℕ)
-class_attributes class = map (λ (property : Property). property.attribute) class.properties
-
 -- the value of an attribute fits its template
 pub record FitsTemplate (schema : Set) (attribute : Attribute) : Type 0 where
   pub template : AttrRec
   pub known : Contains schema.attributes template
   pub named : template.id ≡ attribute.id
   pub fits : Fits template.syntax attribute.value
-  pub small : length (der attribute.value) ≤ most_value
+  pub small : length (der template.syntax attribute.value) ≤ most_value
 
--- an object of a class of the schema has exactly the attributes of its class, once each, by rising identifier
+-- an object of a class of the schema has exactly the attributes of its packages, once each, by rising identifier
 pub record ObeysTemplates (schema : Set) (object : Object) : Type 0 where
   pub class : ClassRec
-  pub known : Contains schema.classes class
-  pub named : object.class ≡ class.id
+  pub known : HasRecord schema object.class class
   pub once : IsStrictlySortedBy (slice_cmp nat_cmp) (identifiers object.attrs)
-  pub of_class : All (Contains (class_attributes class)) (identifiers object.attrs)
-  pub each : All (Contains (identifiers object.attrs)) (class_attributes class)
+  pub of_packages : All (HasAttribute schema object.class object.chosen) (identifiers object.attrs)
+  pub each : (attribute : List ℕ) → HasAttribute schema object.class object.chosen attribute
+      → Contains (identifiers object.attrs) attribute
   pub values : All (FitsTemplate schema) object.attrs
-  pub small : length (object_octets object) ≤ most_object
+  pub small : length (object_octets schema.attributes object) ≤ most_object
 
-abbrev pub names : List NamedObject → List (List Rdn)
-names objects = map (λ (entry : NamedObject). entry.name) objects
-
--- the objects of a system: the root is there, no two have one name, and each obeys its templates
+-- the objects of a system: the root is there, they stand by rising name, each name once, and each obeys its templates
 pub record IsWellFormedMib (schema : Set) (objects : List NamedObject) : Type 0 where
   pub root : Contains (names objects) []
   pub few : length objects ≤ most_objects
-  pub once : AllPairs ◌≢◌ (names objects)
+  pub by_name : IsByName objects
   pub each : All (λ (entry : NamedObject). ObeysTemplates schema entry.object) objects

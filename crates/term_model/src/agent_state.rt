@@ -1,41 +1,14 @@
 //! The state of the one-manager agent: one thread, one entry after the other.
 
 use crate::entry::Why;
+use crate::event::WaitingRecords;
+use crate::limits::Limits;
 use crate::name::Name;
-use crate::object::Object;
+use crate::objects::Objects;
 use crate::request::Request;
 use crate::schema::Set;
 use std::marker::Model;
 use term_values::{Bytes, Oid};
-
-/// An object under its name relative to the root.
-#[derive(Drop)]
-pub struct NamedObject {
-    /// Its name.
-    pub name: Name,
-    /// The object itself.
-    pub object: Object,
-}
-
-/// The objects of the system.
-#[derive(Drop)]
-pub struct Objects {
-    /// In the order in which they were made.
-    pub items: Vec<NamedObject>,
-}
-
-impl Model for Objects {
-    ghost use Rattle.std.specs.Prelude.{List};
-    ghost use Rattle.std.specs.Coded.{codes};
-    ghost use Rattle.term_values.specs.Typed.{value_code};
-    ghost use Rattle.term_model.specs.declared.agent_state.NamedObject.{NamedObject};
-
-    ghost Value = { List NamedObject };
-
-    ghost coded = { Prim.hlevel (codes, value_code) };
-
-    ghost view = { λ objects. objects.items.items };
-}
 
 /// How far an association has come.
 #[derive(Clone, Copy, Debug, PartialEq, Eq)]
@@ -46,6 +19,8 @@ pub enum AssociationState {
     Finished,
     /// It is closed, for this cause.
     Closed(Why),
+    /// It is closed, as too many bytes waited to be taken.
+    Overrun,
 }
 
 /// An association with a manager.
@@ -55,6 +30,8 @@ pub struct Association {
     pub title: Option<Oid>,
     /// How far it has come.
     pub state: AssociationState,
+    /// The invoke id of the agent's own next invoke, from 1 to 2,147,483,647.
+    pub next_own: u32,
     /// All bytes that were placed for it.
     pub placed: Bytes,
     /// How many of these were taken to be sent.
@@ -74,7 +51,7 @@ impl Model for Associations {
 
     ghost Value = { List Association };
 
-    ghost view = { λ associations. associations.items.items };
+    ghost view = { λ list. list.items.items };
 }
 
 /// How far an operation has come.
@@ -88,15 +65,32 @@ pub enum OperationState {
     Ended(u64),
 }
 
+/// What an operation does.
+#[derive(Drop)]
+pub enum Work {
+    /// What a manager asked for.
+    Asked {
+        /// The number of the association that asked for it.
+        association: u64,
+        /// The invoke id of its APDU.
+        invoke: i32,
+        /// What was asked for.
+        request: Request,
+    },
+    /// A record is appended to a log.
+    Append {
+        /// The name of the log.
+        log: Name,
+        /// The number of the waiting record that is its own, where it is granted and found one.
+        own: Option<u64>,
+    },
+}
+
 /// An operation.
 #[derive(Drop)]
 pub struct Operation {
-    /// The number of the association that asked for it.
-    pub association: u64,
-    /// The invoke id of its APDU.
-    pub invoke: i32,
-    /// What was asked for.
-    pub request: Request,
+    /// What it does.
+    pub work: Work,
     /// How far it has come.
     pub state: OperationState,
 }
@@ -114,7 +108,7 @@ impl Model for Operations {
 
     ghost Value = { List Operation };
 
-    ghost view = { λ operations. operations.items.items };
+    ghost view = { λ list. list.items.items };
 }
 
 /// The agent between two entries.
@@ -122,12 +116,16 @@ impl Model for Operations {
 pub struct AgentState {
     /// The records of the documents.
     pub schema: Set,
+    /// How much it holds at the most.
+    pub limits: Limits,
     /// The objects as they are now.
     pub objects: Objects,
     /// All associations that were opened.
     pub associations: Associations,
-    /// All operations that were queued.
+    /// All operations that were queued or begun.
     pub operations: Operations,
+    /// The records that wait to be appended to logs.
+    pub waiting: WaitingRecords,
     /// How many entries came so far.
     pub entries: u64,
 }

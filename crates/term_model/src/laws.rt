@@ -1,6 +1,6 @@
 //! Laws of journals, each as the contract of a function that does nothing.
 
-ghost use Rattle.term_model.specs.JournalLaws.{EntryKeepsObjects, LegalGoesOn, ObjectsStay, PlacedStays, ReplayGoesOn, ReplayStepsOn, ScriptFrames, ScriptReplays};
+ghost use Rattle.term_model.specs.JournalLaws.{LegalGoesOn, PlacedStays, ReplayGoesOn, ReplayStepsOn, ScriptFrames, ScriptReplays};
 ghost use Rattle.term_model.specs.TextLaws.{PrintTellsJournal, TextsDiffer};
 
 /// A journal that follows another is replayed from the state that the other one came to.
@@ -41,10 +41,4 @@ pub fn texts_differ()
 /// What stands in front of the line of two dashes is the text of one journal alone, whatever stands behind it.
 pub fn print_tells_journal()
     ensures { PrintTellsJournal }
-{}
-
-/// No entry changes what the objects are, so that after any journal they are those at the opening.
-pub fn objects_stay()
-    ensures entry { EntryKeepsObjects }
-    ensures journal { ObjectsStay }
 {}

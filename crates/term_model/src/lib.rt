@@ -2,25 +2,40 @@
 //! the state of the one-manager agent. X.720, X.711 and X.722.
 #![tactic(auto)]
 
+pub mod actions;
 pub mod agent_state;
 pub mod entry;
+pub mod event;
 pub mod laws;
+pub mod limits;
 pub mod name;
+pub mod name_binding;
 pub mod object;
+pub mod objects;
+pub mod packages;
 pub mod reply;
 pub mod request;
+pub mod rule;
 pub mod schema;
 
+pub use actions::{ActRec, ActRecs, AttributeField, AttributeFields, NoteRec, NoteRecs};
 pub use agent_state::{
-    AgentState, Association, AssociationState, Associations, NamedObject, Objects, Operation,
-    OperationState, Operations,
+    AgentState, Association, AssociationState, Associations, Operation, OperationState, Operations,
+    Work,
 };
 pub use entry::{Entries, Entry, Why};
+pub use event::{Event, Events, WaitingRecord, WaitingRecords};
+pub use limits::Limits;
 pub use name::{Name, Rdn};
+pub use name_binding::{BindRec, BindRecs, BoundClass, CreateClause, DeleteClause};
 pub use object::{Attribute, Attrs, Object, Oids};
+pub use objects::{NamedObject, Objects};
+pub use packages::{
+    GroupUse, GroupUses, PackageRec, PackageRecs, Properties, Property, Syntaxes, TypeNames,
+};
 pub use reply::{CmisError, Reply};
 pub use request::{Head, IdRef, Instance, Invocation, Named, Request};
+pub use rule::{RuleRec, RuleRecs, RuleStep, RuleSteps};
 pub use schema::{
-    AttrRec, AttrRecs, ClassRec, ClassRecs, InstRec, InstRecs, Properties, Property, Rules, Set,
-    SystemName,
+    AttrRec, AttrRecs, ClassRec, ClassRecs, GroupRec, GroupRecs, InstRec, InstRecs, Set, SystemName,
 };

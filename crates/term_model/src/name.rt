@@ -1,9 +1,17 @@
 //! Distinguished names relative to the root of the naming tree: X.501 and X.720.
 
-ghost use Rattle.std.specs.Prelude.{◌≡◌, [], IfOk};
+ghost use Rattle.std.specs.Prelude.{◌≡◌, ◌==◌, [], IfOk};
+ghost use Rattle.std.specs.Cmp.Lexicographic.{pointwise, slice_cmp};
+ghost use Rattle.std.specs.Cmp.Rules.{comparing};
+ghost use Rattle.std.specs.Cmp.{partial_order_from_own_ties, partial_order_from_total};
+ghost use Rattle.std.specs.Ordering.{as_partial_cmp};
+ghost use Rattle.std.proofs.Common.{rules};
+ghost use Rattle.term_model.specs.Comparing.{is_same_rdn};
+ghost use Rattle.term_model.specs.NameOrder.{name_cmp, rdn_cmp};
+ghost use Rattle.term_model.specs.NameLaws.{name_ties, name_total, rdn_ties, rdn_total};
 
 use std::alloc::{AllocError, Global};
-use std::cmp::{Eq, PartialEq};
+use std::cmp::Ordering;
 use std::marker::Model;
 use term_values::{Bytes, Oid};
 
@@ -24,6 +32,36 @@ impl Rdn {
         let attribute = self.attribute.copy(alloc)?;
         let value = self.value.copy(alloc)?;
         Ok(Rdn { attribute, value })
+    }
+}
+
+impl Ord for Rdn {
+    ghost cmp = { rdn_cmp };
+
+    ghost total = { rdn_total };
+
+    ghost matches_partial_cmp = { Prim.search (comparing, rules) };
+
+    ghost matches_eq = { rdn_ties };
+
+    fn cmp(&self, other: &Rdn) -> Ordering {
+        self.attribute.cmp(&other.attribute).then(
+            self.value
+                .items
+                .len()
+                .cmp(&other.value.items.len())
+                .then(self.value.cmp(&other.value)),
+        )
+    }
+}
+
+impl PartialOrd for Rdn {
+    ghost partial_cmp = { as_partial_cmp rdn_cmp };
+
+    ghost laws = { partial_order_from_own_ties (partial_order_from_total rdn_total) rdn_ties };
+
+    fn partial_cmp(&self, other: &Rdn) -> Option<Ordering> {
+        Some(self.cmp(other))
     }
 }
 
@@ -62,5 +100,43 @@ impl Name {
             parts.push(rdn.copy(alloc)?)?;
         }
         Ok(Name { parts })
+    }
+}
+
+impl PartialEq for Name {
+    ghost eq = { pointwise is_same_rdn };
+
+    ghost laws = { Prim.search (comparing, rules) };
+
+    fn eq(&self, other: &Name) -> bool {
+        self.parts.as_slice() == other.parts.as_slice()
+    }
+}
+
+impl Eq for Name {
+    ghost laws = { Prim.search (comparing, rules) };
+}
+
+impl Ord for Name {
+    ghost cmp = { name_cmp };
+
+    ghost total = { name_total };
+
+    ghost matches_partial_cmp = { Prim.search (comparing, rules) };
+
+    ghost matches_eq = { name_ties };
+
+    fn cmp(&self, other: &Name) -> Ordering {
+        self.parts.as_slice().cmp(other.parts.as_slice())
+    }
+}
+
+impl PartialOrd for Name {
+    ghost partial_cmp = { as_partial_cmp name_cmp };
+
+    ghost laws = { partial_order_from_own_ties (partial_order_from_total name_total) name_ties };
+
+    fn partial_cmp(&self, other: &Name) -> Option<Ordering> {
+        Some(self.cmp(other))
     }
 }

@@ -24,6 +24,19 @@ impl Model for Oids {
     ghost view = { λ oids. oids.items.items };
 }
 
+impl Oids {
+    /// A copy of these identifiers.
+    pub fn copy(&self, alloc: Global) -> Result<Oids, AllocError>
+        ensures { IfOk result (λ oids. oids ≡ self.now) }
+    {
+        let mut items = Vec::new(alloc);
+        for oid in &self.items {
+            items.push(oid.copy(alloc)?)?;
+        }
+        Ok(Oids { items })
+    }
+}
+
 /// An attribute of an object, with its value.
 #[derive(Drop)]
 pub struct Attribute {
@@ -39,10 +52,8 @@ impl Attribute {
         ensures { IfOk result (λ attribute. attribute ≡ self.now) }
     {
         let id = self.id.copy(alloc)?;
-        Ok(Attribute {
-            id,
-            value: self.value.copy(),
-        })
+        let value = self.value.copy(alloc)?;
+        Ok(Attribute { id, value })
     }
 }
 

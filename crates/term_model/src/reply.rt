@@ -19,6 +19,10 @@ pub struct CmisError {
 pub enum Reply {
     /// The written encoding of the result.
     Single(Bytes),
+    /// A linked reply: its number in LinkedReply, and the contents octets of what stands under it.
+    Linked(u8, Bytes),
+    /// A result without contents, which ends linked replies.
+    Empty,
     /// The error in place of a result.
     Error(CmisError),
 }

@@ -1,26 +1,15 @@
 //! The records that documents define: X.722.
 
+use crate::actions::{ActRecs, NoteRecs};
 use crate::name::Name;
-use crate::object::Attrs;
+use crate::name_binding::BindRecs;
+use crate::object::{Attrs, Oids};
+use crate::packages::{PackageRecs, Properties};
+use crate::rule::RuleRecs;
 use std::marker::Model;
-use term_values::{Bytes, Oid, Syntax};
+use term_values::{Bytes, Oid, Rules, Syntax};
 
-/// The matching rules that an attribute has: X.722, section 8.7.
-#[derive(Clone, Copy, Debug, PartialEq, Eq)]
-pub struct Rules {
-    /// EQUALITY
-    pub equality: bool,
-    /// ORDERING
-    pub ordering: bool,
-    /// SUBSTRINGS
-    pub substrings: bool,
-    /// SET-COMPARISON
-    pub comparison: bool,
-    /// SET-INTERSECTION
-    pub intersection: bool,
-}
-
-/// An attribute: X.722, section 8.7.
+/// An attribute: X.722, section 8.7. One that is derived has the syntax of its base and the rules of the whole chain.
 #[derive(Drop)]
 pub struct AttrRec {
     /// The identifier under which it is registered.
@@ -43,41 +32,43 @@ pub struct AttrRecs {
 impl Model for AttrRecs {
     ghost use Rattle.std.specs.Prelude.{List};
     ghost use Rattle.std.specs.Coded.{codes};
-    ghost use Rattle.term_values.specs.Typed.{syntax_code};
+    ghost use Rattle.term_values.specs.SyntaxCode.{syntax_code};
     ghost use Rattle.term_model.specs.declared.schema.AttrRec.{AttrRec};
 
     ghost Value = { List AttrRec };
 
     ghost coded = { Prim.hlevel (codes, syntax_code) };
 
-    ghost view = { λ records. records.items.items };
+    ghost view = { λ list. list.items.items };
 }
 
-/// What a class lets managers do with an attribute: X.722, section 8.4, the property list.
+/// An attribute group: X.722, section 8.8.
 #[derive(Drop)]
-pub struct Property {
-    /// The identifier of the attribute.
-    pub attribute: Oid,
-    /// GET: its value may be read.
-    pub get: bool,
-    /// REPLACE: its value may be replaced.
-    pub replace: bool,
+pub struct GroupRec {
+    /// The identifier under which it is registered.
+    pub id: Oid,
+    /// Its label.
+    pub label: Bytes,
+    /// The attributes of GROUP ELEMENTS.
+    pub members: Oids,
+    /// FIXED: no use adds a member.
+    pub fixed: bool,
 }
 
-/// The properties of the attributes of a class, in the order in which they were stated.
+/// Attribute groups in the order of their documents.
 #[derive(Drop)]
-pub struct Properties {
-    /// The properties.
-    pub items: Vec<Property>,
+pub struct GroupRecs {
+    /// The records.
+    pub items: Vec<GroupRec>,
 }
 
-impl Model for Properties {
+impl Model for GroupRecs {
     ghost use Rattle.std.specs.Prelude.{List};
-    ghost use Rattle.term_model.specs.declared.schema.Property.{Property};
+    ghost use Rattle.term_model.specs.declared.schema.GroupRec.{GroupRec};
 
-    ghost Value = { List Property };
+    ghost Value = { List GroupRec };
 
-    ghost view = { λ properties. properties.items.items };
+    ghost view = { λ list. list.items.items };
 }
 
 /// A managed object class: X.722, section 8.3.
@@ -87,7 +78,13 @@ pub struct ClassRec {
     pub id: Oid,
     /// Its label.
     pub label: Bytes,
-    /// The attributes of its objects, with their properties.
+    /// The classes of DERIVED FROM, its direct superclasses.
+    pub superclasses: Oids,
+    /// The packages of CHARACTERIZED BY, which each object of the class has.
+    pub mandatory: PackageRecs,
+    /// The packages of CONDITIONAL PACKAGES, which an object has where its creation names them.
+    pub conditional: PackageRecs,
+    /// The properties of each attribute, joined over all packages of the class and of the classes from which it derives.
     pub properties: Properties,
 }
 
@@ -100,22 +97,31 @@ pub struct ClassRecs {
 
 impl Model for ClassRecs {
     ghost use Rattle.std.specs.Prelude.{List};
+    ghost use Rattle.std.specs.Coded.{codes};
+    ghost use Rattle.term_values.specs.SyntaxCode.{syntax_code};
+    ghost use Rattle.term_values.specs.Typed.{value_code};
     ghost use Rattle.term_model.specs.declared.schema.ClassRec.{ClassRec};
 
     ghost Value = { List ClassRec };
 
-    ghost view = { λ records. records.items.items };
+    ghost coded = { Prim.hlevel (codes, value_code, syntax_code) };
+
+    ghost view = { λ list. list.items.items };
 }
 
-/// An object that is there at the opening.
+/// An object that is there at the opening; INSTANCES sections are this project's own.
 #[derive(Drop)]
 pub struct InstRec {
+    /// It stands behind ROOT.
+    pub root: bool,
     /// The identifier of its class.
     pub class: Oid,
     /// Its name relative to the root; empty for the root.
     pub name: Name,
     /// Its values by rising identifier, the one by which it is named among them.
     pub given: Attrs,
+    /// The conditional packages that it has.
+    pub chosen: Oids,
 }
 
 /// Objects at the opening in the order of their documents, superiors first.
@@ -135,7 +141,7 @@ impl Model for InstRecs {
 
     ghost coded = { Prim.hlevel (codes, value_code) };
 
-    ghost view = { λ records. records.items.items };
+    ghost view = { λ list. list.items.items };
 }
 
 /// The system's own distinguished name, which is the root's.
@@ -148,6 +154,16 @@ pub struct Set {
     pub classes: ClassRecs,
     /// The attributes.
     pub attributes: AttrRecs,
+    /// The attribute groups.
+    pub groups: GroupRecs,
+    /// The name bindings.
+    pub bindings: BindRecs,
+    /// The actions.
+    pub actions: ActRecs,
+    /// The notifications.
+    pub notifications: NoteRecs,
+    /// The rules of the actions.
+    pub rules: RuleRecs,
     /// The objects at the opening.
     pub instances: InstRecs,
     /// The system's name.

@@ -1,6 +1,17 @@
+pub mod ContentsLaws
+pub mod Faults
+pub mod LengthLaws
 pub mod NumberLaws
 pub mod OidLaws
 pub mod ReadingLaws
 pub mod Spelled
-pub mod Statements
 mod StandardFacts
+pub mod Statements
+pub mod TagLaws
+mod TreeFacts
+pub mod WrittenLaws
+mod StandardFactsPdus
+mod StandardFactsTimes
+mod StandardFactsValues
+pub mod RisingLaws
+pub mod SameLaws

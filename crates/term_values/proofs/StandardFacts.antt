@@ -63,4 +63,4 @@ example_integer_padded = refl
 example_writable : IsWritable 1 (Constructed (record { class = 0; number = 16 }) (Then (Primitive (record { class = 0; number = 2 }) (0 ∷ 0x80 ∷ [])) Nothing))
 unfolding identifier_octets length_octets
 example_writable =
-    (record { class = omega arith; low = omega arith; used = omega arith }, omega arith, ((record { class = omega arith; low = omega arith; used = omega arith }, omega arith), tt))
+    (record { class = omega arith; small = omega arith; used = omega arith }, omega arith, ((record { class = omega arith; small = omega arith; used = omega arith }, omega arith), tt))

@@ -8,3 +8,7 @@ context number = record { class = 2; number = number }
 
 abbrev pub is_same_tag : Tag → Tag → Bool
 is_same_tag a b = a.class == b.class && a.number == b.number
+
+-- the universal tag with this number: X.680, section 8.4
+abbrev pub universal : ℕ → Tag
+universal number = record { class = 0; number = number }

@@ -3,7 +3,7 @@ use Rattle.std.proofs.Common.{◌≡◌, reverse, length, Bool, true, false, Lis
 use Rattle.std.specs.Prelude.{codes, ◌||◌, ◌&&◌}
 use Rattle.std.proofs.lemmas.Bool.{or_left}
 use Rattle.std.proofs.lemmas.List.{reverse-append}
-use Rattle.text_lex.specs.declared.token.Token.{Token}
+use Rattle.token_grammar.specs.declared.token.Token.{Token}
 use Rattle.text_lex.specs.Lexed.{is_word, announces}
 
 pub reverse_push : (tokens : List Token) (last : Token) → reverse (tokens ++ last ∷ []) ≡ last ∷ reverse tokens

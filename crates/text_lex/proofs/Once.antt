@@ -11,7 +11,7 @@ use Rattle.text_lex.specs.Pieces.IsGap.{blank, comment}
 use Rattle.text_lex.specs.Lexed.{announces, IsToken, Lexed, Breaks}
 use Rattle.text_lex.specs.Lexed.Lexed.{ended, gap, token}
 use Rattle.text_lex.specs.Lexed.Breaks.{here, gap as past_gap, token as past_token}
-use Rattle.text_lex.specs.declared.token.Token.{Token}
+use Rattle.token_grammar.specs.declared.token.Token.{Token}
 use Rattle.text_lex.specs.declared.lex_refusal.LexKind.{LexKind}
 use Rattle.text_lex.specs.declared.lexing_octets.Start.TheVariants.{Blank, Sign, Nothing}
 use Rattle.text_lex.proofs.Pieces.{spelt_word, spelt_number, spelt_string, spelt_bits, spelt_sign, spelt_nothing, spelt_blank, bits_run}

@@ -10,10 +10,11 @@ use Rattle.text_lex.specs.Pieces.{IsFault, fault_of}
 use Rattle.text_lex.specs.Pieces.IsGap.{blank, comment}
 use Rattle.text_lex.specs.declared.lexing_octets.Start.{Start}
 use Rattle.text_lex.specs.declared.lexing_octets.Start.TheVariants.{Blank, Delimiter, Letter, Digit, Apostrophe, Sign, Nothing}
-use Rattle.text_lex.specs.declared.token.TheConstants.{WORD, NUMBER, STRING, HEX_STRING, BIT_STRING, SIGN}
+use Rattle.token_grammar.specs.Kinds.{word_kind, number_kind, string_kind, hexadecimal_kind, binary_kind, sign_kind}
 
 module _ (text : List ℕ) (announced : Bool) (kind i k : ℕ) where
-  pub spelt_word : start_of announced (slice_index text i) ≡ Letter → Spells text announced kind i k → (kind ≡ WORD) × WordRest text (i + 1) k
+  pub spelt_word : start_of announced (slice_index text i) ≡ Letter → Spells text announced kind i k →
+      (kind ≡ word_kind) × WordRest text (i + 1) k
   spelt_word start (word is_kind _ rest) = (is_kind, rest)
   spelt_word start (number _ other _ _) = absurd (cc)
   spelt_word start (string _ other _) = absurd (cc)
@@ -21,7 +22,8 @@ module _ (text : List ℕ) (announced : Bool) (kind i k : ℕ) where
   spelt_word start (binary _ other _) = absurd (cc)
   spelt_word start (sign _ other _) = absurd (cc)
 
-  pub spelt_number : start_of announced (slice_index text i) ≡ Digit → Spells text announced kind i k → (kind ≡ NUMBER) × IsRun decimal_digits text i k × (digits_value 10 (slice_range text i k) < 2 ^ 64)
+  pub spelt_number : start_of announced (slice_index text i) ≡ Digit → Spells text announced kind i k →
+      (kind ≡ number_kind) × IsRun decimal_digits text i k × (digits_value 10 (slice_range text i k) < 2 ^ 64)
   spelt_number start (word _ other _) = absurd (cc)
   spelt_number start (number is_kind _ run fits) = (is_kind, run, fits)
   spelt_number start (string _ other _) = absurd (cc)
@@ -29,7 +31,8 @@ module _ (text : List ℕ) (announced : Bool) (kind i k : ℕ) where
   spelt_number start (binary _ other _) = absurd (cc)
   spelt_number start (sign _ other _) = absurd (cc)
 
-  pub spelt_string : start_of announced (slice_index text i) ≡ Delimiter → Spells text announced kind i k → (kind ≡ STRING) × StringRest text (slice_index text i) (i + 1) k
+  pub spelt_string : start_of announced (slice_index text i) ≡ Delimiter → Spells text announced kind i k →
+      (kind ≡ string_kind) × StringRest text (slice_index text i) (i + 1) k
   spelt_string start (word _ other _) = absurd (cc)
   spelt_string start (number _ other _ _) = absurd (cc)
   spelt_string start (string is_kind _ rest) = (is_kind, rest)
@@ -37,7 +40,9 @@ module _ (text : List ℕ) (announced : Bool) (kind i k : ℕ) where
   spelt_string start (binary _ other _) = absurd (cc)
   spelt_string start (sign _ other _) = absurd (cc)
 
-  pub spelt_bits : start_of announced (slice_index text i) ≡ Apostrophe → Spells text announced kind i k → ((kind ≡ HEX_STRING) × IsQuotedRun hexadecimal_digits text hexadecimal_suffix i k) ⊎ ((kind ≡ BIT_STRING) × IsQuotedRun binary_digits text binary_suffix i k)
+  pub spelt_bits : start_of announced (slice_index text i) ≡ Apostrophe → Spells text announced kind i k →
+      ((kind ≡ hexadecimal_kind) × IsQuotedRun hexadecimal_digits text hexadecimal_suffix i k) ⊎
+      ((kind ≡ binary_kind) × IsQuotedRun binary_digits text binary_suffix i k)
   spelt_bits start (word _ other _) = absurd (cc)
   spelt_bits start (number _ other _ _) = absurd (cc)
   spelt_bits start (string _ other _) = absurd (cc)
@@ -45,7 +50,8 @@ module _ (text : List ℕ) (announced : Bool) (kind i k : ℕ) where
   spelt_bits start (binary is_kind _ run) = inr (is_kind, run)
   spelt_bits start (sign _ other _) = absurd (cc)
 
-  pub spelt_sign : start_of announced (slice_index text i) ≡ Sign → Spells text announced kind i k → (kind ≡ SIGN) × IsSign text i k
+  pub spelt_sign : start_of announced (slice_index text i) ≡ Sign → Spells text announced kind i k →
+      (kind ≡ sign_kind) × IsSign text i k
   spelt_sign start (word _ other _) = absurd (cc)
   spelt_sign start (number _ other _ _) = absurd (cc)
   spelt_sign start (string _ other _) = absurd (cc)

@@ -5,7 +5,7 @@ use Rattle.text_lex.specs.Pieces.{IsGap, IsFault}
 use Rattle.text_lex.specs.Lexed.{announces, IsToken, Lexed, Breaks, AreTokensOf}
 use Rattle.text_lex.specs.Lexed.Lexed.{ended, gap, token}
 use Rattle.text_lex.specs.Lexed.Breaks.{here, gap as past_gap, token as past_token}
-use Rattle.text_lex.specs.declared.token.Token.{Token}
+use Rattle.token_grammar.specs.declared.token.Token.{Token}
 use Rattle.text_lex.specs.declared.lex_refusal.LexKind.{LexKind}
 use Rattle.text_lex.proofs.Announced.{reverse_push}
 use Rattle.text_lex.proofs.Once.{tokens_or_fault}

@@ -17,7 +17,7 @@ use Rattle.text_lex.specs.Pieces.IsGap.{blank, comment}
 use Rattle.text_lex.specs.Lexed.{announces, IsToken, Lexed}
 use Rattle.text_lex.specs.Lexed.Lexed.{ended, gap, token}
 use Rattle.text_lex.specs.Slices.{IsSlice, EndsBefore}
-use Rattle.text_lex.specs.declared.token.Token.{Token}
+use Rattle.token_grammar.specs.declared.token.Token.{Token}
 use Rattle.text_lex.specs.declared.lexing_octets.Start.TheVariants.{Digit, Nothing}
 use Rattle.text_lex.proofs.Digits.{digit_begins}
 use Rattle.text_lex.proofs.Pieces.{run_forward}

@@ -15,8 +15,8 @@ use Rattle.text_lex.specs.Pieces.IsGap.{blank, comment}
 use Rattle.text_lex.specs.Lexed.{is_word, announces, IsToken, AreTokensOf, Breaks}
 use Rattle.text_lex.specs.Lexed.Lexed.{ended, gap, token}
 use Rattle.text_lex.specs.Lexed.Breaks.{here}
-use Rattle.text_lex.specs.declared.token.Token.{Token}
-use Rattle.text_lex.specs.declared.token.TheConstants.{WORD}
+use Rattle.token_grammar.specs.declared.token.Token.{Token}
+use Rattle.token_grammar.specs.Kinds.{word_kind}
 use Rattle.text_lex.specs.declared.lexing_octets.Start.TheVariants.{Delimiter, Nothing}
 use Rattle.text_lex.specs.declared.lex_refusal.LexKind.TheVariants.{BadByte}
 use Rattle.text_lex.proofs.Pieces.{spelt_word, spelt_nothing}
@@ -52,10 +52,10 @@ abbrev text : List ℕ
 text = codes "a--b--c"
 
 abbrev first_word : Token
-first_word = record { kind = WORD; at = 0; text = codes "a" }
+first_word = record { kind = word_kind; at = 0; text = codes "a" }
 
 abbrev last_word : Token
-last_word = record { kind = WORD; at = 6; text = codes "c" }
+last_word = record { kind = word_kind; at = 6; text = codes "c" }
 
 first_ends : (m : ℕ) → WordRest text 1 m → m ≤ 1
 unfolding is_word_octet

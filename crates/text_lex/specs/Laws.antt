@@ -1,7 +1,7 @@
 -- What holds of each text, its tokens and its first fault: X.722, section 8.2.
 use Rattle.std.specs.Prelude.{◌≡◌, ℕ, List, []}
 use Rattle.text_lex.specs.Lexed.{AreTokensOf, Breaks}
-use Rattle.text_lex.specs.declared.token.Token.{Token}
+use Rattle.token_grammar.specs.declared.token.Token.{Token}
 use Rattle.text_lex.specs.declared.lex_refusal.LexKind.{LexKind}
 
 -- a text has at most one list of tokens

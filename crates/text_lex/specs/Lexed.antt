@@ -1,14 +1,14 @@
 -- The tokens of a document and its first fault: X.722, section 8.2; X.680, section 12.
 use Rattle.std.specs.Prelude.{◌≡◌, ℕ, Bool, false, ◌==◌, ◌&&◌, ◌||◌, List, [], ◌∷◌, length, slice_range, codes, bytes_eq}
-use Rattle.text_lex.specs.declared.token.Token.{Token}
-use Rattle.text_lex.specs.declared.token.TheConstants.{WORD}
+use Rattle.token_grammar.specs.declared.token.Token.{Token}
+use Rattle.token_grammar.specs.Kinds.{word_kind}
 use Rattle.text_lex.specs.declared.lex_refusal.LexKind.{LexKind}
 use Rattle.text_lex.specs.declared.lex_refusal.LexRefusal.{LexRefusal}
 use Rattle.text_lex.specs.declared.lex_refusal.LexRefusal.TheVariants.{Fault, Memory}
 use Rattle.text_lex.specs.Pieces.{IsGap, IsLexeme, IsFault}
 
 unfoldable pub is_word : Token → List ℕ → Bool
-is_word token word = (token.kind == WORD) && bytes_eq token.text word
+is_word token word = (token.kind == word_kind) && bytes_eq token.text word
 
 -- the tokens before a place, the nearest first, announce a string
 unfoldable pub announces : List Token → Bool

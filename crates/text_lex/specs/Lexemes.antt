@@ -3,7 +3,7 @@ use Rattle.std.specs.Prelude.{◌≡◌, ℕ, ◌+◌, ◌<◌, ◌≤◌, ◌^�
 use Rattle.std.specs.Str.Parse.{digits_value}
 use Rattle.text_lex.specs.Octets.{is_one_of, is_word_octet, start_of, hyphen_octet, colon_octet, equals_octet, full_stop_octet, apostrophe_octet, hexadecimal_suffix, binary_suffix, decimal_digits, hexadecimal_digits, binary_digits}
 use Rattle.text_lex.specs.declared.lexing_octets.Start.TheVariants.{Delimiter, Letter, Digit, Apostrophe, Sign}
-use Rattle.text_lex.specs.declared.token.TheConstants.{WORD, NUMBER, STRING, HEX_STRING, BIT_STRING, SIGN}
+use Rattle.token_grammar.specs.Kinds.{word_kind, number_kind, string_kind, hexadecimal_kind, binary_kind, sign_kind}
 
 -- from i to k stands the rest of a word: letters, digits and solidi, and single hyphens before these
 pub data WordRest (text : List ℕ) : ℕ → ℕ → Type 0 where
@@ -41,9 +41,15 @@ pub data IsSign (text : List ℕ) (i k : ℕ) : Type 0 where
 
 -- a token of a kind from i to k; `announced`: words before it announce a string
 pub data Spells (text : List ℕ) (announced : Bool) (kind i k : ℕ) : Type 0 where
-  word : kind ≡ WORD → start_of announced (slice_index text i) ≡ Letter → WordRest text (i + 1) k → Spells text announced kind i k
-  number : kind ≡ NUMBER → start_of announced (slice_index text i) ≡ Digit → IsRun decimal_digits text i k → digits_value 10 (slice_range text i k) < 2 ^ 64 → Spells text announced kind i k
-  string : kind ≡ STRING → start_of announced (slice_index text i) ≡ Delimiter → StringRest text (slice_index text i) (i + 1) k → Spells text announced kind i k
-  hexadecimal : kind ≡ HEX_STRING → start_of announced (slice_index text i) ≡ Apostrophe → IsQuotedRun hexadecimal_digits text hexadecimal_suffix i k → Spells text announced kind i k
-  binary : kind ≡ BIT_STRING → start_of announced (slice_index text i) ≡ Apostrophe → IsQuotedRun binary_digits text binary_suffix i k → Spells text announced kind i k
-  sign : kind ≡ SIGN → start_of announced (slice_index text i) ≡ Sign → IsSign text i k → Spells text announced kind i k
+  word : kind ≡ word_kind → start_of announced (slice_index text i) ≡ Letter → WordRest text (i + 1) k → Spells text
+      announced kind i k
+  number : kind ≡ number_kind → start_of announced (slice_index text i) ≡ Digit → IsRun decimal_digits text i k →
+      digits_value 10 (slice_range text i k) < 2 ^ 64 → Spells text announced kind i k
+  string : kind ≡ string_kind → start_of announced (slice_index text i) ≡ Delimiter → StringRest text
+      (slice_index text i) (i + 1) k → Spells text announced kind i k
+  hexadecimal : kind ≡ hexadecimal_kind → start_of announced (slice_index text i) ≡ Apostrophe → IsQuotedRun
+      hexadecimal_digits text hexadecimal_suffix i k → Spells text announced kind i k
+  binary : kind ≡ binary_kind → start_of announced (slice_index text i) ≡ Apostrophe → IsQuotedRun binary_digits text
+      binary_suffix i k → Spells text announced kind i k
+  sign : kind ≡ sign_kind → start_of announced (slice_index text i) ≡ Sign → IsSign text i k → Spells text announced
+      kind i k

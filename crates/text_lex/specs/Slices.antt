@@ -1,6 +1,6 @@
 -- Tokens as slices of their document, in order: X.722, section 8.2.
 use Rattle.std.specs.Prelude.{◌≡◌, ℕ, ◌+◌, ◌<◌, ◌≤◌, List, length, slice_range}
-use Rattle.text_lex.specs.declared.token.Token.{Token}
+use Rattle.token_grammar.specs.declared.token.Token.{Token}
 
 -- a token is what stands in the text at its place, and isn't empty
 pub record IsSlice (text : List ℕ) (token : Token) : Type 0 where

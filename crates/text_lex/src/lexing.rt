@@ -4,11 +4,11 @@ ghost use Rattle.std.specs.Prelude.{◌≡◌, reverse, IfOk, IfErr, All, AllPai
 ghost use Rattle.text_lex.specs.Lexed.{is_word, announces, AreTokensOf, IsRefused};
 ghost use Rattle.text_lex.specs.Slices.{IsSlice, EndsBefore};
 
-use super::bytes::Bytes;
 use super::lex_refusal::LexRefusal;
 use super::lexing_pieces::{Piece, piece_at};
-use super::token::{Token, WORD};
 use std::alloc::Global;
+use token_grammar::token::WORD;
+use token_grammar::{Bytes, Token};
 
 const DESCRIPTION: &[u8] = b"DESCRIPTION";
 

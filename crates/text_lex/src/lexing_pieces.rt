@@ -9,7 +9,7 @@ use super::lexing_octets::{
     APOSTROPHE, BIT_SUFFIX, BITS, DIGITS, HEX_DIGITS, HEX_SUFFIX, Start, octet_at, start_of,
 };
 use super::numerals::decimal;
-use super::token::{BIT_STRING, HEX_STRING, NUMBER, SIGN, STRING, WORD};
+use token_grammar::token::{BIT_STRING, HEX_STRING, NUMBER, SIGN, STRING, WORD};
 
 /// What stands at a place, up to `end`.
 pub enum Piece {

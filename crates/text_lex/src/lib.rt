@@ -2,7 +2,6 @@
 //! section 12, in the forms that this project accepts).
 #![tactic(auto)]
 
-pub mod bytes;
 pub mod lex_refusal;
 pub mod lexing;
 mod lexing_ends;
@@ -10,14 +9,7 @@ pub mod lexing_laws;
 mod lexing_octets;
 mod lexing_pieces;
 pub mod numerals;
-pub mod syntax_refusal;
-pub mod token;
 
-pub use bytes::Bytes;
 pub use lex_refusal::{LexKind, LexRefusal};
 pub use lexing::lex;
-pub use syntax_refusal::SyntaxRefusal;
-pub use token::Token;
-
-#[cfg(test)]
-mod tests;
+pub use token_grammar::{Bytes, SyntaxRefusal, Token};

@@ -1,15 +1,15 @@
 -- Laws on clauses in any order.
 use Rattle.std.specs.Result.{IsErrAnd}
 use Rattle.std.proofs.Common.{◌≡◌, ◌≢◌, ℕ, zero, suc, ◌+◌, ◌≤◌, Bool, true, false, not, ◌&&◌, ◌||◌, List, ◌∷◌, Option, None, Some, is_none, is_some, option_map, Result, Ok, Err, ◌⊎◌, inl, inr, refl, sym, ◌∙◌, ap, subst, arith, slice_get}
-use Rattle.text_lex.specs.declared.token.Token.{Token}
+use Rattle.token_grammar.specs.declared.token.Token.{Token}
 use Rattle.token_grammar.specs.Form.{Form, Tree, Marks, Then, AnyOrder, Slots, Slot, NoSlots, form_at, is_open, filled, is_complete, slots_tree, option_tree, Present}
 use Rattle.token_grammar.specs.Spelling as S
 use Rattle.token_grammar.specs.Spelling.{At, passes, Spells}
 use Rattle.token_grammar.specs.Beginning as B
 use Rattle.token_grammar.specs.Beginning.{Begins}
 pub use Rattle.token_grammar.specs.Turns.{AllStop, IsTaken, IsOver, TakesClause}
-use Rattle.text_lex.specs.declared.syntax_refusal.SyntaxRefusal.{SyntaxRefusal}
-use Rattle.text_lex.specs.declared.syntax_refusal.SyntaxRefusal.TheVariants.{Syntax}
+use Rattle.token_grammar.specs.declared.syntax_refusal.SyntaxRefusal.{SyntaxRefusal}
+use Rattle.token_grammar.specs.declared.syntax_refusal.SyntaxRefusal.TheVariants.{Syntax}
 use Rattle.token_grammar.specs.Outcome.{closed, Stops, IsFault, IsSpelt, Fails}
 use Rattle.token_grammar.proofs.Places.{spells_from, begins_from}
 use Rattle.token_grammar.proofs.Heads.{Firsts, skips, starts, Heads, stops_here, at_wider, advances}

@@ -1,9 +1,9 @@
 -- What a reader answers at the exit of a `?`: the refusal that it was given.
 use Rattle.std.proofs.Common.{◌≡◌, ℕ, Bool, List, Result, Ok, Err, subst, sym, refl}
 use Rattle.std.specs.Result.{IsErrAnd}
-use Rattle.text_lex.specs.declared.token.Token.{Token}
-use Rattle.text_lex.specs.declared.syntax_refusal.SyntaxRefusal.{SyntaxRefusal}
-use Rattle.text_lex.specs.declared.syntax_refusal.SyntaxRefusal.TheVariants.{Memory}
+use Rattle.token_grammar.specs.declared.token.Token.{Token}
+use Rattle.token_grammar.specs.declared.syntax_refusal.SyntaxRefusal.{SyntaxRefusal}
+use Rattle.token_grammar.specs.declared.syntax_refusal.SyntaxRefusal.TheVariants.{Memory}
 use Rattle.token_grammar.proofs.Sequences.{fails_memory}
 use Rattle.token_grammar.specs.Form.{Form, Tree}
 use Rattle.token_grammar.specs.Outcome.{Fails, Reads, Skips}

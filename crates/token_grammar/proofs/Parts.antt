@@ -1,7 +1,7 @@
 -- Laws on the parts that several grammars have, and on the lists that readers make.
 use Rattle.std.proofs.Common.{◌≡◌, ℕ, ◌+◌, ◌≤◌, ◌<◌, Bool, true, false, not, ◌&&◌, ◌||◌, List, [], ◌∷◌, ◌++◌, Option, None, Some, ◌⊎◌, inl, inr, refl, sym, ◌∙◌, ap, subst, arith, slice_get, length, codes}
 use Rattle.std.proofs.lemmas.Option.{slice_get_within}
-use Rattle.text_lex.specs.declared.token.Token.{Token}
+use Rattle.token_grammar.specs.declared.token.Token.{Token}
 use Rattle.token_grammar.specs.Form.{Form, Tree, Keep, Listed, Many, Leaf, First, Second, After}
 use Rattle.token_grammar.specs.Spelling as S
 use Rattle.token_grammar.specs.Spelling.{At, passes, Spells}

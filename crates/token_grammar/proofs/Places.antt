@@ -1,6 +1,6 @@
 -- Laws on places: a spelling is a beginning, and none goes backwards.
 use Rattle.std.proofs.Common.{◌≡◌, ℕ, ◌≤◌, Bool, true, List, Some, ◌∙◌, ap, subst, arith, slice_get}
-use Rattle.text_lex.specs.declared.token.Token.{Token}
+use Rattle.token_grammar.specs.declared.token.Token.{Token}
 use Rattle.token_grammar.specs.Form.{Form, Tree}
 use Rattle.token_grammar.specs.Spelling as S
 use Rattle.token_grammar.specs.Spelling.{At, passes, Spells}

@@ -1,7 +1,7 @@
 -- Laws on references: a label, or in its place a template in line. The token behind the label decides.
 use Rattle.std.proofs.Common.{◌≡◌, ℕ, ◌+◌, ◌≤◌, Bool, true, false, ◌&&◌, List, ◌∷◌, Option, None, Some, refl, sym, ◌∙◌, ap, subst, arith, slice_get}
-use Rattle.text_lex.specs.declared.token.Token.{Token}
-use Rattle.text_lex.specs.declared.syntax_refusal.SyntaxRefusal.{SyntaxRefusal}
+use Rattle.token_grammar.specs.declared.token.Token.{Token}
+use Rattle.token_grammar.specs.declared.syntax_refusal.SyntaxRefusal.{SyntaxRefusal}
 use Rattle.token_grammar.specs.Form.{Form, Tree, Marks, Keep, Then, Or, Named, Leaf, Pair, First, Second, Absent}
 use Rattle.token_grammar.specs.Spelling.{passes}
 use Rattle.token_grammar.specs.Beginning as B

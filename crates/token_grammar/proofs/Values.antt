@@ -1,7 +1,7 @@
 -- No two values have one tree: of optional parts and lists, given that it holds of their parts, and of
 -- the parts of this crate.
 use Rattle.std.proofs.Common.{◌≡◌, ℕ, ◌+◌, suc, List, [], ◌∷◌, None, Some, refl, ◌∙◌, ap, arith, length}
-use Rattle.text_lex.specs.declared.token.Token.{Token}
+use Rattle.token_grammar.specs.declared.token.Token.{Token}
 use Rattle.token_grammar.specs.declared.object_identifier.Arc.TheVariants.{Number, Named}
 use Rattle.token_grammar.specs.declared.object_identifier.FirstArc.TheVariants.{OfArc, Name}
 use Rattle.token_grammar.specs.Form.{Tree, Bare, Leaf, Pair, First, Second, Absent, Present, Empty, After, Numbered}

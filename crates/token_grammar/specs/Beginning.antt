@@ -2,7 +2,7 @@
 -- of how the form could end. The form goes on with a token where the tokens up to and with it begin the
 -- form.
 use Rattle.std.specs.Prelude.{◌≡◌, ℕ, ◌+◌, Bool, true, List, ◌∷◌}
-use Rattle.text_lex.specs.declared.token.Token.{Token}
+use Rattle.token_grammar.specs.declared.token.Token.{Token}
 use Rattle.token_grammar.specs.Form.{Form, Marks, Keep, Then, Or, Maybe, Listed, Many, AnyOrder, Named, Slots, Tree, After, form_at, is_open, filled}
 use Rattle.token_grammar.specs.Spelling.{At, Spells}
 

@@ -1,9 +1,9 @@
 -- Reads: what a reader of a form answers. It is what the tokens spell, or the one place of the fault
 -- (docs/PROFILE.md, section 2).
 use Rattle.std.specs.Prelude.{◌≡◌, ℕ, ◌≤◌, Bool, false, List, ◌⊎◌, Result, Ok, Err}
-use Rattle.text_lex.specs.declared.token.Token.{Token}
-use Rattle.text_lex.specs.declared.syntax_refusal.SyntaxRefusal.{SyntaxRefusal}
-use Rattle.text_lex.specs.declared.syntax_refusal.SyntaxRefusal.TheVariants.{Syntax}
+use Rattle.token_grammar.specs.declared.token.Token.{Token}
+use Rattle.token_grammar.specs.declared.syntax_refusal.SyntaxRefusal.{SyntaxRefusal}
+use Rattle.token_grammar.specs.declared.syntax_refusal.SyntaxRefusal.TheVariants.{Syntax}
 use Rattle.token_grammar.specs.Form.{Form, Tree}
 use Rattle.token_grammar.specs.Spelling.{At, Spells}
 use Rattle.token_grammar.specs.Beginning.{Begins}

@@ -1,7 +1,7 @@
 -- Spells: the tokens from one place to another spell a form, and this is what they say (docs/PROFILE.md,
 -- section 2).
 use Rattle.std.specs.Prelude.{◌≡◌, ℕ, ◌+◌, Bool, true, false, List, [], ◌∷◌, Option, None, Some, slice_get}
-use Rattle.text_lex.specs.declared.token.Token.{Token}
+use Rattle.token_grammar.specs.declared.token.Token.{Token}
 use Rattle.token_grammar.specs.Form.{Form, Marks, Keep, Then, Or, Maybe, Listed, Many, AnyOrder, Named, Slots, Tree, Bare, Leaf, Pair, First, Second, Absent, Present, After, Numbered, form_at, is_open, filled, is_complete, slots_tree}
 
 -- whether there is a token, and it passes the test

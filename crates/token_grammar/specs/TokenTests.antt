@@ -3,12 +3,12 @@
 use Rattle.std.specs.Prelude.{ℕ, Bool, List, [], ◌∷◌, ◌&&◌, ◌||◌, not, ◌==◌, nat_le, codes}
 use Rattle.std.specs.List.{list_any}
 use Rattle.std.specs.Cmp.Lexicographic.{pointwise}
-use Rattle.text_lex.specs.declared.token.Token.{Token}
-use Rattle.text_lex.specs.declared.token.TheConstants.{WORD, NUMBER, STRING, SIGN}
+use Rattle.token_grammar.specs.declared.token.Token.{Token}
+use Rattle.token_grammar.specs.Kinds.{word_kind, number_kind, string_kind, sign_kind}
 
 -- this word
 abbrev pub is_word_of : List ℕ → Token → Bool
-is_word_of text token = (token.kind == WORD) && pointwise ◌==◌ token.text text
+is_word_of text token = (token.kind == word_kind) && pointwise ◌==◌ token.text text
 
 -- one of these words
 abbrev pub is_one_of : List (List ℕ) → Token → Bool
@@ -16,17 +16,17 @@ is_one_of texts token = list_any (λ text. is_word_of text token) texts
 
 -- this sign
 abbrev pub is_sign_of : List ℕ → Token → Bool
-is_sign_of text token = (token.kind == SIGN) && pointwise ◌==◌ token.text text
+is_sign_of text token = (token.kind == sign_kind) && pointwise ◌==◌ token.text text
 
 -- any word
 abbrev pub is_word : Token → Bool
-is_word token = token.kind == WORD
+is_word token = token.kind == word_kind
 
 abbrev pub is_number : Token → Bool
-is_number token = token.kind == NUMBER
+is_number token = token.kind == number_kind
 
 abbrev pub is_string : Token → Bool
-is_string token = token.kind == STRING
+is_string token = token.kind == string_kind
 
 abbrev pub lower_a_octet : ℕ
 lower_a_octet = 97
@@ -40,7 +40,7 @@ is_lower_case octet = nat_le lower_a_octet octet && nat_le octet lower_z_octet
 
 -- A label of a template is a word that isn't in capitals: one with a lower-case letter.
 abbrev pub is_label : Token → Bool
-is_label token = (token.kind == WORD) && list_any is_lower_case token.text
+is_label token = (token.kind == word_kind) && list_any is_lower_case token.text
 
 -- the words of ASN.1 that name no module, type, value, component or number
 abbrev pub reserved_words : List (List ℕ)
@@ -48,7 +48,7 @@ reserved_words = codes "DEFINITIONS" ∷ codes "EXPLICIT" ∷ codes "IMPLICIT" �
 
 -- a name of a module, a type, a value, a component or a number
 abbrev pub is_name : Token → Bool
-is_name token = (token.kind == WORD) && not (is_one_of reserved_words token)
+is_name token = (token.kind == word_kind) && not (is_one_of reserved_words token)
 
 -- what an arc of an object identifier begins with
 abbrev pub is_arc_start : Token → Bool

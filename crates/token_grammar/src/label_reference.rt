@@ -6,10 +6,11 @@ ghost use Rattle.token_grammar.specs.Outcome.{Reads, closed};
 ghost use Rattle.token_grammar.specs.Parts.{document_name, document_name_tree, label_reference, label_reference_tree, optional_tree};
 ghost use Rattle.token_grammar.specs.TokenTests.{is_string};
 
+use super::syntax_refusal::SyntaxRefusal;
+use super::token::Token;
 use super::token_reading::{read_label, read_string, skip_sign};
 use super::token_tests::is_string_at;
 use std::alloc::Global;
-use text_lex::{SyntaxRefusal, Token};
 
 /// A label that stands for a template, `["name" :] label`.
 #[derive(Drop)]

@@ -6,10 +6,11 @@ ghost use Rattle.token_grammar.specs.Outcome.{Reads, closed};
 ghost use Rattle.token_grammar.specs.Parts.{arc, arc_tree, first_arc, first_arc_tree, object_identifier, object_identifier_tree, vector_tree};
 ghost use Rattle.token_grammar.specs.TokenTests.{is_sign_of, is_arc_start};
 
+use super::syntax_refusal::SyntaxRefusal;
+use super::token::Token;
 use super::token_reading::{read_name, read_number, read_sign, skip_sign};
 use super::token_tests::{is_arc_at, is_name_without, is_number_at};
 use std::alloc::Global;
-use text_lex::{SyntaxRefusal, Token};
 
 /// An arc that has its number.
 #[derive(Drop)]
@@ -46,7 +47,7 @@ pub struct ObjectIdentifier {
 }
 
 /// Reads an arc that has its number.
-fn read_arc(alloc: Global, tokens: &[Token], at: usize) -> Result<(Arc, usize), SyntaxRefusal>
+pub fn read_arc(alloc: Global, tokens: &[Token], at: usize) -> Result<(Arc, usize), SyntaxRefusal>
     ensures { (grammar : ℕ → Form) → Reads tokens.now grammar closed arc at arc_tree result }
 {
     if is_number_at(tokens, at) {
@@ -76,8 +77,12 @@ fn read_first_arc(
     Ok((FirstArc::OfArc(arc), next))
 }
 
-/// Reads the arcs behind the first, as many as there are.
-fn read_arcs(alloc: Global, tokens: &[Token], at: usize) -> Result<(Vec<Arc>, usize), SyntaxRefusal>
+/// Reads arcs that have their numbers, as many as there are.
+pub fn read_arcs(
+    alloc: Global,
+    tokens: &[Token],
+    at: usize,
+) -> Result<(Vec<Arc>, usize), SyntaxRefusal>
     ensures { (grammar : ℕ → Form) → Reads tokens.now grammar is_arc_start (Many Empty arc) at (vector_tree arc_tree) result }
 {
     let mut arcs = Vec::new(alloc);

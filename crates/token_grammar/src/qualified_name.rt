@@ -5,9 +5,10 @@ ghost use Rattle.token_grammar.specs.Form.{Form};
 ghost use Rattle.token_grammar.specs.Outcome.{Reads, closed};
 ghost use Rattle.token_grammar.specs.Parts.{qualified_name, qualified_name_tree};
 
+use super::syntax_refusal::SyntaxRefusal;
+use super::token::Token;
 use super::token_reading::{read_name, skip_sign};
 use std::alloc::Global;
-use text_lex::{SyntaxRefusal, Token};
 
 /// A type or a value of a module.
 #[derive(Drop)]

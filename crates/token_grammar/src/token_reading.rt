@@ -3,18 +3,19 @@
 
 ghost use Rattle.std.specs.Prelude.{◌≡◌, ◌+◌, ℕ, Bool, List, [], ◌∷◌, true, false, Some, None, slice_get, map, MatchOption, IfOk};
 ghost use Rattle.std.specs.List.{list_any};
-ghost use Rattle.text_lex.specs.declared.token.Token.{Token};
+ghost use Rattle.token_grammar.specs.declared.token.Token.{Token};
 ghost use Rattle.token_grammar.specs.Form.{Form, Marks, Keep, Bare, Leaf};
 ghost use Rattle.token_grammar.specs.Spelling.{passes};
 ghost use Rattle.token_grammar.specs.Outcome.{Reads, Skips, closed};
 ghost use Rattle.token_grammar.specs.TokenTests.{is_word_of, is_sign_of, is_label, is_name, is_word, is_number, is_string};
 
+use super::syntax_refusal::SyntaxRefusal;
+use super::token::Token;
 use super::token_tests::{
     is_any_word_at, is_label_at, is_name_at, is_number_at, is_one_of_at, is_sign_at, is_sign_of,
     is_string_at, is_word_at, token_at,
 };
 use std::alloc::{AllocError, Global};
-use text_lex::{SyntaxRefusal, Token};
 
 /// A copy of a token; only memory can fail.
 pub fn copy_token(alloc: Global, token: &Token) -> Result<Token, AllocError>
@@ -40,8 +41,9 @@ fn skip_token(tokens: &[Token], at: usize, is_wanted: bool) -> Result<usize, Syn
     Err(SyntaxRefusal::Syntax { token: at as u64 })
 }
 
-/// Copies the token at a place if it is the one that is wanted.
-fn keep_token(
+/// Copies the token at a place if it is the one that is wanted, as its caller has found out: a reader of
+/// one token for any test.
+pub fn keep_token(
     alloc: Global,
     tokens: &[Token],
     at: usize,

@@ -5,8 +5,7 @@ ghost use Rattle.std.specs.List.{list_any};
 ghost use Rattle.token_grammar.specs.Spelling.{passes};
 ghost use Rattle.token_grammar.specs.TokenTests.{is_word_of, is_sign_of, is_one_of, is_label, is_name, is_word, is_number, is_string, is_lower_case, is_arc_start, reserved_words};
 
-use text_lex::Token;
-use text_lex::token::{NUMBER, SIGN, STRING, WORD};
+use super::token::{NUMBER, SIGN, STRING, Token, WORD};
 
 /// Whether a token is the word.
 pub fn is_word_of(token: &Token, word: &str) -> bool

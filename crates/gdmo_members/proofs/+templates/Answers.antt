@@ -12,6 +12,8 @@ use Rattle.token_grammar.specs.Form.{Empty, Leaf}
 use Rattle.token_grammar.specs.TokenTests.{is_word_of, is_one_of}
 use Rattle.token_grammar.specs.Parts.{qualified_name, vector_tree}
 use Rattle.token_grammar.proofs.Parts.{list_push, list_last, at_within, spelt_within, spelt_as, one_of_two}
+use Rattle.token_grammar.specs.Outcome.{closed}
+use Rattle.token_grammar.proofs.ByWord.{word_kept, clause_kept, slot_not}
 use Rattle.gdmo_members.proofs.Apart.{word_apart, semicolon_apart, comma_separates, attribute_apart, parameter_apart}
 use Rattle.gdmo_members.proofs.FirstTokens.{labels, labels_lead}
 use Rattle.gdmo_members.specs.Clauses.{attributes, parameters, comma, semicolon, reference, behaviour_clause, parameters_clause, context, clause}
@@ -45,11 +47,8 @@ attribute::read_attribute_reference-returns-in_err-template t c = exit_reads _ c
 pub attribute::read_attribute_reference-returns-then-is_template_at : goal.attribute::read_attribute_reference-returns-then-is_template_at
 attribute::read_attribute_reference-returns-then-is_template_at t c = spelt_as (boxed_attribute c.in_ok-template.template c.in_ok-template.template.value refl) (spelt_template refl (sym c.is_template_at.ensures ∙ c.if-is_template_at.true) c.in_ok-template.ensures)
 
-pub attribute::read_attribute_reference-returns-in_err-label : goal.attribute::read_attribute_reference-returns-in_err-label
-attribute::read_attribute_reference-returns-in_err-label t c = exit_reads _ c.from_residual-in_err-label.result c.from_residual-in_err-label.ensures.1 (fails_label refl (sym c.is_template_at.ensures ∙ c.if-is_template_at.false) (c.in_err-label.ensures templates))
-
-pub attribute::read_attribute_reference-returns : goal.attribute::read_attribute_reference-returns
-attribute::read_attribute_reference-returns t c = spelt_label refl (sym c.is_template_at.ensures ∙ c.if-is_template_at.false) (c.in_ok-label.ensures templates)
+pub attribute::read_attribute_reference-read_attribute_label-requires : goal.attribute::read_attribute_reference-read_attribute_label-requires
+attribute::read_attribute_reference-read_attribute_label-requires t c = sym c.is_template_at.ensures ∙ c.if-is_template_at.false
 
 pub parameter::read_parameter_in_line-returns-in_err-label : goal.parameter::read_parameter_in_line-returns-in_err-label
 parameter::read_parameter_in_line-returns-in_err-label t c = exit_reads _ c.from_residual.result c.from_residual.ensures.1 (fails_named parameters (fails_front apart_closed (c.in_err-label.ensures templates)))
@@ -150,53 +149,70 @@ parameter::read_parameter_list-turns-smaller t c = let forward = advances labels
 pub parameter::read_parameter_list-returns-in_default : goal.parameter::read_parameter_list-returns-in_default
 parameter::read_parameter_list-returns-in_default t c = spelt_led c.turns.invariant (list_last parameter_reference_tree Empty c.turns.list.items c.push.new.self.items (comma_separates (codes "PARAMETER")) c.in_ok-reference.ensures c.in_ok-push.ensures.items c.in_default.ensures)
 
-pub attribute::read_attribute_clause-returns-in_err-syntax : goal.attribute::read_attribute_clause-returns-in_err-syntax
-attribute::read_attribute_clause-returns-in_err-syntax t c = exit_clause (attribute_slots c.args.draft.now) c.from_residual.result c.from_residual.ensures.1 (fails_clause labels labels_lead is_attribute_clause 0 (attribute_slots c.args.draft.now) (at_one_of (codes "WITH" ∷ codes "DERIVED" ∷ []) true is_attribute_clause ((λ at. refl), ((λ at. refl), tt))) (at_one_of (codes "WITH" ∷ codes "DERIVED" ∷ []) false (opens_but labels 0 (attribute_slots c.args.draft.now)) ((λ at. refl), ((λ at. refl), tt))) (came_not attribute_syntax_tree c.args.draft.now.syntax c.is_none.result c.is_one_of_at.result c.is_none.ensures c.if-has_syntax.true) (sym c.is_one_of_at.ensures ∙ comes_here c.is_none.result c.is_one_of_at.result c.if-has_syntax.true) c.in_err-syntax.ensures)
-
 pub attribute::read_attribute_clause-returns-then-has_syntax : goal.attribute::read_attribute_clause-returns-then-has_syntax
-attribute::read_attribute_clause-returns-then-has_syntax t c = clause_taken labels labels_lead is_attribute_clause 0 (attribute_slots c.args.draft.now) refl (at_one_of (codes "WITH" ∷ codes "DERIVED" ∷ []) true is_attribute_clause ((λ at. refl), ((λ at. refl), tt))) (at_one_of (codes "WITH" ∷ codes "DERIVED" ∷ []) false (opens_but labels 0 (attribute_slots c.args.draft.now)) ((λ at. refl), ((λ at. refl), tt))) (came_not attribute_syntax_tree c.args.draft.now.syntax c.is_none.result c.is_one_of_at.result c.is_none.ensures c.if-has_syntax.true) (sym c.is_one_of_at.ensures ∙ comes_here c.is_none.result c.is_one_of_at.result c.if-has_syntax.true) c.in_ok-syntax.ensures
-
-pub attribute::read_attribute_clause-returns-in_err-rules : goal.attribute::read_attribute_clause-returns-in_err-rules
-attribute::read_attribute_clause-returns-in_err-rules t c = exit_clause (attribute_slots c.args.draft.now) c.from_residual-in_err-rules.result c.from_residual-in_err-rules.ensures.1 (fails_clause labels labels_lead is_attribute_clause 1 (attribute_slots c.args.draft.now) (at_word (codes "MATCHES") true is_attribute_clause (λ at. refl)) (at_word (codes "MATCHES") false (opens_but labels 1 (attribute_slots c.args.draft.now)) (λ at. refl)) (came_not (clause_tree (vector_tree Leaf)) c.args.draft.now.rules c.is_none-2.result c.is_word_at.result c.is_none-2.ensures c.if-has_rules.true) (sym c.is_word_at.ensures ∙ comes_here c.is_none-2.result c.is_word_at.result c.if-has_rules.true) c.in_err-rules.ensures)
+attribute::read_attribute_clause-returns-then-has_syntax t c = clause_kept c.args.tokens.now closed
+    is_attribute_clause 0 (attribute_slots c.args.draft.now) attribute_syntax_tree
+    (λ o. attribute_slots (record c.args.draft.now { syntax = o })) c.args.draft.now.syntax c.keep_clause.new.place
+    c.args.at c.read_attribute_syntax.result c.keep_clause.result (λ x. refl)
+    (λ j a one. clause_taken labels labels_lead is_attribute_clause 0 (attribute_slots c.args.draft.now) refl (at_one_of (codes "WITH" ∷ codes "DERIVED" ∷ []) true is_attribute_clause ((λ at. refl), ((λ at. refl), tt))) (at_one_of (codes "WITH" ∷ codes "DERIVED" ∷ []) false (opens_but labels 0 (attribute_slots c.args.draft.now)) ((λ at. refl), ((λ at. refl), tt))) (came_not attribute_syntax_tree c.args.draft.now.syntax c.is_none.result c.is_one_of_at.result c.is_none.ensures c.if-has_syntax.true) (sym c.is_one_of_at.ensures ∙ comes_here c.is_none.result c.is_one_of_at.result c.if-has_syntax.true) one)
+    (λ e fault. fails_clause labels labels_lead is_attribute_clause 0 (attribute_slots c.args.draft.now) (at_one_of (codes "WITH" ∷ codes "DERIVED" ∷ []) true is_attribute_clause ((λ at. refl), ((λ at. refl), tt))) (at_one_of (codes "WITH" ∷ codes "DERIVED" ∷ []) false (opens_but labels 0 (attribute_slots c.args.draft.now)) ((λ at. refl), ((λ at. refl), tt))) (came_not attribute_syntax_tree c.args.draft.now.syntax c.is_none.result c.is_one_of_at.result c.is_none.ensures c.if-has_syntax.true) (sym c.is_one_of_at.ensures ∙ comes_here c.is_none.result c.is_one_of_at.result c.if-has_syntax.true) fault)
+    c.read_attribute_syntax.ensures c.keep_clause.ensures
 
 pub attribute::read_attribute_clause-returns-then-has_rules : goal.attribute::read_attribute_clause-returns-then-has_rules
-attribute::read_attribute_clause-returns-then-has_rules t c = clause_taken labels labels_lead is_attribute_clause 1 (attribute_slots c.args.draft.now) refl (at_word (codes "MATCHES") true is_attribute_clause (λ at. refl)) (at_word (codes "MATCHES") false (opens_but labels 1 (attribute_slots c.args.draft.now)) (λ at. refl)) (came_not (clause_tree (vector_tree Leaf)) c.args.draft.now.rules c.is_none-2.result c.is_word_at.result c.is_none-2.ensures c.if-has_rules.true) (sym c.is_word_at.ensures ∙ comes_here c.is_none-2.result c.is_word_at.result c.if-has_rules.true) c.in_ok-rules.ensures
-
-pub attribute::read_attribute_clause-returns-in_err-behaviour : goal.attribute::read_attribute_clause-returns-in_err-behaviour
-attribute::read_attribute_clause-returns-in_err-behaviour t c = exit_clause (attribute_slots c.args.draft.now) c.from_residual-in_err-behaviour.result c.from_residual-in_err-behaviour.ensures.1 (fails_clause labels labels_lead is_attribute_clause 2 (attribute_slots c.args.draft.now) (at_word (codes "BEHAVIOUR") true is_attribute_clause (λ at. refl)) (at_word (codes "BEHAVIOUR") false (opens_but labels 2 (attribute_slots c.args.draft.now)) (λ at. refl)) (came_not (clause_tree behaviour_list_tree) c.args.draft.now.behaviour c.is_none-3.result c.is_word_at-2.result c.is_none-3.ensures c.if-has_behaviour.true) (sym c.is_word_at-2.ensures ∙ comes_here c.is_none-3.result c.is_word_at-2.result c.if-has_behaviour.true) c.in_err-behaviour.ensures)
+attribute::read_attribute_clause-returns-then-has_rules t c = word_kept c.args.tokens.now labels labels_lead
+    is_attribute_clause (codes "MATCHES") 1 (attribute_slots c.args.draft.now) _
+    (λ o. attribute_slots (record c.args.draft.now { rules = o })) _ _ c.keep_clause-then-has_rules.new.place
+    c.args.at c.read_rules_clause.result c.keep_clause-then-has_rules.result refl refl (λ at. refl) (λ at. refl)
+    (λ x. refl) c.is_none-2.ensures c.is_word_at.ensures c.if-has_rules.true c.read_rules_clause.ensures
+    c.keep_clause-then-has_rules.ensures
 
 pub attribute::read_attribute_clause-returns-then-has_behaviour : goal.attribute::read_attribute_clause-returns-then-has_behaviour
-attribute::read_attribute_clause-returns-then-has_behaviour t c = clause_taken labels labels_lead is_attribute_clause 2 (attribute_slots c.args.draft.now) refl (at_word (codes "BEHAVIOUR") true is_attribute_clause (λ at. refl)) (at_word (codes "BEHAVIOUR") false (opens_but labels 2 (attribute_slots c.args.draft.now)) (λ at. refl)) (came_not (clause_tree behaviour_list_tree) c.args.draft.now.behaviour c.is_none-3.result c.is_word_at-2.result c.is_none-3.ensures c.if-has_behaviour.true) (sym c.is_word_at-2.ensures ∙ comes_here c.is_none-3.result c.is_word_at-2.result c.if-has_behaviour.true) c.in_ok-behaviour.ensures
-
-pub attribute::read_attribute_clause-returns-in_err-parameters : goal.attribute::read_attribute_clause-returns-in_err-parameters
-attribute::read_attribute_clause-returns-in_err-parameters t c = exit_clause (attribute_slots c.args.draft.now) c.from_residual-in_err-parameters.result c.from_residual-in_err-parameters.ensures.1 (fails_clause labels labels_lead is_attribute_clause 3 (attribute_slots c.args.draft.now) (at_word (codes "PARAMETERS") true is_attribute_clause (λ at. refl)) (at_word (codes "PARAMETERS") false (opens_but labels 3 (attribute_slots c.args.draft.now)) (λ at. refl)) (came_not (clause_tree (vector_tree parameter_reference_tree)) c.args.draft.now.parameters c.is_none-4.result c.is_word_at-3.result c.is_none-4.ensures c.if-has_parameters.true) (sym c.is_word_at-3.ensures ∙ comes_here c.is_none-4.result c.is_word_at-3.result c.if-has_parameters.true) c.in_err-parameters.ensures)
+attribute::read_attribute_clause-returns-then-has_behaviour t c = word_kept c.args.tokens.now labels labels_lead
+    is_attribute_clause (codes "BEHAVIOUR") 2 (attribute_slots c.args.draft.now) _
+    (λ o. attribute_slots (record c.args.draft.now { behaviour = o })) _ _ c.keep_clause-then-has_behaviour.new.place
+    c.args.at c.read_behaviour_clause.result c.keep_clause-then-has_behaviour.result refl refl (λ at. refl)
+    (λ at. refl) (λ x. refl) c.is_none-3.ensures c.is_word_at-2.ensures c.if-has_behaviour.true
+    c.read_behaviour_clause.ensures c.keep_clause-then-has_behaviour.ensures
 
 pub attribute::read_attribute_clause-returns-then-has_parameters : goal.attribute::read_attribute_clause-returns-then-has_parameters
-attribute::read_attribute_clause-returns-then-has_parameters t c = clause_taken labels labels_lead is_attribute_clause 3 (attribute_slots c.args.draft.now) refl (at_word (codes "PARAMETERS") true is_attribute_clause (λ at. refl)) (at_word (codes "PARAMETERS") false (opens_but labels 3 (attribute_slots c.args.draft.now)) (λ at. refl)) (came_not (clause_tree (vector_tree parameter_reference_tree)) c.args.draft.now.parameters c.is_none-4.result c.is_word_at-3.result c.is_none-4.ensures c.if-has_parameters.true) (sym c.is_word_at-3.ensures ∙ comes_here c.is_none-4.result c.is_word_at-3.result c.if-has_parameters.true) c.in_ok-parameters.ensures
+attribute::read_attribute_clause-returns-then-has_parameters t c = word_kept c.args.tokens.now labels labels_lead
+    is_attribute_clause (codes "PARAMETERS") 3 (attribute_slots c.args.draft.now) _
+    (λ o. attribute_slots (record c.args.draft.now { parameters = o })) _ _
+    c.keep_clause-then-has_parameters.new.place c.args.at c.read_parameters_clause.result
+    c.keep_clause-then-has_parameters.result refl refl (λ at. refl) (λ at. refl) (λ x. refl) c.is_none-4.ensures
+    c.is_word_at-3.ensures c.if-has_parameters.true c.read_parameters_clause.ensures
+    c.keep_clause-then-has_parameters.ensures
 
 pub attribute::read_attribute_clause-returns : goal.attribute::read_attribute_clause-returns
-attribute::read_attribute_clause-returns t c = record { same = refl; none = (slot_stops (λ open_now. stops_unless labels labels_lead (is_one_of (codes "WITH" ∷ codes "DERIVED" ∷ [])) attribute_syntax c.args.at c.args.at (omega arith) refl (λ t e. one_of_two (is_word_of (codes "WITH") t) (is_word_of (codes "DERIVED") t) e) (sym c.is_one_of_at.ensures ∙ comes_not attribute_syntax_tree c.args.draft.now.syntax c.is_none.result c.is_one_of_at.result c.is_none.ensures c.if-has_syntax.false open_now)) (slot_stops (λ open_now. stops_unless labels labels_lead (is_word_of (codes "MATCHES")) rules_clause c.args.at c.args.at (omega arith) refl (λ t e. e) (sym c.is_word_at.ensures ∙ comes_not (clause_tree (vector_tree Leaf)) c.args.draft.now.rules c.is_none-2.result c.is_word_at.result c.is_none-2.ensures c.if-has_rules.false open_now)) (slot_stops (λ open_now. stops_unless labels labels_lead (is_word_of (codes "BEHAVIOUR")) behaviour_clause c.args.at c.args.at (omega arith) refl (λ t e. e) (sym c.is_word_at-2.ensures ∙ comes_not (clause_tree behaviour_list_tree) c.args.draft.now.behaviour c.is_none-3.result c.is_word_at-2.result c.is_none-3.ensures c.if-has_behaviour.false open_now)) (slot_stops (λ open_now. stops_unless labels labels_lead (is_word_of (codes "PARAMETERS")) parameters_clause c.args.at c.args.at (omega arith) refl (λ t e. e) (sym c.is_word_at-3.ensures ∙ comes_not (clause_tree (vector_tree parameter_reference_tree)) c.args.draft.now.parameters c.is_none-4.result c.is_word_at-3.result c.is_none-4.ensures c.if-has_parameters.false open_now)) no_slots_stop)))) }
-
-pub parameter::read_parameter_clause-returns-in_err-context : goal.parameter::read_parameter_clause-returns-in_err-context
-parameter::read_parameter_clause-returns-in_err-context t c = exit_clause (parameter_slots c.args.draft.now) c.from_residual.result c.from_residual.ensures.1 (fails_clause labels labels_lead is_parameter_clause 0 (parameter_slots c.args.draft.now) (at_word (codes "CONTEXT") true is_parameter_clause (λ at. refl)) (at_word (codes "CONTEXT") false (opens_but labels 0 (parameter_slots c.args.draft.now)) (λ at. refl)) (came_not (clause_tree context_tree) c.args.draft.now.context c.is_none.result c.is_word_at.result c.is_none.ensures c.if-has_context.true) (sym c.is_word_at.ensures ∙ comes_here c.is_none.result c.is_word_at.result c.if-has_context.true) c.in_err-context.ensures)
+attribute::read_attribute_clause-returns t c = record { same = refl; none = (slot_stops (λ open_now. stops_unless labels labels_lead (is_one_of (codes "WITH" ∷ codes "DERIVED" ∷ [])) attribute_syntax c.args.at c.args.at (omega arith) refl (λ t e. one_of_two (is_word_of (codes "WITH") t) (is_word_of (codes "DERIVED") t) e) (sym c.is_one_of_at.ensures ∙ comes_not attribute_syntax_tree c.args.draft.now.syntax c.is_none.result c.is_one_of_at.result c.is_none.ensures c.if-has_syntax.false open_now)) (slot_not labels labels_lead (codes "MATCHES") _ _ _ refl (λ t e. e) c.is_none-2.ensures c.is_word_at.ensures c.if-has_rules.false (slot_not labels labels_lead (codes "BEHAVIOUR") _ _ _ refl (λ t e. e) c.is_none-3.ensures c.is_word_at-2.ensures c.if-has_behaviour.false (slot_not labels labels_lead (codes "PARAMETERS") _ _ _ refl (λ t e. e) c.is_none-4.ensures c.is_word_at-3.ensures c.if-has_parameters.false no_slots_stop)))) }
 
 pub parameter::read_parameter_clause-returns-then-has_context : goal.parameter::read_parameter_clause-returns-then-has_context
-parameter::read_parameter_clause-returns-then-has_context t c = clause_taken labels labels_lead is_parameter_clause 0 (parameter_slots c.args.draft.now) refl (at_word (codes "CONTEXT") true is_parameter_clause (λ at. refl)) (at_word (codes "CONTEXT") false (opens_but labels 0 (parameter_slots c.args.draft.now)) (λ at. refl)) (came_not (clause_tree context_tree) c.args.draft.now.context c.is_none.result c.is_word_at.result c.is_none.ensures c.if-has_context.true) (sym c.is_word_at.ensures ∙ comes_here c.is_none.result c.is_word_at.result c.if-has_context.true) c.in_ok-context.ensures
-
-pub parameter::read_parameter_clause-returns-in_err-syntax : goal.parameter::read_parameter_clause-returns-in_err-syntax
-parameter::read_parameter_clause-returns-in_err-syntax t c = exit_clause (parameter_slots c.args.draft.now) c.from_residual-in_err-syntax.result c.from_residual-in_err-syntax.ensures.1 (fails_clause labels labels_lead is_parameter_clause 1 (parameter_slots c.args.draft.now) (at_one_of (codes "WITH" ∷ codes "ATTRIBUTE" ∷ []) true is_parameter_clause ((λ at. refl), ((λ at. refl), tt))) (at_one_of (codes "WITH" ∷ codes "ATTRIBUTE" ∷ []) false (opens_but labels 1 (parameter_slots c.args.draft.now)) ((λ at. refl), ((λ at. refl), tt))) (came_not parameter_syntax_tree c.args.draft.now.syntax c.is_none-2.result c.is_one_of_at.result c.is_none-2.ensures c.if-has_syntax.true) (sym c.is_one_of_at.ensures ∙ comes_here c.is_none-2.result c.is_one_of_at.result c.if-has_syntax.true) c.in_err-syntax.ensures)
+parameter::read_parameter_clause-returns-then-has_context t c = word_kept c.args.tokens.now labels labels_lead
+    is_parameter_clause (codes "CONTEXT") 0 (parameter_slots c.args.draft.now) _
+    (λ o. parameter_slots (record c.args.draft.now { context = o })) _ _ c.keep_clause.new.place c.args.at
+    c.read_context_clause.result c.keep_clause.result refl refl (λ at. refl) (λ at. refl) (λ x. refl)
+    c.is_none.ensures c.is_word_at.ensures c.if-has_context.true c.read_context_clause.ensures c.keep_clause.ensures
 
 pub parameter::read_parameter_clause-returns-then-has_syntax : goal.parameter::read_parameter_clause-returns-then-has_syntax
-parameter::read_parameter_clause-returns-then-has_syntax t c = clause_taken labels labels_lead is_parameter_clause 1 (parameter_slots c.args.draft.now) refl (at_one_of (codes "WITH" ∷ codes "ATTRIBUTE" ∷ []) true is_parameter_clause ((λ at. refl), ((λ at. refl), tt))) (at_one_of (codes "WITH" ∷ codes "ATTRIBUTE" ∷ []) false (opens_but labels 1 (parameter_slots c.args.draft.now)) ((λ at. refl), ((λ at. refl), tt))) (came_not parameter_syntax_tree c.args.draft.now.syntax c.is_none-2.result c.is_one_of_at.result c.is_none-2.ensures c.if-has_syntax.true) (sym c.is_one_of_at.ensures ∙ comes_here c.is_none-2.result c.is_one_of_at.result c.if-has_syntax.true) c.in_ok-syntax.ensures
-
-pub parameter::read_parameter_clause-returns-in_err-behaviour : goal.parameter::read_parameter_clause-returns-in_err-behaviour
-parameter::read_parameter_clause-returns-in_err-behaviour t c = exit_clause (parameter_slots c.args.draft.now) c.from_residual-in_err-behaviour.result c.from_residual-in_err-behaviour.ensures.1 (fails_clause labels labels_lead is_parameter_clause 2 (parameter_slots c.args.draft.now) (at_word (codes "BEHAVIOUR") true is_parameter_clause (λ at. refl)) (at_word (codes "BEHAVIOUR") false (opens_but labels 2 (parameter_slots c.args.draft.now)) (λ at. refl)) (came_not (clause_tree behaviour_list_tree) c.args.draft.now.behaviour c.is_none-3.result c.is_word_at-2.result c.is_none-3.ensures c.if-has_behaviour.true) (sym c.is_word_at-2.ensures ∙ comes_here c.is_none-3.result c.is_word_at-2.result c.if-has_behaviour.true) c.in_err-behaviour.ensures)
+parameter::read_parameter_clause-returns-then-has_syntax t c = clause_kept c.args.tokens.now closed
+    is_parameter_clause 1 (parameter_slots c.args.draft.now) parameter_syntax_tree
+    (λ o. parameter_slots (record c.args.draft.now { syntax = o })) c.args.draft.now.syntax
+    c.keep_clause-then-has_syntax.new.place c.args.at c.read_parameter_syntax.result
+    c.keep_clause-then-has_syntax.result (λ x. refl)
+    (λ j a one. clause_taken labels labels_lead is_parameter_clause 1 (parameter_slots c.args.draft.now) refl (at_one_of (codes "WITH" ∷ codes "ATTRIBUTE" ∷ []) true is_parameter_clause ((λ at. refl), ((λ at. refl), tt))) (at_one_of (codes "WITH" ∷ codes "ATTRIBUTE" ∷ []) false (opens_but labels 1 (parameter_slots c.args.draft.now)) ((λ at. refl), ((λ at. refl), tt))) (came_not parameter_syntax_tree c.args.draft.now.syntax c.is_none-2.result c.is_one_of_at.result c.is_none-2.ensures c.if-has_syntax.true) (sym c.is_one_of_at.ensures ∙ comes_here c.is_none-2.result c.is_one_of_at.result c.if-has_syntax.true) one)
+    (λ e fault. fails_clause labels labels_lead is_parameter_clause 1 (parameter_slots c.args.draft.now) (at_one_of (codes "WITH" ∷ codes "ATTRIBUTE" ∷ []) true is_parameter_clause ((λ at. refl), ((λ at. refl), tt))) (at_one_of (codes "WITH" ∷ codes "ATTRIBUTE" ∷ []) false (opens_but labels 1 (parameter_slots c.args.draft.now)) ((λ at. refl), ((λ at. refl), tt))) (came_not parameter_syntax_tree c.args.draft.now.syntax c.is_none-2.result c.is_one_of_at.result c.is_none-2.ensures c.if-has_syntax.true) (sym c.is_one_of_at.ensures ∙ comes_here c.is_none-2.result c.is_one_of_at.result c.if-has_syntax.true) fault)
+    c.read_parameter_syntax.ensures c.keep_clause-then-has_syntax.ensures
 
 pub parameter::read_parameter_clause-returns-then-has_behaviour : goal.parameter::read_parameter_clause-returns-then-has_behaviour
-parameter::read_parameter_clause-returns-then-has_behaviour t c = clause_taken labels labels_lead is_parameter_clause 2 (parameter_slots c.args.draft.now) refl (at_word (codes "BEHAVIOUR") true is_parameter_clause (λ at. refl)) (at_word (codes "BEHAVIOUR") false (opens_but labels 2 (parameter_slots c.args.draft.now)) (λ at. refl)) (came_not (clause_tree behaviour_list_tree) c.args.draft.now.behaviour c.is_none-3.result c.is_word_at-2.result c.is_none-3.ensures c.if-has_behaviour.true) (sym c.is_word_at-2.ensures ∙ comes_here c.is_none-3.result c.is_word_at-2.result c.if-has_behaviour.true) c.in_ok-behaviour.ensures
+parameter::read_parameter_clause-returns-then-has_behaviour t c = word_kept c.args.tokens.now labels labels_lead
+    is_parameter_clause (codes "BEHAVIOUR") 2 (parameter_slots c.args.draft.now) _
+    (λ o. parameter_slots (record c.args.draft.now { behaviour = o })) _ _ c.keep_clause-then-has_behaviour.new.place
+    c.args.at c.read_behaviour_clause.result c.keep_clause-then-has_behaviour.result refl refl (λ at. refl)
+    (λ at. refl) (λ x. refl) c.is_none-3.ensures c.is_word_at-2.ensures c.if-has_behaviour.true
+    c.read_behaviour_clause.ensures c.keep_clause-then-has_behaviour.ensures
 
 pub parameter::read_parameter_clause-returns : goal.parameter::read_parameter_clause-returns
-parameter::read_parameter_clause-returns t c = record { same = refl; none = (slot_stops (λ open_now. stops_unless labels labels_lead (is_word_of (codes "CONTEXT")) (clause (codes "CONTEXT" ∷ []) context) c.args.at c.args.at (omega arith) refl (λ t e. e) (sym c.is_word_at.ensures ∙ comes_not (clause_tree context_tree) c.args.draft.now.context c.is_none.result c.is_word_at.result c.is_none.ensures c.if-has_context.false open_now)) (slot_stops (λ open_now. stops_unless labels labels_lead (is_one_of (codes "WITH" ∷ codes "ATTRIBUTE" ∷ [])) parameter_syntax c.args.at c.args.at (omega arith) refl (λ t e. one_of_two (is_word_of (codes "WITH") t) (is_word_of (codes "ATTRIBUTE") t) e) (sym c.is_one_of_at.ensures ∙ comes_not parameter_syntax_tree c.args.draft.now.syntax c.is_none-2.result c.is_one_of_at.result c.is_none-2.ensures c.if-has_syntax.false open_now)) (slot_stops (λ open_now. stops_unless labels labels_lead (is_word_of (codes "BEHAVIOUR")) behaviour_clause c.args.at c.args.at (omega arith) refl (λ t e. e) (sym c.is_word_at-2.ensures ∙ comes_not (clause_tree behaviour_list_tree) c.args.draft.now.behaviour c.is_none-3.result c.is_word_at-2.result c.is_none-3.ensures c.if-has_behaviour.false open_now)) no_slots_stop))) }
+parameter::read_parameter_clause-returns t c = record { same = refl; none = (slot_not labels labels_lead (codes "CONTEXT") _ _ _ refl (λ t e. e) c.is_none.ensures c.is_word_at.ensures c.if-has_context.false (slot_stops (λ open_now. stops_unless labels labels_lead (is_one_of (codes "WITH" ∷ codes "ATTRIBUTE" ∷ [])) parameter_syntax c.args.at c.args.at (omega arith) refl (λ t e. one_of_two (is_word_of (codes "WITH") t) (is_word_of (codes "ATTRIBUTE") t) e) (sym c.is_one_of_at.ensures ∙ comes_not parameter_syntax_tree c.args.draft.now.syntax c.is_none-2.result c.is_one_of_at.result c.is_none-2.ensures c.if-has_syntax.false open_now)) (slot_not labels labels_lead (codes "BEHAVIOUR") _ _ _ refl (λ t e. e) c.is_none-3.ensures c.is_word_at-2.ensures c.if-has_behaviour.false no_slots_stop))) }
 
 pub attribute::read_attribute_clauses-returns-in_err-behind : goal.attribute::read_attribute_clauses-returns-in_err-behind
 attribute::read_attribute_clauses-returns-in_err-behind t c = exit_reads _ c.from_residual.result c.from_residual.ensures.1 (fails_led c.turns.invariant c.in_err-behind.ensures)

@@ -1,33 +1,45 @@
-use Rattle.std.proofs.Common.{inl, map}
+use Rattle.std.proofs.Common.{map}
 use Rattle.std.proofs.Math.Path.{subst}
 use Rattle.std.specs.Prelude.{string_bytes}
-use Rattle.agent_bytes.specs.Faults.{Rose}
 use Rattle.agent_bytes.specs.Told.{GainsPart}
-use Rattle.agent_run.proofs.Causes.{answered_listed, complete_of, too_large_of, written_listed}
+use Rattle.agent_run.proofs.Causes.{answered_listed, complete_of, file_fault_of, too_large_of, written_listed}
 use Rattle.agent_run.proofs.running.agent.Goals as goal
 
 pub returns-in-Ok-clause-statuses : goal.returns-in-Ok-clause-statuses
-returns-in-Ok-clause-statuses g c = written_listed c.put.result c.put.ensures.status
+returns-in-Ok-clause-statuses g c = written_listed c.put_text.result c.put_text.ensures.status
 
 pub returns-in-Err-clause-statuses : goal.returns-in-Err-clause-statuses
 returns-in-Err-clause-statuses g c = answered_listed c.refuse.result c.in-Err.refusal c.refuse.ensures.status
 
+pub returns-in-Err-clause-file_fault : goal.returns-in-Err-clause-file_fault
+returns-in-Err-clause-file_fault g c =
+    file_fault_of (g.F.Files.files c.args.files.now) (map string_bytes c.args.words.now)
+    (g.F.Files.faults c.args.files.now) (g.F.Files.faults c.prepare.new.files)
+    (g.O.Sink.faults c.args.out.now) (g.O.Sink.faults c.refuse.new.out)
+    (g.O.Sink.contents c.args.out.now) (g.O.Sink.contents c.refuse.new.out) c.refuse.result c.in-Err.refusal
+    c.refuse.ensures.status c.in-Err.ensures.cause c.refuse.ensures.line
+
 pub returns-in-Err-clause-too_large : goal.returns-in-Err-clause-too_large
 returns-in-Err-clause-too_large g c =
-    too_large_of (g.F.Files.files c.args.files.now) (map string_bytes c.args.words.now) (g.F.Files.faults c.args.files.now) (g.F.Files.faults c.prepare.new.files)
+    too_large_of (g.F.Files.files c.args.files.now) (map string_bytes c.args.words.now)
+    (g.F.Files.faults c.args.files.now) (g.F.Files.faults c.prepare.new.files)
+    (g.O.Sink.faults c.args.out.now) (g.O.Sink.faults c.refuse.new.out)
     (g.O.Sink.contents c.args.out.now) (g.O.Sink.contents c.refuse.new.out) c.refuse.result c.in-Err.refusal
     c.refuse.ensures.status c.in-Err.ensures.cause c.refuse.ensures.line
 
 pub returns-in-Err-clause-complete : goal.returns-in-Err-clause-complete
 returns-in-Err-clause-complete g c =
-    complete_of (g.F.Files.files c.args.files.now) (map string_bytes c.args.words.now) (g.F.Files.faults c.args.files.now) (g.F.Files.faults c.prepare.new.files)
-    (Rose (g.O.Sink.faults c.args.out.now) (g.O.Sink.faults c.refuse.new.out)) c.refuse.result c.in-Err.refusal
-    c.refuse.ensures.status c.in-Err.ensures.cause c.refuse.ensures.fault
+    λ run quiet written.
+    complete_of (g.F.Files.files c.args.files.now) (map string_bytes c.args.words.now)
+    (g.F.Files.faults c.args.files.now) (g.F.Files.faults c.prepare.new.files) c.refuse.result c.in-Err.refusal
+    c.refuse.ensures.status c.in-Err.ensures.cause run quiet
 
 pub returns-in-Ok-clause-write_fault : goal.returns-in-Ok-clause-write_fault
 returns-in-Ok-clause-write_fault g c = λ e. record {
-  rose = c.put.ensures.fault e;
+  rose = c.put_text.ensures.fault e;
   text = c.in-Ok.text.items;
-  part = subst (λ text. GainsPart (g.O.Sink.contents c.args.out.now) (g.O.Sink.contents c.put.new.out) text) c.deref.ensures.value (c.put.ensures.part e);
-  of = inl c.in-Ok.ensures.text;
+  part =
+      subst (λ text. GainsPart (g.O.Sink.contents c.args.out.now) (g.O.Sink.contents c.put_text.new.out) text)
+      c.deref.ensures.value (c.put_text.ensures.part e);
+  run = c.in-Ok.ensures.text;
 }

@@ -28,4 +28,6 @@ returns-in_err-document-clause-cause g c =
     let exit = c.from_residual-in_err-document in
     let cause = subst (λ told. HasFileCause told places.document.now most_document between after r) c.read_file.ensures.same c.in_err-document.ensures.cause in
     exit_with (HasCause files words before after) exit.result r exit.ensures.1
-    (document_file files words places.script.now places.document.now before between after r c.in-Some.ensures.found c.read_file.ensures.counted c.read_file-2.ensures.counted cause)
+    (document_file files words places.script.now places.document.now before between after r c.in-Some.ensures.found
+    (record { bytes = c.in_ok-script.script.items; told = c.in_ok-script.ensures.told; small = c.in_ok-script.ensures.within })
+    c.read_file.ensures.counted c.read_file-2.ensures.counted cause)

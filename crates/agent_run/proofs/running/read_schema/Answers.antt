@@ -1,10 +1,7 @@
-use Rattle.std.proofs.Common.{rules, ◌≡◌, List, [], sym, ap, ◌∙◌}
+use Rattle.std.proofs.Common.{rules, [], sym, ◌∙◌}
 use Rattle.std.proofs.Math.Path.{subst}
-use Rattle.text_lex.specs.declared.token.Token.{Token}
 use Rattle.text_lex.proofs.Once.{tokens_once}
-use Rattle.term_model.specs.declared.schema.Set.{Set}
 use Rattle.first_document.specs.FirstDocument.{IsFirstDocument}
-use Rattle.agent_run.specs.Running.{IsDocument}
 use Rattle.agent_run.proofs.running.read_schema.Goals as goal
 
 pub returns-in-Ok-read_document-clause-only : goal.returns-in-Ok-read_document-clause-only

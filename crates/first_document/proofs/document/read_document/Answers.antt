@@ -1,7 +1,7 @@
 -- The records of the parts are those of the document, and its root obeys its template.
-use Rattle.std.proofs.Common.{◌≡◌, sym, subst}
+use Rattle.std.proofs.Common.{◌≡◌, [], sym, subst}
 use Rattle.std.proofs.lemmas.Result.{IfOk-weaker}
-use Rattle.term_model.specs.AgentState.{start}
+use Rattle.term_model.specs.AgentState.{with_opened}
 use Rattle.term_model.specs.declared.schema.Set.{Set}
 use Rattle.term_model.specs.WellFormedMib.{IsWellFormedMib}
 use Rattle.first_document.specs.Contents.{document_contents}
@@ -20,5 +20,5 @@ returns-clause-found c =
 pub returns-clause-opening : goal.returns-clause-opening
 returns-clause-opening c =
     let document = document_contents c.in_ok-parts.parts in
-    IfOk-weaker c.records_of.result (λ schema. IsConsistent document × (schema ≡ records_of document)) (λ schema. IsWellFormedMib schema (start schema).objects)
-    (λ schema h. subst (λ (s : Set). IsWellFormedMib s (start s).objects) (sym h.1) (well_formed document h.0)) c.records_of.ensures.found
+    IfOk-weaker c.records_of.result (λ schema. IsConsistent document × (schema ≡ records_of document)) (λ schema. IsWellFormedMib schema (with_opened [] schema.instances))
+    (λ schema h. subst (λ (s : Set). IsWellFormedMib s (with_opened [] s.instances)) (sym h.1) (well_formed document h.0)) c.records_of.ensures.found

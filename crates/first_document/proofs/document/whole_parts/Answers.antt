@@ -1,6 +1,6 @@
 -- The tokens spell one tree, and a tree has one document's contents.
 use Rattle.std.proofs.Common.{◌≡◌, true, Option, None, Some, length, inl, inr}
-use Rattle.text_lex.specs.declared.token.Token.{Token}
+use Rattle.token_grammar.specs.declared.token.Token.{Token}
 use Rattle.token_grammar.specs.Outcome.{closed}
 use Rattle.token_grammar.specs.Spelling.{passes}
 use Rattle.first_document.specs.DocumentTree.{document_tree}

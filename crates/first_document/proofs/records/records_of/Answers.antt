@@ -1,14 +1,11 @@
 -- What the records say of the parts.
-use Rattle.std.proofs.Common.{◌≡◌, ◌≤◌, ◌∷◌, ◌++◌, [], All, map, sym, ap, ◌∙◌, subst, rules, arith}
+use Rattle.std.proofs.Common.{◌≡◌, ◌≤◌, ◌∷◌, [], All, map, sym, ap, ◌∙◌, subst, rules, arith}
 use Rattle.std.proofs.lemmas.Bool.{false≢true}
 use Rattle.std.proofs.lemmas.List.Elements.{All-head}
-use Rattle.term_model.specs.declared.schema.ClassRec.{ClassRec}
-use Rattle.term_model.specs.declared.schema.Set.{Set}
-use Rattle.term_model.specs.WellFormedMib.{most_object}
 use Rattle.first_document.specs.declared.parts.AttributePart.{AttributePart}
 use Rattle.first_document.specs.Contents.{attribute_contents}
 use Rattle.first_document.specs.FirstDocument.{AreArcs, AreDistinct, HasType}
-use Rattle.first_document.specs.Gathering.{GivesEach, HasArcs, IsGivable, IsIndex, IsKnown, given_texts, part_record, property_under, record_ids, record_labels, size_of, use_labels}
+use Rattle.first_document.specs.Gathering.{GivesEach, HasArcs, IsGivable, IsIndex, IsKnown, given_texts, part_record, property_under, record_ids, record_labels, use_labels}
 use Rattle.first_document.specs.Records.{arcs_of}
 use Rattle.first_document.proofs.Consistency.{all_given, all_givable, all_known, all_registered, all_typed, class_is, class_registered, consistent, gives, ids_differ, index_is, labels_differ, properties_are, records_are, root_is, root_small, schema_is, system_is}
 use Rattle.first_document.proofs.records.records_of.Goals as goal
@@ -48,33 +45,15 @@ returns-in_err-identifiers-clause-outside c =
     (subst (λ l. AreDistinct (parts.class.label.text ∷ parts.class.package.text ∷ record_labels l)) (sym c.deref-4.ensures.value) (labels_differ parts records made consistent))
     (subst (λ l. AreDistinct (id ∷ record_ids l)) (sym c.deref-4.ensures.value) (ids_differ parts records id made class consistent))
 
-pub returns-in_err-properties-clause-outside : goal.returns-in_err-properties-clause-outside
-returns-in_err-properties-clause-outside c =
+pub returns-in_err-instances-clause-outside : goal.returns-in_err-instances-clause-outside
+returns-in_err-instances-clause-outside c =
     λ e consistent.
     let parts = c.args.parts.now in
     let records = c.in_ok-attributes.attributes.items in
     let made : records ≡ map part_record parts.attributes.items = c.in_ok-attributes.ensures.found ∙ ap (map part_record) c.deref-2.ensures.value in
     let identifiers = c.in_ok-identifiers.identifiers in
     let index = index_is parts identifiers records made (subst (IsIndex identifiers) c.deref-4.ensures.value c.in_ok-identifiers.ensures.found) in
-    c.in_err-properties.ensures.outside (first_of (search rules, grind arith))
-    (subst (All (IsKnown identifiers)) (sym c.deref-5.ensures.value) (all_known parts identifiers index consistent))
-
-pub returns-in_err-check_given-clause-outside : goal.returns-in_err-check_given-clause-outside
-returns-in_err-check_given-clause-outside c =
-    λ e consistent.
-    let parts = c.args.parts.now in
-    c.in_err-check_given.ensures.outside (first_of (search rules, grind arith)) (use_labels c.deref-6.result.now) c.in_ok-labels.ensures.found
-    (subst (λ l. GivesEach (use_labels l) (given_texts (all_given parts))) (sym c.deref-6.ensures.value) (gives parts consistent))
-
-pub returns-in_err-root-clause-outside : goal.returns-in_err-root-clause-outside
-returns-in_err-root-clause-outside c =
-    λ e consistent.
-    let parts = c.args.parts.now in
-    let records = c.in_ok-attributes.attributes.items in
-    let made : records ≡ map part_record parts.attributes.items = c.in_ok-attributes.ensures.found ∙ ap (map part_record) c.deref-2.ensures.value in
-    let identifiers = c.in_ok-identifiers.identifiers in
-    let index = index_is parts identifiers records made (subst (IsIndex identifiers) c.deref-4.ensures.value c.in_ok-identifiers.ensures.found) in
-    c.in_err-root.ensures.outside (first_of (search rules, grind arith)) (all_givable parts identifiers index consistent) (root_small parts identifiers index consistent)
+    c.in_err-instances.ensures.outside (first_of (search rules, grind arith)) (all_givable parts identifiers index consistent) (root_small parts records identifiers made index consistent)
 
 pub returns-in_err-system-clause-outside : goal.returns-in_err-system-clause-outside
 returns-in_err-system-clause-outside c =
@@ -86,6 +65,19 @@ returns-in_err-system-clause-outside c =
     let index = index_is parts identifiers records made (subst (IsIndex identifiers) c.deref-4.ensures.value c.in_ok-identifiers.ensures.found) in
     c.in_err-system.ensures.outside (first_of (search rules, grind arith))
     (All-head (IsGivable identifiers) parts.root.named_by parts.root.others.items (all_givable parts identifiers index consistent))
+
+pub returns-in_err-classes-clause-outside : goal.returns-in_err-classes-clause-outside
+returns-in_err-classes-clause-outside c =
+    λ e consistent.
+    let parts = c.args.parts.now in
+    let records = c.in_ok-attributes.attributes.items in
+    let made : records ≡ map part_record parts.attributes.items = c.in_ok-attributes.ensures.found ∙ ap (map part_record) c.deref-2.ensures.value in
+    let identifiers = c.in_ok-identifiers.identifiers in
+    let index = index_is parts identifiers records made (subst (IsIndex identifiers) c.deref-4.ensures.value c.in_ok-identifiers.ensures.found) in
+    c.in_err-classes.ensures.outside (first_of (search rules, grind arith))
+    (subst (All (IsKnown identifiers)) (sym c.deref-5.ensures.value) (all_known parts identifiers index consistent))
+    (subst (λ l. AreDistinct (use_labels l)) (sym c.deref-5.ensures.value) consistent.used_once)
+    (subst (λ l. GivesEach (use_labels l) (given_texts (all_given parts))) (sym c.deref-5.ensures.value) (gives parts consistent))
 
 pub returns-clause-found : goal.returns-clause-found
 returns-clause-found c =
@@ -102,22 +94,19 @@ returns-clause-found c =
     let class_arcs = subst AreArcs c.deref-3.ensures.value c.in_ok-id.ensures.found.0 in
     let labels = subst (λ l. AreDistinct (parts.class.label.text ∷ parts.class.package.text ∷ record_labels l)) c.deref-4.ensures.value c.in_ok-identifiers.ensures.labels in
     let ids = subst (λ l. AreDistinct (id ∷ record_ids l)) c.deref-4.ensures.value c.in_ok-identifiers.ensures.identifiers in
-    let known = subst (All (IsKnown identifiers)) c.deref-5.ensures.value c.in_ok-properties.ensures.known in
-    let used = subst (λ l. AreDistinct (use_labels l)) c.deref-6.ensures.value c.in_ok-labels.ensures.distinct in
-    let given =
-    subst (λ l. GivesEach (use_labels l) (given_texts (all_given parts))) c.deref-6.ensures.value
-    (c.in_ok-check_given.ensures.found (use_labels c.deref-6.result.now) c.in_ok-labels.ensures.found) in
-    let root = c.in_ok-root.ensures in
-    let small = subst (λ l. size_of l ≤ most_object) root.given root.small in
-    let class : ClassRec = record { id = id; label = c.in_ok-label.label; properties = c.in_ok-properties.properties } in
-    let properties = c.in_ok-properties.ensures.found ∙ ap (map (property_under identifiers)) c.deref-5.ensures.value ∙ properties_are parts identifiers index in
-    let classes =
-    c.in_ok-push.ensures.items ∙ ap (λ l. l ++ class ∷ []) c.new-classes.ensures.items
-    ∙ ap (λ x. x ∷ []) (class_is parts class class_id c.in_ok-label.ensures properties) in
-    let instances =
-    c.in_ok-push-2.ensures.items ∙ ap (λ l. l ++ c.in_ok-root.root ∷ []) c.new-instances.ensures.items
-    ∙ ap (λ x. x ∷ []) (root_is parts identifiers index c.in_ok-root.root (root.class ∙ class_id) root.name root.given) in
-    let schema : Set = record { classes = c.push.new.self.items; attributes = records; instances = c.push-2.new.self.items; system = c.in_ok-system.system } in (
-      consistent parts records id identifiers made class_id index types named arcs class_arcs labels ids known used given root.givable small,
-      schema_is parts schema classes (made ∙ records_are parts) instances (system_is parts identifiers index c.in_ok-system.system c.in_ok-system.ensures.found),
+    let root = c.in_ok-instances.ensures in
+    let class = c.in_ok-classes.ensures in
+    let uses = c.deref-5.ensures.value in
+    let known = subst (All (IsKnown identifiers)) uses class.known in
+    let used = subst (λ l. AreDistinct (use_labels l)) uses class.once in
+    let given = subst (λ l. GivesEach (use_labels l) (given_texts (all_given parts))) uses class.gives in
+    let properties = ap (map (property_under identifiers)) uses ∙ properties_are parts identifiers index in
+    let uses_now = map (property_under identifiers) c.deref-5.result.now in
+    let classes = class.found ∙ ap (λ x. x ∷ []) (class_is parts id uses_now class_id properties) in
+    let instances = root.found ∙ ap (λ x. x ∷ []) (root_is parts identifiers index id class_id) in
+    let system = c.in_ok-system.system in
+    let schema = schema_is parts c.in_ok-classes.classes records c.in_ok-instances.instances system classes
+    (made ∙ records_are parts) instances (system_is parts identifiers index system c.in_ok-system.ensures.found) in (
+      consistent parts records id identifiers made class_id index types named arcs class_arcs labels ids known used given root.givable root.small,
+      c.schema_of.ensures ∙ schema,
     )

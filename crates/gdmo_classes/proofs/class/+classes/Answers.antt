@@ -16,6 +16,7 @@ use Rattle.gdmo_members.proofs.FirstTokens.{labels, labels_lead}
 use Rattle.gdmo_members.specs.Clauses.{classes, comma}
 use Rattle.gdmo_members.specs.Templates.{templates}
 use Rattle.token_grammar.specs.Parts.{vector_tree}
+use Rattle.token_grammar.proofs.ByWord.{word_kept, clause_kept, slot_not}
 use Rattle.gdmo_members.specs.Trees.{clause_tree}
 use Rattle.gdmo_classes.proofs.PartEnds.{class_apart}
 use Rattle.gdmo_classes.specs.ClassTrees.{class_reference_tree, class_slots, is_class_clause}
@@ -81,26 +82,33 @@ read_superclasses_clause-returns t c = (spelt_then (c.in_ok-next.ensures templat
 pub read_superclasses_clause-read_class_list-requires : goal.read_superclasses_clause-read_class_list-requires
 read_superclasses_clause-read_class_list-requires t c = let one = advances labels labels_lead refl (c.in_ok-next.ensures templates).spelt in let within = spelt_within labels labels_lead refl (c.in_ok-next.ensures templates) in (omega arith, tt)
 
-pub read_class_clause-returns-in_err-superclasses : goal.read_class_clause-returns-in_err-superclasses
-read_class_clause-returns-in_err-superclasses t c = exit_clause (class_slots c.args.clauses.now) c.from_residual.result c.from_residual.ensures.1 (fails_clause labels labels_lead is_class_clause 0 (class_slots c.args.clauses.now) (at_word (codes "DERIVED") true is_class_clause (λ at. refl)) (at_word (codes "DERIVED") false (opens_but labels 0 (class_slots c.args.clauses.now)) (λ at. refl)) (came_not (clause_tree (vector_tree class_reference_tree)) c.args.clauses.now.superclasses c.is_none.result c.is_word_at.result c.is_none.ensures c.if-has_superclasses.true) (sym c.is_word_at.ensures ∙ comes_here c.is_none.result c.is_word_at.result c.if-has_superclasses.true) c.in_err-superclasses.ensures)
-
 pub read_class_clause-returns-then-has_superclasses : goal.read_class_clause-returns-then-has_superclasses
-read_class_clause-returns-then-has_superclasses t c = clause_taken labels labels_lead is_class_clause 0 (class_slots c.args.clauses.now) refl (at_word (codes "DERIVED") true is_class_clause (λ at. refl)) (at_word (codes "DERIVED") false (opens_but labels 0 (class_slots c.args.clauses.now)) (λ at. refl)) (came_not (clause_tree (vector_tree class_reference_tree)) c.args.clauses.now.superclasses c.is_none.result c.is_word_at.result c.is_none.ensures c.if-has_superclasses.true) (sym c.is_word_at.ensures ∙ comes_here c.is_none.result c.is_word_at.result c.if-has_superclasses.true) c.in_ok-superclasses.ensures
-
-pub read_class_clause-returns-in_err-packages : goal.read_class_clause-returns-in_err-packages
-read_class_clause-returns-in_err-packages t c = exit_clause (class_slots c.args.clauses.now) c.from_residual-in_err-packages.result c.from_residual-in_err-packages.ensures.1 (fails_clause labels labels_lead is_class_clause 1 (class_slots c.args.clauses.now) (at_word (codes "CHARACTERIZED") true is_class_clause (λ at. refl)) (at_word (codes "CHARACTERIZED") false (opens_but labels 1 (class_slots c.args.clauses.now)) (λ at. refl)) (came_not (clause_tree (vector_tree package_reference_tree)) c.args.clauses.now.packages c.is_none-2.result c.is_word_at-2.result c.is_none-2.ensures c.if-has_packages.true) (sym c.is_word_at-2.ensures ∙ comes_here c.is_none-2.result c.is_word_at-2.result c.if-has_packages.true) c.in_err-packages.ensures)
+read_class_clause-returns-then-has_superclasses t c = word_kept c.args.tokens.now labels labels_lead is_class_clause
+    (codes "DERIVED") 0 (class_slots c.args.clauses.now) _
+    (λ o. class_slots (record c.args.clauses.now { superclasses = o })) _ _ c.keep_clause.new.place c.args.at
+    c.read_superclasses_clause.result c.keep_clause.result refl refl (λ at. refl) (λ at. refl) (λ x. refl)
+    c.is_none.ensures c.is_word_at.ensures c.if-has_superclasses.true c.read_superclasses_clause.ensures
+    c.keep_clause.ensures
 
 pub read_class_clause-returns-then-has_packages : goal.read_class_clause-returns-then-has_packages
-read_class_clause-returns-then-has_packages t c = clause_taken labels labels_lead is_class_clause 1 (class_slots c.args.clauses.now) refl (at_word (codes "CHARACTERIZED") true is_class_clause (λ at. refl)) (at_word (codes "CHARACTERIZED") false (opens_but labels 1 (class_slots c.args.clauses.now)) (λ at. refl)) (came_not (clause_tree (vector_tree package_reference_tree)) c.args.clauses.now.packages c.is_none-2.result c.is_word_at-2.result c.is_none-2.ensures c.if-has_packages.true) (sym c.is_word_at-2.ensures ∙ comes_here c.is_none-2.result c.is_word_at-2.result c.if-has_packages.true) c.in_ok-packages.ensures
-
-pub read_class_clause-returns-in_err-conditional : goal.read_class_clause-returns-in_err-conditional
-read_class_clause-returns-in_err-conditional t c = exit_clause (class_slots c.args.clauses.now) c.from_residual-in_err-conditional.result c.from_residual-in_err-conditional.ensures.1 (fails_clause labels labels_lead is_class_clause 2 (class_slots c.args.clauses.now) (at_word (codes "CONDITIONAL") true is_class_clause (λ at. refl)) (at_word (codes "CONDITIONAL") false (opens_but labels 2 (class_slots c.args.clauses.now)) (λ at. refl)) (came_not (clause_tree (vector_tree conditional_tree)) c.args.clauses.now.conditional c.is_none-3.result c.is_word_at-3.result c.is_none-3.ensures c.if-has_conditional.true) (sym c.is_word_at-3.ensures ∙ comes_here c.is_none-3.result c.is_word_at-3.result c.if-has_conditional.true) c.in_err-conditional.ensures)
+read_class_clause-returns-then-has_packages t c = word_kept c.args.tokens.now labels labels_lead is_class_clause
+    (codes "CHARACTERIZED") 1 (class_slots c.args.clauses.now) _
+    (λ o. class_slots (record c.args.clauses.now { packages = o })) _ _ c.keep_clause-then-has_packages.new.place
+    c.args.at c.read_packages_clause.result c.keep_clause-then-has_packages.result refl refl (λ at. refl) (λ at. refl)
+    (λ x. refl) c.is_none-2.ensures c.is_word_at-2.ensures c.if-has_packages.true c.read_packages_clause.ensures
+    c.keep_clause-then-has_packages.ensures
 
 pub read_class_clause-returns-then-has_conditional : goal.read_class_clause-returns-then-has_conditional
-read_class_clause-returns-then-has_conditional t c = clause_taken labels labels_lead is_class_clause 2 (class_slots c.args.clauses.now) refl (at_word (codes "CONDITIONAL") true is_class_clause (λ at. refl)) (at_word (codes "CONDITIONAL") false (opens_but labels 2 (class_slots c.args.clauses.now)) (λ at. refl)) (came_not (clause_tree (vector_tree conditional_tree)) c.args.clauses.now.conditional c.is_none-3.result c.is_word_at-3.result c.is_none-3.ensures c.if-has_conditional.true) (sym c.is_word_at-3.ensures ∙ comes_here c.is_none-3.result c.is_word_at-3.result c.if-has_conditional.true) c.in_ok-conditional.ensures
+read_class_clause-returns-then-has_conditional t c = word_kept c.args.tokens.now labels labels_lead is_class_clause
+    (codes "CONDITIONAL") 2 (class_slots c.args.clauses.now) _
+    (λ o. class_slots (record c.args.clauses.now { conditional = o })) _ _
+    c.keep_clause-then-has_conditional.new.place c.args.at c.read_conditional_clause.result
+    c.keep_clause-then-has_conditional.result refl refl (λ at. refl) (λ at. refl) (λ x. refl) c.is_none-3.ensures
+    c.is_word_at-3.ensures c.if-has_conditional.true c.read_conditional_clause.ensures
+    c.keep_clause-then-has_conditional.ensures
 
 pub read_class_clause-returns : goal.read_class_clause-returns
-read_class_clause-returns t c = record { same = refl; none = (slot_stops (λ open_now. stops_unless labels labels_lead (is_word_of (codes "DERIVED")) superclasses_clause c.args.at c.args.at (omega arith) refl (λ t e. e) (sym c.is_word_at.ensures ∙ comes_not (clause_tree (vector_tree class_reference_tree)) c.args.clauses.now.superclasses c.is_none.result c.is_word_at.result c.is_none.ensures c.if-has_superclasses.false open_now)) (slot_stops (λ open_now. stops_unless labels labels_lead (is_word_of (codes "CHARACTERIZED")) packages_clause c.args.at c.args.at (omega arith) refl (λ t e. e) (sym c.is_word_at-2.ensures ∙ comes_not (clause_tree (vector_tree package_reference_tree)) c.args.clauses.now.packages c.is_none-2.result c.is_word_at-2.result c.is_none-2.ensures c.if-has_packages.false open_now)) (slot_stops (λ open_now. stops_unless labels labels_lead (is_word_of (codes "CONDITIONAL")) conditional_clause c.args.at c.args.at (omega arith) refl (λ t e. e) (sym c.is_word_at-3.ensures ∙ comes_not (clause_tree (vector_tree conditional_tree)) c.args.clauses.now.conditional c.is_none-3.result c.is_word_at-3.result c.is_none-3.ensures c.if-has_conditional.false open_now)) no_slots_stop))) }
+read_class_clause-returns t c = record { same = refl; none = (slot_not labels labels_lead (codes "DERIVED") _ _ _ refl (λ t e. e) c.is_none.ensures c.is_word_at.ensures c.if-has_superclasses.false (slot_not labels labels_lead (codes "CHARACTERIZED") _ _ _ refl (λ t e. e) c.is_none-2.ensures c.is_word_at-2.ensures c.if-has_packages.false (slot_not labels labels_lead (codes "CONDITIONAL") _ _ _ refl (λ t e. e) c.is_none-3.ensures c.is_word_at-3.ensures c.if-has_conditional.false no_slots_stop))) }
 
 pub read_class_clauses-returns-in_err-behind : goal.read_class_clauses-returns-in_err-behind
 read_class_clauses-returns-in_err-behind t c = exit_reads _ c.from_residual.result c.from_residual.ensures.1 (fails_led c.turns.invariant c.in_err-behind.ensures)

@@ -1,7 +1,7 @@
 -- The modifiers and the parameters.
 use Rattle.token_grammar.proofs.Sequences.{spelt_on, fails_on}
 use Rattle.token_grammar.proofs.Exits.{exit_reads}
-use Rattle.gdmo_classes.proofs.OpenParts.{spelt_then_on, fails_front_on, fails_rest_on}
+use Rattle.token_grammar.proofs.OpenParts.{spelt_then_on, fails_front_on, fails_rest_on}
 use Rattle.gdmo_classes.proofs.PartEnds.{part_wider, modifiers_meet}
 use Rattle.gdmo_classes.proofs.creation.read_deletion.Goals as goal
 

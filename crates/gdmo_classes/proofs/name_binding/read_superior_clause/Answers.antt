@@ -1,5 +1,6 @@
 -- The keywords, the class and the semicolon.
 use Rattle.token_grammar.proofs.Sequences.{apart_closed, spelt_then, fails_front, fails_rest}
+use Rattle.token_grammar.proofs.Endings.{clause_ends}
 use Rattle.token_grammar.proofs.Exits.{exit_reads}
 use Rattle.gdmo_members.specs.Templates.{templates}
 use Rattle.gdmo_classes.proofs.PartEnds.{part_end_apart}
@@ -8,11 +9,6 @@ use Rattle.gdmo_classes.proofs.name_binding.read_superior_clause.Goals as goal
 pub returns-in_err-next : goal.returns-in_err-next
 returns-in_err-next c = exit_reads _ c.from_residual.result c.from_residual.ensures.1 (fails_front apart_closed (c.in_err-next.ensures templates))
 
-pub returns-in_err-scope : goal.returns-in_err-scope
-returns-in_err-scope c = exit_reads _ c.from_residual-in_err-scope.result c.from_residual-in_err-scope.ensures.1 (fails_rest (c.in_ok-next.ensures templates) apart_closed (fails_front part_end_apart c.in_err-scope.ensures))
-
-pub returns-in_err-next-2 : goal.returns-in_err-next-2
-returns-in_err-next-2 c = exit_reads _ c.from_residual-in_err-next-2.result c.from_residual-in_err-next-2.ensures.1 (fails_rest (c.in_ok-next.ensures templates) apart_closed (fails_rest c.in_ok-scope.ensures part_end_apart (c.in_err-next-2.ensures templates)))
-
 pub returns : goal.returns
-returns c = (spelt_then (c.in_ok-next.ensures templates) apart_closed (spelt_then c.in_ok-scope.ensures part_end_apart (c.in_ok-next-2.ensures templates)))
+returns c = clause_ends c.args.tokens.now _ _ c.read_class_scope.result c.end_clause.result
+    (c.in_ok-next.ensures templates) part_end_apart c.read_class_scope.ensures c.end_clause.ensures

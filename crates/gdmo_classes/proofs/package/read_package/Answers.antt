@@ -1,7 +1,11 @@
 -- The label, the keyword, the clauses and the end.
 use Rattle.token_grammar.proofs.Sequences.{apart_closed, spelt_then, spelt_named, fails_front, fails_rest, fails_named}
+use Rattle.token_grammar.proofs.Endings.{beside_reads}
+use Rattle.token_grammar.specs.Outcome.{closed}
 use Rattle.token_grammar.proofs.Exits.{exit_reads}
-use Rattle.gdmo_members.specs.Clauses.{packages}
+use Rattle.gdmo_members.specs.Clauses.{packages, ending}
+use Rattle.gdmo_members.specs.Trees.{ending_tree}
+use Rattle.gdmo_classes.specs.PackageTrees.{package_clauses_tree}
 use Rattle.gdmo_members.specs.Templates.{templates}
 use Rattle.gdmo_classes.proofs.PartEnds.{package_apart}
 use Rattle.gdmo_classes.proofs.package.read_package.Goals as goal
@@ -15,8 +19,15 @@ returns-in_err-next c = exit_reads _ c.from_residual-in_err-next.result c.from_r
 pub returns-in_err-clauses : goal.returns-in_err-clauses
 returns-in_err-clauses c = exit_reads _ c.from_residual-in_err-clauses.result c.from_residual-in_err-clauses.ensures.1 (fails_named packages (fails_rest (c.in_ok-label.ensures templates) apart_closed (fails_rest (c.in_ok-next.ensures templates) apart_closed (fails_front package_apart c.in_err-clauses.ensures))))
 
-pub returns-in_err-registration : goal.returns-in_err-registration
-returns-in_err-registration c = exit_reads _ c.from_residual-in_err-registration.result c.from_residual-in_err-registration.ensures.1 (fails_named packages (fails_rest (c.in_ok-label.ensures templates) apart_closed (fails_rest (c.in_ok-next.ensures templates) apart_closed (fails_rest c.in_ok-clauses.ensures package_apart c.in_err-registration.ensures))))
+pub returns-in_err-parts : goal.returns-in_err-parts
+returns-in_err-parts c = exit_reads _ c.from_residual-in_err-parts.result c.from_residual-in_err-parts.ensures.1
+    (fails_named packages (fails_rest (c.in_ok-label.ensures templates) apart_closed
+    (fails_rest (c.in_ok-next.ensures templates) apart_closed (beside_reads c.args.tokens.now closed ending
+    package_clauses_tree ending_tree _ c.read_ending.result _ c.in_ok-clauses.ensures package_apart
+    c.read_ending.ensures c.in_err-parts.ensures))))
 
 pub returns : goal.returns
-returns c = spelt_named packages (spelt_then (c.in_ok-label.ensures templates) apart_closed (spelt_then (c.in_ok-next.ensures templates) apart_closed (spelt_then c.in_ok-clauses.ensures package_apart c.in_ok-registration.ensures)))
+returns c = spelt_named packages (spelt_then (c.in_ok-label.ensures templates) apart_closed
+    (spelt_then (c.in_ok-next.ensures templates) apart_closed (beside_reads c.args.tokens.now closed ending
+    package_clauses_tree ending_tree _ c.read_ending.result _ c.in_ok-clauses.ensures package_apart
+    c.read_ending.ensures c.in_ok-parts.ensures)))

@@ -2,6 +2,7 @@
 use Rattle.std.proofs.Common.{refl, arith, codes}
 use Rattle.token_grammar.proofs.Sequences.{fails_by}
 use Rattle.token_grammar.proofs.Heads.{advances}
+use Rattle.token_grammar.proofs.Endings.{part_kept, part_fails}
 use Rattle.token_grammar.proofs.Exits.{exit_reads}
 use Rattle.token_grammar.proofs.Turns.{spelt_led, fault_led, list_fault}
 use Rattle.token_grammar.specs.Form.{Empty}
@@ -15,14 +16,29 @@ use Rattle.gdmo_members.proofs.notification.read_field_list.Goals as goal
 pub turns-init : goal.turns-init
 turns-init c = list_start field_tree c.new-list.result.items c.new-list.ensures.items
 
-pub returns-in_err-field : goal.returns-in_err-field
-returns-in_err-field c = exit_reads _ c.from_residual.result c.from_residual.ensures.1 (fails_by (λ k r. fault_led c.turns.invariant (list_fault (comma_separates (codes "ATTRIBUTE")) r)) c.in_err-field.ensures)
+pub returns-in_err-behind : goal.returns-in_err-behind
+returns-in_err-behind c = exit_reads _ c.from_residual.result c.from_residual.ensures.1
+    (fails_by (λ k r. fault_led c.turns.invariant (list_fault (comma_separates (codes "ATTRIBUTE")) r))
+    (part_fails c.args.tokens.now _ _ _ c.turns.next c.read_field.result c.turns.list.items c.keep_part.new.list.items
+    _ c.read_field.ensures c.in_err-behind.ensures))
 
 pub turns-preserved : goal.turns-preserved
-turns-preserved c = list_push field_tree Empty c.turns.list.items c.push.new.self.items (comma_separates (codes "ATTRIBUTE")) c.turns.invariant c.in_ok-field.ensures c.in_ok-push.ensures.items (record { passed = c.in-Some.ensures.0 }) c.in-Some.ensures.1
+turns-preserved c =
+    let one = part_kept c.args.tokens.now _ _ _ c.turns.next c.read_field.result c.turns.list.items
+    c.keep_part.new.list.items _ c.read_field.ensures c.in_ok-behind.ensures in
+    list_push field_tree Empty c.turns.list.items c.keep_part.new.list.items (comma_separates (codes "ATTRIBUTE"))
+    c.turns.invariant one.spelt one.items (record { passed = c.in-Some.ensures.0 }) c.in-Some.ensures.1
 
 pub turns-smaller : goal.turns-smaller
-turns-smaller c = let forward = advances labels labels_lead refl c.in_ok-field.ensures.spelt in let within = at_within c.args.tokens.now c.in_ok-field.behind comma c.in-Some.ensures.0 in let next = c.in-Some.ensures.1 in omega arith
+turns-smaller c =
+    let one = part_kept c.args.tokens.now _ _ _ c.turns.next c.read_field.result c.turns.list.items
+    c.keep_part.new.list.items _ c.read_field.ensures c.in_ok-behind.ensures in
+    let forward = advances labels labels_lead refl one.spelt.spelt in let within = at_within c.args.tokens.now _ comma
+    c.in-Some.ensures.0 in let next = c.in-Some.ensures.1 in omega arith
 
 pub returns-in_default : goal.returns-in_default
-returns-in_default c = spelt_led c.turns.invariant (list_last field_tree Empty c.turns.list.items c.push.new.self.items (comma_separates (codes "ATTRIBUTE")) c.in_ok-field.ensures c.in_ok-push.ensures.items c.in_default.ensures)
+returns-in_default c =
+    let one = part_kept c.args.tokens.now _ _ _ c.turns.next c.read_field.result c.turns.list.items
+    c.keep_part.new.list.items _ c.read_field.ensures c.in_ok-behind.ensures in
+    spelt_led c.turns.invariant (list_last field_tree Empty c.turns.list.items c.keep_part.new.list.items
+    (comma_separates (codes "ATTRIBUTE")) one.spelt one.items c.in_default.ensures)

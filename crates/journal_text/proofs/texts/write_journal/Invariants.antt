@@ -5,4 +5,4 @@ use Rattle.journal_text.proofs.texts.write_journal.Given as goal
 
 -- the lines of the entries so far were appended
 abbrev pub invariant-loop-entry : goal.invariant-loop-entry
-invariant-loop-entry l = l.into.items ≡ l.fn.into.items ++ flat_map line (take l.entry-index l.entry-items)
+invariant-loop-entry l = l.into.items ≡ l.fn.into.items ++ flat_map line (take l.entry-index l.journal)

@@ -2,4 +2,4 @@ use Rattle.term_model.proofs.HistoryLaws.{out_begins}
 use Rattle.term_model.proofs.laws.placed_stays.Goals as goal
 
 pub returns : goal.returns
-returns c = λ schema number xs ys. let b = out_begins schema number xs ys in (b.rest, b.whole)
+returns c = λ schema limits number xs ys. let b = out_begins schema limits number xs ys in (b.rest, b.whole)

@@ -1,0 +1,143 @@
+//! Runs of the agent on files in memory. An answer is the status, how many calls of the files and of the output failed,
+//! and what was written.
+
+use crate::stand_ins::CommandLine;
+use crate::stored_files::StoredFiles;
+use crate::texts::{first_number, first_word, show_quoted, text_of};
+use agent_bytes::{MemFiles, MemSink, RealFiles};
+use agent_run::{agent, command_words};
+use std::alloc::{AllocError, Global};
+
+/// Room in a sink for all that a row writes.
+const ROOM: usize = 4096;
+
+/// The most octets that a sink with faults takes in a call.
+const TURN: usize = 100;
+
+/// The words of a run of the files `script` and `document`.
+const WORDS: &str = "run script document";
+
+/// The words of a line.
+fn words_of(alloc: Global, line: &str) -> Result<Vec<String>, AllocError> {
+    let mut words = Vec::new(alloc);
+    for word in line.split_whitespace() {
+        words.push(String::from_str(alloc, word)?)?;
+    }
+    Ok(words)
+}
+
+/// Appends the status, the counts of faults and what was written.
+fn show_end(
+    status: u8,
+    file_faults: u64,
+    out: &MemSink,
+    answer: &mut String,
+) -> Result<(), AllocError> {
+    let out_faults = out.faults();
+    write!(answer, "{status} {file_faults} {out_faults} ")?;
+    show_quoted(out.written(), answer)
+}
+
+/// Appends what a run with these words on files in memory comes to.
+fn show_words_run(
+    rt: &HostRuntime,
+    words: &[String],
+    files: &mut MemFiles,
+    out: &mut MemSink,
+    answer: &mut String,
+) -> Result<(), AllocError> {
+    let status = agent(rt, words, files, out);
+    show_end(status, files.faults(), out, answer)
+}
+
+/// Appends what a run with the words of a line on files in memory comes to.
+fn show_memory_run(
+    rt: &HostRuntime,
+    line: &str,
+    files: &mut MemFiles,
+    out: &mut MemSink,
+    answer: &mut String,
+) -> Result<(), AllocError> {
+    let words = words_of(rt.alloc(), line)?;
+    show_words_run(rt, &words, files, out, answer)
+}
+
+/// `command NAME WORD..`: a run on the table's files with a command line, of which the first word is the program's
+/// name.
+pub(crate) fn show_command(
+    rt: &HostRuntime,
+    files: &StoredFiles,
+    line: &str,
+    answer: &mut String,
+) -> Result<(), AllocError> {
+    let alloc = rt.alloc();
+    let words = command_words(&(CommandLine { line }, alloc))?;
+    let mut files = files.in_memory(alloc, Vec::new(alloc))?;
+    let mut out = MemSink::new(alloc, ROOM, Vec::new(alloc))?;
+    show_words_run(rt, &words, &mut files, &mut out, answer)
+}
+
+/// `agent WORD..`: a run on the table's files.
+pub(crate) fn show_run(
+    rt: &HostRuntime,
+    files: &StoredFiles,
+    line: &str,
+    answer: &mut String,
+) -> Result<(), AllocError> {
+    let alloc = rt.alloc();
+    let mut files = files.in_memory(alloc, Vec::new(alloc))?;
+    let mut out = MemSink::new(alloc, ROOM, Vec::new(alloc))?;
+    show_memory_run(rt, line, &mut files, &mut out, answer)
+}
+
+/// `change NAME OLD→NEW`: a run of the files `script` and `document` with a piece of one of them replaced.
+pub(crate) fn show_changed_run(
+    rt: &HostRuntime,
+    files: &StoredFiles,
+    row: &str,
+    answer: &mut String,
+) -> Result<(), AllocError> {
+    let alloc = rt.alloc();
+    let (name, change) = first_word(row);
+    let change = text_of(alloc, change)?;
+    let (old, new) = match change.as_str().split_once('→') {
+        Some(parts) => parts,
+        None => return answer.push_str("no change"),
+    };
+    if files.text(name).find(old).is_none() {
+        return answer.push_str("no such piece");
+    }
+    let mut files = files.with_change(alloc, name, old, new)?;
+    let mut out = MemSink::new(alloc, ROOM, Vec::new(alloc))?;
+    show_memory_run(rt, WORDS, &mut files, &mut out, answer)
+}
+
+/// `fails READ WRITE WORD..`: a run on the table's files of which the read and the write with these numbers fail, the
+/// first being 0. The output takes at most 100 octets in a call.
+pub(crate) fn show_run_with_faults(
+    rt: &HostRuntime,
+    files: &StoredFiles,
+    row: &str,
+    answer: &mut String,
+) -> Result<(), AllocError> {
+    let alloc = rt.alloc();
+    let (read, row) = first_number(row);
+    let (write, line) = first_number(row);
+    let mut files = files.in_memory(alloc, vec![in alloc; read]?)?;
+    let mut out = MemSink::new(alloc, ROOM, vec![in alloc; write]?)?.in_turns(TURN);
+    show_memory_run(rt, line, &mut files, &mut out, answer)
+}
+
+/// `examples WORD..`: a run on files of the system, named from the folder in which the program runs.
+pub(crate) fn show_real_run(
+    rt: &HostRuntime,
+    line: &str,
+    answer: &mut String,
+) -> Result<(), AllocError> {
+    let alloc = rt.alloc();
+    let words = words_of(alloc, line)?;
+    let mut files = RealFiles::new(rt);
+    let mut out = MemSink::new(alloc, ROOM, Vec::new(alloc))?;
+    let status = agent(rt, &words, &mut files, &mut out);
+    show_end(status, files.faults(), &out, answer)
+}

@@ -1,0 +1,34 @@
+-- Statuses: the numbers with which the program ends, which are this project's own: README.md, Answers;
+-- docs/OPERATING.md, Commands.
+use Rattle.std.specs.Prelude.{ℕ, List, [], ◌∷◌}
+
+-- everything was done and written
+abbrev pub done : ℕ
+done = 0
+
+-- a call of the files failed
+abbrev pub file_fault : ℕ
+file_fault = 3
+
+-- a document has a fault
+abbrev pub bad_document : ℕ
+bad_document = 4
+
+-- a call of the output failed where everything else was done
+abbrev pub write_fault : ℕ
+write_fault = 6
+
+-- there was no memory
+abbrev pub out_of_memory : ℕ
+out_of_memory = 8
+
+-- a file is longer than its limit
+abbrev pub file_too_large : ℕ
+file_too_large = 10
+
+-- the words, the document or the script are of a form that is not built yet
+abbrev pub not_built : ℕ
+not_built = 12
+
+abbrev pub all_statuses : List ℕ
+all_statuses = done ∷ file_fault ∷ bad_document ∷ write_fault ∷ out_of_memory ∷ file_too_large ∷ not_built ∷ []

@@ -1,0 +1,65 @@
+-- PlainTrees: what tags and types that hold no others say (X.680, sections 14 to 41; X.208, section 27).
+use Rattle.std.specs.declared.alloc.Global.{Global}
+use Rattle.std.specs.declared.vec.Vec.{Vec}
+use Rattle.token_grammar.specs.declared.token.Token.{Token}
+use Rattle.token_grammar.specs.Form.{Tree, Bare, Leaf, Pair, First, Second}
+use Rattle.token_grammar.specs.Parts.{optional_tree, vector_tree}
+use Rattle.asn1_values_syntax.specs.NumberTrees.{bound_tree}
+use Rattle.asn1_syntax.specs.declared.named_number.NamedInteger.{NamedInteger}
+use Rattle.asn1_syntax.specs.declared.named_number.NamedBit.{NamedBit}
+use Rattle.asn1_syntax.specs.declared.tag.Tag.{Tag}
+use Rattle.asn1_syntax.specs.declared.plain_type.IntegerType.{IntegerType}
+use Rattle.asn1_syntax.specs.declared.plain_type.EnumeratedType.{EnumeratedType}
+use Rattle.asn1_syntax.specs.declared.plain_type.BitStringType.{BitStringType}
+use Rattle.asn1_syntax.specs.declared.plain_type.AnyType.{AnyType}
+use Rattle.asn1_syntax.specs.declared.plain_type.TypeName.{TypeName}
+use Rattle.asn1_syntax.specs.declared.plain_type.PlainType.{PlainType}
+use Rattle.asn1_syntax.specs.declared.plain_type.PlainType.TheVariants.{Simple, Integer, Enumerated, BitString, OctetString, ObjectIdentifier, Any, Named}
+
+abbrev pub named_integer_tree : NamedInteger → Tree
+named_integer_tree x = Pair (Leaf x.name) (Pair Bare (Pair (bound_tree x.number) Bare))
+
+abbrev pub named_integers_tree : Vec NamedInteger Global → Tree
+named_integers_tree xs = Pair Bare (Pair (vector_tree named_integer_tree xs) Bare)
+
+abbrev pub named_bit_tree : NamedBit → Tree
+named_bit_tree x = Pair (Leaf x.name) (Pair Bare (Pair (Leaf x.number) Bare))
+
+abbrev pub named_bits_tree : Vec NamedBit Global → Tree
+named_bits_tree xs = Pair Bare (Pair (vector_tree named_bit_tree xs) Bare)
+
+abbrev pub tag_tree : Tag → Tree
+tag_tree x = Pair (Leaf x.bracket) (Pair (optional_tree Leaf x.class) (Pair (Leaf x.number) Bare))
+
+abbrev pub integer_tree : IntegerType → Tree
+integer_tree x = Pair (Leaf x.word) (optional_tree named_integers_tree x.numbers)
+
+abbrev pub enumerated_tree : EnumeratedType → Tree
+enumerated_tree x = Pair (Leaf x.word) (named_integers_tree x.items)
+
+abbrev pub bit_string_tree : BitStringType → Tree
+bit_string_tree x = Pair (Leaf x.word) (Pair Bare (optional_tree named_bits_tree x.bits))
+
+-- a word with another one behind it
+abbrev pub words_tree : Token → Tree
+words_tree word = Pair (Leaf word) Bare
+
+-- a name behind what isn't kept
+abbrev pub behind_tree : Token → Tree
+behind_tree name = Pair Bare (Leaf name)
+
+abbrev pub any_type_tree : AnyType → Tree
+any_type_tree x = Pair (Leaf x.word) (optional_tree behind_tree x.defined_by)
+
+abbrev pub type_name_tree : TypeName → Tree
+type_name_tree x = Pair (Leaf x.name) (optional_tree behind_tree x.member)
+
+abbrev pub plain_type_tree : PlainType → Tree
+plain_type_tree (Simple word) = First (Leaf word)
+plain_type_tree (Integer x) = Second (First (integer_tree x))
+plain_type_tree (Enumerated x) = Second (Second (First (enumerated_tree x)))
+plain_type_tree (BitString x) = Second (Second (Second (First (bit_string_tree x))))
+plain_type_tree (OctetString word) = Second (Second (Second (Second (First (words_tree word)))))
+plain_type_tree (ObjectIdentifier word) = Second (Second (Second (Second (Second (First (words_tree word))))))
+plain_type_tree (Any x) = Second (Second (Second (Second (Second (Second (First (any_type_tree x)))))))
+plain_type_tree (Named x) = Second (Second (Second (Second (Second (Second (Second (type_name_tree x)))))))

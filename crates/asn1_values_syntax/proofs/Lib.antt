@@ -1,0 +1,12 @@
+-- The lemmas of this crate.
+pub mod Quiet
+pub mod FirstTokens
+pub mod Cases
+pub mod Rows
+pub mod Values
+pub mod Braces
+pub mod Contents
+pub mod OneValue
+pub mod OneTree
+pub mod Blind
+pub mod BlindTable

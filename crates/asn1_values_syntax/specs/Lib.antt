@@ -1,0 +1,10 @@
+-- The definitions that the contracts of this crate cite.
+pub mod ValueForms
+pub mod TypeForms
+pub mod TypeEnds
+pub mod Asn1
+pub mod Lookahead
+pub mod NumberTrees
+pub mod ValueTrees
+pub mod Agreement
+pub mod Keywords

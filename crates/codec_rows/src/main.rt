@@ -1,0 +1,28 @@
+//! Answers rows: each line of standard input is a call with its arguments, and what it answers is printed in a line.
+//! Lines that are empty or begin with `#` are printed as they are.
+#![tactic(auto)]
+
+mod answering;
+mod apdu_rows;
+mod journal_rows;
+mod object_rows;
+mod reading;
+mod row_fault;
+mod schema_rows;
+mod script_rows;
+mod showing;
+mod tree_rows;
+mod value_rows;
+
+use answering::answer_line;
+use schema_rows::empty_schema;
+use std::io;
+
+fn main(rt: HostRuntime) -> io::Result<()> {
+    let mut schema = empty_schema(rt.alloc());
+    for line in rt.lines(rt.alloc()) {
+        let answer = answer_line(rt.alloc(), &mut schema, line?.as_str())?;
+        println!(rt; "{}", answer.as_str().trim_end())?;
+    }
+    Ok(())
+}

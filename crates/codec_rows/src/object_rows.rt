@@ -1,0 +1,122 @@
+//! Rows of `op_object`: what is written of values, names and attributes, and the result of a Get.
+
+use crate::reading;
+use crate::row_fault::RowFault;
+use crate::showing::show_octets;
+use ber_tree::value_writing::write_oid;
+use op_object::object_reading::{attribute_set, get_one, write_instance, write_members};
+use op_object::property_lists::readable_attributes;
+use std::alloc::Global;
+use term_model::{Attribute, Attrs, Object, Oids, Set};
+use term_values::{Tag, Value};
+
+/// The moment 0.
+const START: &[u8] = b"19700101000000Z";
+
+/// An attribute: an identifier, an equals sign and a whole number.
+fn attribute(alloc: Global, text: &str) -> Result<Attribute, RowFault> {
+    match text.split_once('=') {
+        Some((id, number)) => {
+            let value = Value::integer(reading::integer(number)?);
+            let id = reading::oid(alloc, id)?;
+            Ok(Attribute { id, value })
+        }
+        None => Err(RowFault::Arguments),
+    }
+}
+
+/// Attributes.
+fn attributes(alloc: Global, text: &str) -> Result<Attrs, RowFault> {
+    let mut items = Vec::new(alloc);
+    for text in text.split(',') {
+        if !text.trim().is_empty() {
+            items.push(attribute(alloc, text)?)?;
+        }
+    }
+    Ok(Attrs { items })
+}
+
+/// An ObjectInstance of a name.
+fn write_instance_row(alloc: Global, text: &str, out: &mut String) -> Result<(), RowFault> {
+    let name = reading::name(alloc, text)?;
+    let mut into = Vec::new(alloc);
+    write_instance(alloc, &name.parts, &mut into)?;
+    Ok(show_octets(&into, out)?)
+}
+
+/// Members of a SET OF in their order.
+fn write_members_row(alloc: Global, text: &str, out: &mut String) -> Result<(), RowFault> {
+    let mut members = Vec::new(alloc);
+    for text in text.split(',') {
+        if !text.trim().is_empty() {
+            members.push(reading::bytes(alloc, text)?)?;
+        }
+    }
+    let mut into = Vec::new(alloc);
+    write_members(members, &mut into)?;
+    Ok(show_octets(&into, out)?)
+}
+
+/// Attributes as the contents of a SET OF Attribute.
+fn attribute_set_row(
+    alloc: Global,
+    schema: &Set,
+    text: &str,
+    out: &mut String,
+) -> Result<(), RowFault> {
+    let attrs = attributes(alloc, text)?;
+    let octets = attribute_set(alloc, &schema.attributes, &attrs)?;
+    Ok(show_octets(&octets, out)?)
+}
+
+/// The attributes that managers may read of the objects of a class, as OBJECT IDENTIFIERs.
+fn readable_row(alloc: Global, schema: &Set, text: &str, out: &mut String) -> Result<(), RowFault> {
+    let class = reading::oid(alloc, text)?;
+    let ids = readable_attributes(alloc, schema, &class)?;
+    let mut into = Vec::new(alloc);
+    for id in &ids {
+        write_oid(alloc, Tag::OBJECT_IDENTIFIER, id, &mut into)?;
+    }
+    Ok(show_octets(&into, out)?)
+}
+
+/// An object of a class with attributes.
+fn object(alloc: Global, class: &str, text: &str) -> Result<Object, RowFault> {
+    let class = reading::oid(alloc, class)?;
+    let attrs = attributes(alloc, text)?;
+    Ok(Object {
+        class,
+        binding: None,
+        chosen: Oids {
+            items: Vec::new(alloc),
+        },
+        attrs,
+    })
+}
+
+/// The result of a Get of an object under a name, at the moment 0.
+fn get_one_row(alloc: Global, schema: &Set, text: &str, out: &mut String) -> Result<(), RowFault> {
+    let (class, place, values) = reading::three(text)?;
+    let name = reading::name(alloc, place)?;
+    let object = object(alloc, class, values)?;
+    let result = get_one(alloc, schema, &name.parts, &object, START)?;
+    Ok(show_octets(result.as_slice(), out)?)
+}
+
+/// Appends the answer to a call.
+pub fn answer(
+    alloc: Global,
+    schema: &Set,
+    call: &str,
+    text: &str,
+    out: &mut String,
+) -> Result<(), RowFault> {
+    match call {
+        "write_instance" => write_instance_row(alloc, text, out),
+        "write_members" => write_members_row(alloc, text, out),
+        "attribute_set" => attribute_set_row(alloc, schema, text, out),
+        "readable_attributes" => readable_row(alloc, schema, text, out),
+        "get_one" => get_one_row(alloc, schema, text, out),
+        _ => Err(RowFault::Call),
+    }
+}

@@ -1,0 +1,70 @@
+//! From a line to its answer.
+
+use crate::row_syntaxes::syntax_named;
+use ber_tree::tree_reading::read_front_tree;
+use ber_values::{DecodeRefusal, decode, encode_into};
+use std::alloc::{AllocError, Global};
+use std::fmt::Write;
+use term_values::{Syntax, Tree};
+
+/// Appends octets in hexadecimal digits.
+fn show(octets: &[u8], out: &mut String) -> Result<(), AllocError> {
+    for octet in octets {
+        write!(out, "{octet:02X}")?;
+    }
+    Ok(())
+}
+
+/// Appends the one form of the value that the tree denotes, or that it denotes none.
+fn answer_tree(
+    alloc: Global,
+    syntax: &Syntax,
+    tree: &Tree,
+    out: &mut String,
+) -> Result<(), AllocError> {
+    match decode(alloc, syntax, tree) {
+        Ok(value) => {
+            let mut octets = Vec::new(alloc);
+            encode_into(alloc, syntax, &value, &mut octets)?;
+            show(&octets, out)
+        }
+        Err(DecodeRefusal::Misfit) => out.push_str("misfit"),
+        Err(DecodeRefusal::Memory) => Err(AllocError),
+    }
+}
+
+/// Appends the answer to octets.
+fn answer_octets(
+    alloc: Global,
+    syntax: &Syntax,
+    octets: &[u8],
+    out: &mut String,
+) -> Result<(), AllocError> {
+    match read_front_tree(alloc, octets)? {
+        Some((tree, _)) => answer_tree(alloc, syntax, &tree, out),
+        None => out.push_str("no tree"),
+    }
+}
+
+/// Appends the answer to a row.
+fn answer_row(alloc: Global, row: &str, out: &mut String) -> Result<(), AllocError> {
+    let (name, digits) = row.split_once(' ').unwrap_or((row, ""));
+    match syntax_named(alloc, name)? {
+        None => out.push_str("no such syntax"),
+        Some(syntax) => match hex::decode(alloc, digits.as_bytes()) {
+            Ok(octets) => answer_octets(alloc, &syntax, &octets, out),
+            Err(_) => out.push_str("no octets"),
+        },
+    }
+}
+
+/// What is printed for a line.
+pub fn answer_line(alloc: Global, line: &str) -> Result<String, AllocError> {
+    let mut out = String::new(alloc);
+    if line.is_empty() || line.starts_with('#') {
+        out.push_str(line)?;
+    } else {
+        answer_row(alloc, line, &mut out)?;
+    }
+    Ok(out)
+}
