@@ -1,13 +1,13 @@
 //! The attribute template (X.722, section 8.7) and references to it. It may have parameter templates in
 //! line, and they attribute templates.
 
-ghost use Rattle.std.specs.Prelude.{◌≡◌, ◌+◌, ◌&&◌, ℕ, codes, false, slice_get, IfOk};
-ghost use Rattle.token_grammar.specs.Form.{Form, AnyOrder, Named};
+ghost use Rattle.std.specs.Prelude.{◌≡◌, ℕ, codes, IfOk};
+ghost use Rattle.gdmo_members.specs.declared.attribute.AttributeSyntax.TheVariants.{Derived};
+ghost use Rattle.token_grammar.specs.Form.{Form, AnyOrder, Named, Bare};
 ghost use Rattle.token_grammar.specs.Outcome.{Reads, closed};
 ghost use Rattle.token_grammar.specs.Turns.{TakesClause};
-ghost use Rattle.token_grammar.specs.Spelling.{passes};
-ghost use Rattle.token_grammar.specs.TokenTests.{is_label, is_word_of};
-ghost use Rattle.gdmo_members.specs.Clauses.{ending, attributes, reference};
+ghost use Rattle.token_grammar.specs.TokenTests.{is_word_of};
+ghost use Rattle.gdmo_members.specs.Clauses.{ending, semicolon, attributes, reference};
 ghost use Rattle.gdmo_members.specs.Templates.{templates, attribute_syntax, attribute_clauses};
 ghost use Rattle.gdmo_members.specs.Trees.{ending_tree};
 ghost use Rattle.gdmo_members.specs.MemberTrees.{attribute_tree, template_tree, attribute_reference_tree, attribute_syntax_tree, attribute_slots, attribute_clauses_tree, is_attribute_clause};
@@ -157,21 +157,6 @@ pub fn read_attribute_reference(
         let (template, next) = read_attribute_in_line(alloc, tokens, at)?;
         return Ok((AttributeReference::Template(template), next));
     }
-    read_attribute_label(alloc, tokens, at)
-}
-
-/// Reads a label that names an attribute, where no template in line stands. It isn't inlined, so that its locals take
-/// no room while a template in line is read.
-#[inline(never)]
-fn read_attribute_label(
-    alloc: Global,
-    tokens: &[Token],
-    at: usize,
-) -> Result<(AttributeReference, usize), SyntaxRefusal>
-    requires { (passes is_label (slice_get tokens.now at)
-        && passes (is_word_of (codes "ATTRIBUTE")) (slice_get tokens.now (at + 1))) ≡ false }
-    ensures { Reads tokens.now templates (is_word_of (codes "ATTRIBUTE")) (reference attributes) at attribute_reference_tree result }
-{
     let (label, next) = read_label_reference(alloc, tokens, at)?;
     Ok((AttributeReference::Label(label), next))
 }
@@ -265,6 +250,21 @@ fn read_attribute_syntax(
     }
     let next = skip_words(tokens, at, &["DERIVED", "FROM"])?;
     let (base, next) = read_attribute_reference(alloc, tokens, next)?;
-    let next = skip_sign(tokens, next, ";")?;
+    let (syntax, next) = end_derived(tokens, next, base)?;
+    Ok((syntax, next))
+}
+
+/// Reads the semicolon behind the attribute that another one is derived from. It isn't inlined, so that its locals
+/// take no room while a template in line is read.
+#[inline(never)]
+fn end_derived(
+    tokens: &[Token],
+    at: usize,
+    base: AttributeReference,
+) -> Result<(AttributeSyntax, usize), SyntaxRefusal>
+    ensures reads { Reads tokens.now templates closed semicolon at (λ syntax. Bare) result }
+    ensures made { IfOk result (λ answer. answer.0 ≡ Derived base) }
+{
+    let next = skip_sign(tokens, at, ";")?;
     Ok((AttributeSyntax::Derived(base), next))
 }

@@ -1,6 +1,6 @@
 -- Attribute and parameter templates, each in the other: one part after the other, one clause after the
 -- other, and one parameter after the other.
-use Rattle.std.proofs.Common.{◌∙◌, ◌||◌, sym, refl, true, false, arith, codes, [], ◌∷◌}
+use Rattle.std.proofs.Common.{◌∙◌, ◌||◌, ap, sym, refl, true, false, arith, codes, [], ◌∷◌}
 use Rattle.token_grammar.proofs.Sequences.{apart_closed, spelt_then, spelt_first, spelt_second, fault_first, fault_second, spelt_named, fails_by, fails_front, fails_rest, fails_named, spelt_order}
 use Rattle.token_grammar.proofs.Heads.{skips, starts, stops_unless, advances}
 use Rattle.token_grammar.proofs.Known.{at_word, at_one_of}
@@ -47,8 +47,11 @@ attribute::read_attribute_reference-returns-in_err-template t c = exit_reads _ c
 pub attribute::read_attribute_reference-returns-then-is_template_at : goal.attribute::read_attribute_reference-returns-then-is_template_at
 attribute::read_attribute_reference-returns-then-is_template_at t c = spelt_as (boxed_attribute c.in_ok-template.template c.in_ok-template.template.value refl) (spelt_template refl (sym c.is_template_at.ensures ∙ c.if-is_template_at.true) c.in_ok-template.ensures)
 
-pub attribute::read_attribute_reference-read_attribute_label-requires : goal.attribute::read_attribute_reference-read_attribute_label-requires
-attribute::read_attribute_reference-read_attribute_label-requires t c = sym c.is_template_at.ensures ∙ c.if-is_template_at.false
+pub attribute::read_attribute_reference-returns-in_err-label : goal.attribute::read_attribute_reference-returns-in_err-label
+attribute::read_attribute_reference-returns-in_err-label t c = exit_reads _ c.from_residual-in_err-label.result c.from_residual-in_err-label.ensures.1 (fails_label refl (sym c.is_template_at.ensures ∙ c.if-is_template_at.false) (c.in_err-label.ensures templates))
+
+pub attribute::read_attribute_reference-returns : goal.attribute::read_attribute_reference-returns
+attribute::read_attribute_reference-returns t c = spelt_label refl (sym c.is_template_at.ensures ∙ c.if-is_template_at.false) (c.in_ok-label.ensures templates)
 
 pub parameter::read_parameter_in_line-returns-in_err-label : goal.parameter::read_parameter_in_line-returns-in_err-label
 parameter::read_parameter_in_line-returns-in_err-label t c = exit_reads _ c.from_residual.result c.from_residual.ensures.1 (fails_named parameters (fails_front apart_closed (c.in_err-label.ensures templates)))
@@ -92,11 +95,11 @@ attribute::read_attribute_syntax-returns-in_err-next t c = exit_reads _ c.from_r
 pub attribute::read_attribute_syntax-returns-in_err-base : goal.attribute::read_attribute_syntax-returns-in_err-base
 attribute::read_attribute_syntax-returns-in_err-base t c = exit_reads _ c.from_residual-in_err-base.result c.from_residual-in_err-base.ensures.1 (fails_by (λ k r. fault_second (stops_unless labels labels_lead (is_word_of (codes "WITH")) (clause (codes "WITH" ∷ codes "ATTRIBUTE" ∷ codes "SYNTAX" ∷ []) qualified_name) c.args.at k r.stops.order refl (λ t e. e) (sym c.is_word_at.ensures ∙ c.if-is_word_at.false)) r) (fails_rest (c.in_ok-next.ensures templates) apart_closed (fails_front (word_apart (codes "ATTRIBUTE") semicolon refl (λ at. refl)) c.in_err-base.ensures)))
 
-pub attribute::read_attribute_syntax-returns-in_err-next-2 : goal.attribute::read_attribute_syntax-returns-in_err-next-2
-attribute::read_attribute_syntax-returns-in_err-next-2 t c = exit_reads _ c.from_residual-in_err-next-2.result c.from_residual-in_err-next-2.ensures.1 (fails_by (λ k r. fault_second (stops_unless labels labels_lead (is_word_of (codes "WITH")) (clause (codes "WITH" ∷ codes "ATTRIBUTE" ∷ codes "SYNTAX" ∷ []) qualified_name) c.args.at k r.stops.order refl (λ t e. e) (sym c.is_word_at.ensures ∙ c.if-is_word_at.false)) r) (fails_rest (c.in_ok-next.ensures templates) apart_closed (fails_rest c.in_ok-base.ensures (word_apart (codes "ATTRIBUTE") semicolon refl (λ at. refl)) (c.in_err-next-2.ensures templates))))
+pub attribute::read_attribute_syntax-returns-in_err-syntax : goal.attribute::read_attribute_syntax-returns-in_err-syntax
+attribute::read_attribute_syntax-returns-in_err-syntax t c = exit_reads _ c.from_residual-in_err-syntax.result c.from_residual-in_err-syntax.ensures.1 (fails_by (λ k r. fault_second (stops_unless labels labels_lead (is_word_of (codes "WITH")) (clause (codes "WITH" ∷ codes "ATTRIBUTE" ∷ codes "SYNTAX" ∷ []) qualified_name) c.args.at k r.stops.order refl (λ t e. e) (sym c.is_word_at.ensures ∙ c.if-is_word_at.false)) r) (fails_rest (c.in_ok-next.ensures templates) apart_closed (fails_rest c.in_ok-base.ensures (word_apart (codes "ATTRIBUTE") semicolon refl (λ at. refl)) c.in_err-syntax.ensures.reads)))
 
 pub attribute::read_attribute_syntax-returns : goal.attribute::read_attribute_syntax-returns
-attribute::read_attribute_syntax-returns t c = let one = (spelt_then (c.in_ok-next.ensures templates) apart_closed (spelt_then c.in_ok-base.ensures (word_apart (codes "ATTRIBUTE") semicolon refl (λ at. refl)) (c.in_ok-next-2.ensures templates))) in spelt_second (stops_unless labels labels_lead (is_word_of (codes "WITH")) (clause (codes "WITH" ∷ codes "ATTRIBUTE" ∷ codes "SYNTAX" ∷ []) qualified_name) c.args.at c.in_ok-next-2.next (spelt_order one) refl (λ t e. e) (sym c.is_word_at.ensures ∙ c.if-is_word_at.false)) one
+attribute::read_attribute_syntax-returns t c = let one = (spelt_then (c.in_ok-next.ensures templates) apart_closed (spelt_then c.in_ok-base.ensures (word_apart (codes "ATTRIBUTE") semicolon refl (λ at. refl)) c.in_ok-syntax.ensures.reads)) in spelt_as (ap attribute_syntax_tree c.in_ok-syntax.ensures.made) (spelt_second (stops_unless labels labels_lead (is_word_of (codes "WITH")) (clause (codes "WITH" ∷ codes "ATTRIBUTE" ∷ codes "SYNTAX" ∷ []) qualified_name) c.args.at c.in_ok-syntax.next (spelt_order one) refl (λ t e. e) (sym c.is_word_at.ensures ∙ c.if-is_word_at.false)) one)
 
 pub attribute::read_attribute_syntax-read_attribute_reference-requires : goal.attribute::read_attribute_syntax-read_attribute_reference-requires
 attribute::read_attribute_syntax-read_attribute_reference-requires t c = let one = advances labels labels_lead refl (c.in_ok-next.ensures templates).spelt in let within = spelt_within labels labels_lead refl (c.in_ok-next.ensures templates) in (omega arith, tt)
