@@ -5,7 +5,7 @@
 ghost use Rattle.std.specs.Prelude.{◌≡◌, ◌++◌, IfOk, OnOk, flat_map, map, reverse, true};
 ghost use Rattle.ber_tree.specs.Writing.{Extends};
 ghost use Rattle.term_values.specs.Rearranged.{joined, rising};
-ghost use Rattle.term_model.specs.GetRequest.{assertion_octets, instance_octets, rdn_octets};
+ghost use Rattle.term_model.specs.GetRequest.{assertion_octets, class_octets, instance_octets, rdn_octets};
 ghost use Rattle.term_model.specs.ObjectOperation.{attribute_octets, attributes_octets, get_one, readable, time_octets, value_octets};
 
 use crate::property_lists::readable_attributes;
@@ -194,6 +194,27 @@ fn write_attributes(
     write_header_backwards(true, ATTRIBUTE_LIST, size, into)
 }
 
+/// Appends what stands in the GetResult of an object, granted at the moment that `time` tells, the last octet first.
+fn write_result_contents(
+    alloc: Global,
+    schema: &Set,
+    name: &[Rdn],
+    object: &Object,
+    time: &[u8],
+    into: &mut Vec<u8>,
+) -> Result<(), AllocError>
+    ensures written { OnOk result (into.new.items ≡ into.old.items
+        ++ reverse (class_octets object.now.class ++ (instance_octets name.now ++ (time_octets time.now
+        ++ attributes_octets schema.now.attributes (readable schema.now object.now))))) }
+    ensures begun { Extends into.old.items into.new.items }
+{
+    write_attributes(alloc, schema, object, into)?;
+    write_value_backwards(false, CURRENT_TIME, time, into)?;
+    write_instance(name, into)?;
+    write_oid_backwards(GLOBAL_FORM, &object.class, into)?;
+    Ok(())
+}
+
 /// Appends the GetResult of an object, granted at the moment that `time` tells as GeneralizedTime, the last octet first.
 fn write_result(
     alloc: Global,
@@ -208,10 +229,7 @@ fn write_result(
     ensures begun { Extends into.old.items into.new.items }
 {
     let start = into.as_slice().len();
-    write_attributes(alloc, schema, object, into)?;
-    write_value_backwards(false, CURRENT_TIME, time, into)?;
-    write_instance(name, into)?;
-    write_oid_backwards(GLOBAL_FORM, &object.class, into)?;
+    write_result_contents(alloc, schema, name, object, time, into)?;
     let size = into.as_slice().len() - start;
     write_header_backwards(true, Tag::SEQUENCE, size, into)
 }
