@@ -2,7 +2,7 @@
 //! so that the length of each part is known when its header is written.
 #![tactic(auto, using(ber_tree::proofs::Extending::extending))]
 
-ghost use Rattle.std.specs.Prelude.{◌≡◌, ◌++◌, ◌+◌, ◌^◌, ◌<◌, pos, true, IfOk, OnErr, OnOk, reverse};
+ghost use Rattle.std.specs.Prelude.{◌≡◌, ◌++◌, ◌+◌, ◌^◌, ◌<◌, ◌≤◌, ℕ, List, length, false, pos, true, IfOk, OnErr, OnOk, reverse};
 ghost use Rattle.ber_tree.specs.Writing.{Extends};
 ghost use Rattle.term_model.specs.Bind.{bind, bind_answer};
 ghost use Rattle.term_model.specs.GetRequest.{class_octets, get_apdu, instance_octets};
@@ -63,6 +63,19 @@ pub fn write_frame(apdu: &[u8], into: &mut Vec<u8>) -> Result<(), AllocError>
     into.extend_from_slice(apdu)
 }
 
+/// Appends the identifier and length octets of the constructed value whose contents stand behind the place `start`, all
+/// with the last octet first.
+fn close_value(tag: Tag, start: usize, into: &mut Vec<u8>) -> Result<(), AllocError>
+    requires { start ≤ length into.old.items }
+    ensures written { OnOk result ((before contents : List ℕ) → start ≡ length before
+        → into.old.items ≡ before ++ reverse contents → into.new.items ≡ before ++ reverse (encoded true tag contents)) }
+    ensures begun { Extends into.old.items into.new.items }
+{
+    let size = into.as_slice().len() - start;
+    write_header_backwards(true, tag, size, into)?;
+    Ok(())
+}
+
 /// Appends the length of a frame, the last octet first.
 fn write_frame_length(size: usize, into: &mut Vec<u8>) -> Result<(), AllocError>
     ensures written { OnOk result (into.new.items ≡ into.old.items ++ reverse (octets 4 size)) }
@@ -74,18 +87,40 @@ fn write_frame_length(size: usize, into: &mut Vec<u8>) -> Result<(), AllocError>
     Ok(())
 }
 
+/// Appends the length of the frame whose APDU stands behind the place `start`, all with the last octet first.
+fn close_frame(start: usize, into: &mut Vec<u8>) -> Result<(), AllocError>
+    requires { start ≤ length into.old.items }
+    ensures written { OnOk result ((before apdu : List ℕ) → start ≡ length before
+        → into.old.items ≡ before ++ reverse apdu → into.new.items ≡ before ++ reverse (frame apdu)) }
+    ensures begun { Extends into.old.items into.new.items }
+{
+    let size = into.as_slice().len() - start;
+    write_frame_length(size, into)?;
+    Ok(())
+}
+
+/// Appends the answer to the BIND of an association with this number, the last octet first.
+fn write_bind_answer(code: u8, association: u64, into: &mut Vec<u8>) -> Result<(), AllocError>
+    requires { association < 2 ^ 63 }
+    ensures written { OnOk result
+        (into.new.items ≡ into.old.items ++ reverse (bind_answer code association)) }
+    ensures begun { Extends into.old.items into.new.items }
+{
+    let start = into.as_slice().len();
+    write_integer_backwards(Tag::INTEGER, association as i64, into)?;
+    write_integer_backwards(Tag::ENUMERATED, i64::from(code), into)?;
+    close_value(Tag::SEQUENCE, start, into)?;
+    Ok(())
+}
+
 /// The frame that answers the BIND of an association with this number.
 pub fn bind_answer_frame(alloc: Global, code: u8, association: u64) -> Result<Vec<u8>, AllocError>
     requires { association < 2 ^ 63 }
     ensures { IfOk result (λ octets. octets.items ≡ frame (bind_answer code association)) }
 {
     let mut octets = Vec::new(alloc);
-    write_integer_backwards(Tag::INTEGER, association as i64, &mut octets)?;
-    write_integer_backwards(Tag::ENUMERATED, i64::from(code), &mut octets)?;
-    let size = octets.as_slice().len();
-    write_header_backwards(true, Tag::SEQUENCE, size, &mut octets)?;
-    let size = octets.as_slice().len();
-    write_frame_length(size, &mut octets)?;
+    write_bind_answer(code, association, &mut octets)?;
+    close_frame(0, &mut octets)?;
     reverse_from(0, &mut octets);
     Ok(octets)
 }
@@ -99,8 +134,8 @@ fn write_result(operation: i64, value: &[u8], into: &mut Vec<u8>) -> Result<(), 
     let start = into.as_slice().len();
     write_backwards(value, into)?;
     write_integer_backwards(Tag::INTEGER, operation, into)?;
-    let size = into.as_slice().len() - start;
-    write_header_backwards(true, Tag::SEQUENCE, size, into)
+    close_value(Tag::SEQUENCE, start, into)?;
+    Ok(())
 }
 
 /// Appends a Result, the last octet first: the invoke id, the operation and the result's octets.
@@ -117,8 +152,8 @@ fn write_result_apdu(
     let start = into.as_slice().len();
     write_result(operation, value, into)?;
     write_integer_backwards(Tag::INTEGER, invoke, into)?;
-    let size = into.as_slice().len() - start;
-    write_header_backwards(true, RESULT, size, into)
+    close_value(RESULT, start, into)?;
+    Ok(())
 }
 
 /// Appends a Result with the invoke id alone, the last octet first.
@@ -128,8 +163,8 @@ fn write_empty_result_apdu(invoke: i64, into: &mut Vec<u8>) -> Result<(), AllocE
 {
     let start = into.as_slice().len();
     write_integer_backwards(Tag::INTEGER, invoke, into)?;
-    let size = into.as_slice().len() - start;
-    write_header_backwards(true, RESULT, size, into)
+    close_value(RESULT, start, into)?;
+    Ok(())
 }
 
 /// The parameter of an error as it is sent: nothing where there is none, or one that is too long.
@@ -157,8 +192,8 @@ fn write_error_apdu(
     write_backwards(parameter, into)?;
     write_integer_backwards(Tag::INTEGER, code, into)?;
     write_integer_backwards(Tag::INTEGER, invoke, into)?;
-    let size = into.as_slice().len() - start;
-    write_header_backwards(true, ERROR, size, into)
+    close_value(ERROR, start, into)?;
+    Ok(())
 }
 
 /// Appends the Invoke of a linked reply, the last octet first: the agent's own invoke id, the invoke id to which it is
@@ -179,8 +214,8 @@ fn write_linked_apdu(
     write_integer_backwards(Tag::INTEGER, M_LINKED_REPLY, into)?;
     write_integer_backwards(LINKED_ID, invoke, into)?;
     write_integer_backwards(Tag::INTEGER, i64::from(own), into)?;
-    let size = into.as_slice().len() - start;
-    write_header_backwards(true, INVOKE, size, into)
+    close_value(INVOKE, start, into)?;
+    Ok(())
 }
 
 /// Appends the APDU of a reply, the last octet first.
@@ -219,8 +254,8 @@ fn write_frame_backwards(
 {
     let start = into.as_slice().len();
     write_reply_apdu(invoke, operation, own, reply, into)?;
-    let size = into.as_slice().len() - start;
-    write_frame_length(size, into)
+    close_frame(start, into)?;
+    Ok(())
 }
 
 /// Appends the frame of a reply to an invoke of an operation; a linked reply takes this own invoke id. After want of memory
@@ -271,8 +306,7 @@ pub fn write_bind(alloc: Global, title: &Oid) -> Result<Vec<u8>, AllocError>
 {
     let mut octets = Vec::new(alloc);
     write_oid_backwards(Tag::OBJECT_IDENTIFIER, title, &mut octets)?;
-    let size = octets.as_slice().len();
-    write_header_backwards(true, Tag::SEQUENCE, size, &mut octets)?;
+    close_value(Tag::SEQUENCE, 0, &mut octets)?;
     reverse_from(0, &mut octets);
     Ok(octets)
 }
@@ -286,8 +320,8 @@ fn write_get_argument(class: &Oid, name: &[Rdn], into: &mut Vec<u8>) -> Result<(
     let start = into.as_slice().len();
     write_instance(name, into)?;
     write_oid_backwards(GLOBAL_FORM, class, into)?;
-    let size = into.as_slice().len() - start;
-    write_header_backwards(true, Tag::SEQUENCE, size, into)
+    close_value(Tag::SEQUENCE, start, into)?;
+    Ok(())
 }
 
 /// The written invoke of m-Get for an object of this class with this name.
@@ -303,8 +337,7 @@ pub fn write_get(
     write_get_argument(class, name, &mut octets)?;
     write_integer_backwards(Tag::INTEGER, M_GET, &mut octets)?;
     write_integer_backwards(Tag::INTEGER, invoke, &mut octets)?;
-    let size = octets.as_slice().len();
-    write_header_backwards(true, INVOKE, size, &mut octets)?;
+    close_value(INVOKE, 0, &mut octets)?;
     reverse_from(0, &mut octets);
     Ok(octets)
 }
