@@ -6,7 +6,7 @@ ghost use Rattle.std.specs.Prelude.{◌≡◌, ◌++◌, ◌+◌, ◌^◌, ◌<�
 ghost use Rattle.ber_tree.specs.Writing.{Extends};
 ghost use Rattle.term_model.specs.Bind.{bind, bind_answer};
 ghost use Rattle.term_model.specs.GetRequest.{class_octets, get_apdu, instance_octets};
-ghost use Rattle.term_model.specs.Operation.{own_after, own_behind, reply_apdu, reply_frame, sent_parameter};
+ghost use Rattle.term_model.specs.Operation.{own_after, own_behind, reply_frame, sent_parameter};
 ghost use Rattle.term_model.specs.RemoteOperation.{empty_result_apdu, error_apdu, frame, integer, linked_apdu, result_apdu};
 ghost use Rattle.term_values.specs.Der.{encoded};
 ghost use Rattle.term_values.specs.Octets.{octets};
@@ -138,32 +138,34 @@ fn write_result(operation: i64, value: &[u8], into: &mut Vec<u8>) -> Result<(), 
     Ok(())
 }
 
-/// Appends a Result, the last octet first: the invoke id, the operation and the result's octets.
-fn write_result_apdu(
+/// Appends the frame of a Result, the last octet first: the invoke id, the operation and the result's octets.
+fn write_result_frame(
     invoke: i64,
     operation: i64,
     value: &[u8],
     into: &mut Vec<u8>,
 ) -> Result<(), AllocError>
     ensures written { OnOk result
-        (into.new.items ≡ into.old.items ++ reverse (result_apdu invoke operation value.now)) }
+        (into.new.items ≡ into.old.items ++ reverse (frame (result_apdu invoke operation value.now))) }
     ensures begun { Extends into.old.items into.new.items }
 {
     let start = into.as_slice().len();
     write_result(operation, value, into)?;
     write_integer_backwards(Tag::INTEGER, invoke, into)?;
     close_value(RESULT, start, into)?;
+    close_frame(start, into)?;
     Ok(())
 }
 
-/// Appends a Result with the invoke id alone, the last octet first.
-fn write_empty_result_apdu(invoke: i64, into: &mut Vec<u8>) -> Result<(), AllocError>
-    ensures written { OnOk result (into.new.items ≡ into.old.items ++ reverse (empty_result_apdu invoke)) }
+/// Appends the frame of a Result with the invoke id alone, the last octet first.
+fn write_empty_result_frame(invoke: i64, into: &mut Vec<u8>) -> Result<(), AllocError>
+    ensures written { OnOk result (into.new.items ≡ into.old.items ++ reverse (frame (empty_result_apdu invoke))) }
     ensures begun { Extends into.old.items into.new.items }
 {
     let start = into.as_slice().len();
     write_integer_backwards(Tag::INTEGER, invoke, into)?;
     close_value(RESULT, start, into)?;
+    close_frame(start, into)?;
     Ok(())
 }
 
@@ -177,15 +179,15 @@ fn sent_parameter(error: &CmisError) -> &[u8]
     }
 }
 
-/// Appends an Error with this number and parameter, the last octet first.
-fn write_error_apdu(
+/// Appends the frame of an Error with this number and parameter, the last octet first.
+fn write_error_frame(
     invoke: i64,
     code: i64,
     parameter: &[u8],
     into: &mut Vec<u8>,
 ) -> Result<(), AllocError>
     ensures written { OnOk result
-        (into.new.items ≡ into.old.items ++ reverse (error_apdu invoke code parameter.now)) }
+        (into.new.items ≡ into.old.items ++ reverse (frame (error_apdu invoke code parameter.now))) }
     ensures begun { Extends into.old.items into.new.items }
 {
     let start = into.as_slice().len();
@@ -193,12 +195,13 @@ fn write_error_apdu(
     write_integer_backwards(Tag::INTEGER, code, into)?;
     write_integer_backwards(Tag::INTEGER, invoke, into)?;
     close_value(ERROR, start, into)?;
+    close_frame(start, into)?;
     Ok(())
 }
 
-/// Appends the Invoke of a linked reply, the last octet first: the agent's own invoke id, the invoke id to which it is
+/// Appends the frame of a linked reply, the last octet first: the agent's own invoke id, the invoke id to which it is
 /// linked, the operation, and the reply under the tag of LinkedReply with this number.
-fn write_linked_apdu(
+fn write_linked_frame(
     own: u32,
     invoke: i64,
     number: u8,
@@ -206,7 +209,7 @@ fn write_linked_apdu(
     into: &mut Vec<u8>,
 ) -> Result<(), AllocError>
     ensures written { OnOk result
-        (into.new.items ≡ into.old.items ++ reverse (linked_apdu (pos own) invoke number reply.now)) }
+        (into.new.items ≡ into.old.items ++ reverse (frame (linked_apdu (pos own) invoke number reply.now))) }
     ensures begun { Extends into.old.items into.new.items }
 {
     let start = into.as_slice().len();
@@ -215,29 +218,8 @@ fn write_linked_apdu(
     write_integer_backwards(LINKED_ID, invoke, into)?;
     write_integer_backwards(Tag::INTEGER, i64::from(own), into)?;
     close_value(INVOKE, start, into)?;
+    close_frame(start, into)?;
     Ok(())
-}
-
-/// Appends the APDU of a reply, the last octet first.
-fn write_reply_apdu(
-    invoke: i64,
-    operation: i64,
-    own: u32,
-    reply: &Reply,
-    into: &mut Vec<u8>,
-) -> Result<(), AllocError>
-    ensures written { OnOk result
-        (into.new.items ≡ into.old.items ++ reverse (reply_apdu invoke operation own reply.now)) }
-    ensures begun { Extends into.old.items into.new.items }
-{
-    match reply {
-        Reply::Single(value) => write_result_apdu(invoke, operation, value.as_slice(), into),
-        Reply::Linked(number, contents) => {
-            write_linked_apdu(own, invoke, *number, contents.as_slice(), into)
-        }
-        Reply::Empty => write_empty_result_apdu(invoke, into),
-        Reply::Error(error) => write_error_apdu(invoke, error.code, sent_parameter(error), into),
-    }
 }
 
 /// Appends the frame of a reply, the last octet first.
@@ -252,10 +234,14 @@ fn write_frame_backwards(
         (into.new.items ≡ into.old.items ++ reverse (reply_frame invoke operation own reply.now)) }
     ensures begun { Extends into.old.items into.new.items }
 {
-    let start = into.as_slice().len();
-    write_reply_apdu(invoke, operation, own, reply, into)?;
-    close_frame(start, into)?;
-    Ok(())
+    match reply {
+        Reply::Single(value) => write_result_frame(invoke, operation, value.as_slice(), into),
+        Reply::Linked(number, contents) => {
+            write_linked_frame(own, invoke, *number, contents.as_slice(), into)
+        }
+        Reply::Empty => write_empty_result_frame(invoke, into),
+        Reply::Error(error) => write_error_frame(invoke, error.code, sent_parameter(error), into),
+    }
 }
 
 /// Appends the frame of a reply to an invoke of an operation; a linked reply takes this own invoke id. After want of memory

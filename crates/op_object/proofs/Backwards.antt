@@ -2,6 +2,7 @@
 -- and the whole is turned round at the end.
 use Rattle.std.proofs.Common.{◌≡◌, ℕ, ◌-◌, List, [], ◌∷◌, ◌++◌, true, length, reverse, take, drop,
     append_assoc, refl, sym, ap, ◌∙◌, arith}
+use Rattle.std.proofs.Math.Seq.{drop-append_seam, take-append_seam}
 use Rattle.std.proofs.lemmas.List.{length-append, length-reverse, reverse-append}
 use Rattle.term_values.specs.declared.tag.Tag.{Tag}
 use Rattle.term_values.specs.Der.{encoded, identifier_octets, length_octets}
@@ -38,3 +39,14 @@ twice (x ∷ xs) =
 pub turned : (octets : List ℕ) {written now : List ℕ} → now ≡ take 0 written ++ reverse (drop 0 written)
     → written ≡ reverse octets → now ≡ octets
 turned octets last is = last ∙ ap reverse is ∙ twice octets
+
+-- what stands behind a place turned round
+pub turned_behind : (old octets : List ℕ) {written now : List ℕ} {start : ℕ} → start ≡ length old
+    → written ≡ old ++ reverse octets → now ≡ take start written ++ reverse (drop start written) → now ≡ old ++ octets
+turned_behind old octets {written} {now} {start} begin is last =
+    last
+    ∙ ap (λ n. take n written ++ reverse (drop n written)) begin
+    ∙ ap (λ xs. take (length old) xs ++ reverse (drop (length old) xs)) is
+    ∙ ap (λ xs. xs ++ reverse (drop (length old) (old ++ reverse octets))) (take-append_seam old (reverse octets))
+    ∙ ap (λ xs. old ++ reverse xs) (drop-append_seam old (reverse octets))
+    ∙ ap (λ xs. old ++ xs) (twice octets)

@@ -70,15 +70,13 @@ last_own = 2147483647
 abbrev pub own_after : ℕ → ℕ
 own_after own = if nat_lt own last_own then own + 1 else 1
 
--- the APDU of a reply to an invoke; a linked reply takes the agent's next own invoke id
-abbrev pub reply_apdu : ℤ → ℤ → ℕ → Reply → List ℕ
-reply_apdu invoke operation own (reply.Single result) = result_apdu invoke operation result
-reply_apdu invoke operation own (reply.Linked number contents) = linked_apdu (pos own) invoke number contents
-reply_apdu invoke operation own reply.Empty = empty_result_apdu invoke
-reply_apdu invoke operation own (reply.Error error) = error_apdu invoke error.code (sent_parameter error.parameter)
-
+-- the frame of a reply to an invoke; a linked reply takes the agent's next own invoke id
 abbrev pub reply_frame : ℤ → ℤ → ℕ → Reply → List ℕ
-reply_frame invoke operation own answer = frame (reply_apdu invoke operation own answer)
+reply_frame invoke operation own (reply.Single result) = frame (result_apdu invoke operation result)
+reply_frame invoke operation own (reply.Linked number contents) = frame (linked_apdu (pos own) invoke number contents)
+reply_frame invoke operation own reply.Empty = frame (empty_result_apdu invoke)
+reply_frame invoke operation own (reply.Error error) =
+    frame (error_apdu invoke error.code (sent_parameter error.parameter))
 
 -- the next own invoke id behind a reply
 abbrev pub own_behind : ℕ → Reply → ℕ
