@@ -7,17 +7,17 @@ use term_values::{Oid, ValueForm};
 
 /// Appends how many attributes there are.
 pub(crate) fn show_count(set: &Set, answer: &mut String) -> Result<(), AllocError> {
-    let count = set.attributes.items.len();
+    let count = set.attributes.as_slice().len();
     write!(answer, "{count} attributes")?;
     Ok(())
 }
 
 /// Appends all records.
 pub(crate) fn show_set(set: &Set, answer: &mut String) -> Result<(), AllocError> {
-    for class in &set.classes.items {
+    for class in set.classes.as_slice() {
         show_class(class, answer)?;
     }
-    for attribute in &set.attributes.items {
+    for attribute in set.attributes.as_slice() {
         show_attribute(attribute, answer)?;
     }
     for instance in &set.instances.items {

@@ -97,7 +97,7 @@ fn read_script_for<'a>(alloc: Global, text: &[u8], schema: &Set) -> Result<Scrip
     ensures bound { IfOk result (λ script. IsSome (title_in script.bind)) }
     ensures cause { IfErr result (HasScriptCause schema.now text.now) }
 {
-    match schema.classes.items.as_slice() {
+    match schema.classes.as_slice() {
         [class] => match read_script(alloc, text, &class.id) {
             Ok(script) => Ok(script),
             Err(ScriptRefusal::Outside) => Err(Refusal::NotBuilt(Unbuilt::Script)),

@@ -348,7 +348,7 @@ fn push_encoding(
 }
 
 /// Appends encodings by their rising order, the last octet first: X.690, section 11.6.
-fn write_rising(mut members: Vec<Bytes>, into: &mut Vec<u8>) -> Result<(), AllocError>
+pub fn write_rising(mut members: Vec<Bytes>, into: &mut Vec<u8>) -> Result<(), AllocError>
     ensures written { OnOk result (into.new.items ≡ into.old.items ++ reverse (joined (rising members.items))) }
     ensures begun { Extends into.old.items into.new.items }
 {
@@ -357,6 +357,20 @@ fn write_rising(mut members: Vec<Bytes>, into: &mut Vec<u8>) -> Result<(), Alloc
         write_backwards(members[i].as_slice(), into)?;
     }
     Ok(())
+}
+
+/// Appends the octets of a value in their one form, the last octet first, where it is a part of what a caller writes
+/// backwards.
+pub fn encode_backwards(
+    alloc: Global,
+    syntax: &Syntax,
+    value: &Value,
+    into: &mut Vec<u8>,
+) -> Result<(), AllocError>
+    ensures written { OnOk result (into.new.items ≡ into.old.items ++ reverse (der syntax.now value.now)) }
+    ensures begun { Extends into.old.items into.new.items }
+{
+    write_as(alloc, None, syntax, value, into)
 }
 
 /// Appends the octets of a value in their one form. The cost is linear in what is appended, but that the components of

@@ -1,18 +1,22 @@
-//! Writes APDUs in their frames: X.229, section 9, and the BIND with its answer.
+//! Writes APDUs in their frames: X.229, section 9, and the BIND with its answer. Each is written with its last octet first,
+//! so that the length of each part is known when its header is written.
+#![tactic(auto, using(ber_tree::proofs::Extending::extending))]
 
-ghost use Rattle.std.specs.Prelude.{◌≡◌, ◌++◌, ◌+◌, ◌^◌, ◌<◌, pos, false, true, IfOk, OnErr, OnOk};
+ghost use Rattle.std.specs.Prelude.{◌≡◌, ◌++◌, ◌+◌, ◌^◌, ◌<◌, ◌≤◌, ℕ, List, length, false, pos, true, IfOk, OnErr, OnOk, reverse};
+ghost use Rattle.ber_tree.specs.Writing.{Extends};
 ghost use Rattle.term_model.specs.Bind.{bind, bind_answer};
-ghost use Rattle.term_model.specs.GetRequest.{get_apdu};
-ghost use Rattle.term_model.specs.Operation.{own_after, own_behind, reply_frame};
+ghost use Rattle.term_model.specs.GetRequest.{class_octets, get_apdu, instance_octets};
+ghost use Rattle.term_model.specs.Operation.{own_after, own_behind, reply_frame, sent_parameter};
 ghost use Rattle.term_model.specs.RemoteOperation.{empty_result_apdu, error_apdu, frame, integer, linked_apdu, result_apdu};
-ghost use Rattle.term_model.specs.Operation.{sent_parameter};
 ghost use Rattle.term_values.specs.Der.{encoded};
-ghost use Rattle.term_values.specs.Octets.{integer_contents};
-ghost use Rattle.term_values.specs.Tag.{context};
+ghost use Rattle.term_values.specs.Octets.{octets};
+ghost use Rattle.term_values.specs.Tag.{universal};
 
 use crate::apdu_reading::{INVOKE, M_GET};
-use ber_tree::tree_writing::{write_integer_contents, write_octets};
-use ber_tree::value_writing::{write_integer, write_oid, write_value};
+use ber_tree::tree_writing::{reverse_from, write_backwards, write_header_backwards, write_octets};
+use ber_tree::value_writing::{
+    write_integer_backwards, write_oid_backwards, write_value_backwards,
+};
 use op_object::object_reading::{GLOBAL_FORM, write_instance};
 use std::alloc::{AllocError, Global};
 use term_model::{CmisError, Rdn, Reply};
@@ -59,15 +63,54 @@ pub fn write_frame(apdu: &[u8], into: &mut Vec<u8>) -> Result<(), AllocError>
     into.extend_from_slice(apdu)
 }
 
-/// A frame whose APDU is a constructed value.
-fn framed(alloc: Global, tag: Tag, contents: &[u8]) -> Result<Vec<u8>, AllocError>
-    ensures { IfOk result (λ octets. octets.items ≡ frame (encoded true tag contents.now)) }
+/// Appends the identifier and length octets of the constructed value whose contents stand behind the place `start`, all
+/// with the last octet first.
+fn close_value(tag: Tag, start: usize, into: &mut Vec<u8>) -> Result<(), AllocError>
+    requires { start ≤ length into.old.items }
+    ensures written { OnOk result ((before contents : List ℕ) → start ≡ length before
+        → into.old.items ≡ before ++ reverse contents → into.new.items ≡ before ++ reverse (encoded true tag contents)) }
+    ensures begun { Extends into.old.items into.new.items }
 {
-    let mut apdu = Vec::new(alloc);
-    write_value(true, tag, contents, &mut apdu)?;
-    let mut octets = Vec::new(alloc);
-    write_frame(&apdu, &mut octets)?;
-    Ok(octets)
+    let size = into.as_slice().len() - start;
+    write_header_backwards(true, tag, size, into)?;
+    Ok(())
+}
+
+/// Appends the length of a frame, the last octet first.
+fn write_frame_length(size: usize, into: &mut Vec<u8>) -> Result<(), AllocError>
+    ensures written { OnOk result (into.new.items ≡ into.old.items ++ reverse (octets 4 size)) }
+    ensures begun { Extends into.old.items into.new.items }
+{
+    let start = into.as_slice().len();
+    write_octets(LENGTH_OCTETS, size as u64, false, into)?;
+    reverse_from(start, into);
+    Ok(())
+}
+
+/// Appends the length of the frame whose APDU stands behind the place `start`, all with the last octet first.
+fn close_frame(start: usize, into: &mut Vec<u8>) -> Result<(), AllocError>
+    requires { start ≤ length into.old.items }
+    ensures written { OnOk result ((before apdu : List ℕ) → start ≡ length before
+        → into.old.items ≡ before ++ reverse apdu → into.new.items ≡ before ++ reverse (frame apdu)) }
+    ensures begun { Extends into.old.items into.new.items }
+{
+    let size = into.as_slice().len() - start;
+    write_frame_length(size, into)?;
+    Ok(())
+}
+
+/// Appends the answer to the BIND of an association with this number, the last octet first.
+fn write_bind_answer(code: u8, association: u64, into: &mut Vec<u8>) -> Result<(), AllocError>
+    requires { association < 2 ^ 63 }
+    ensures written { OnOk result
+        (into.new.items ≡ into.old.items ++ reverse (bind_answer code association)) }
+    ensures begun { Extends into.old.items into.new.items }
+{
+    let start = into.as_slice().len();
+    write_integer_backwards(Tag::INTEGER, association as i64, into)?;
+    write_integer_backwards(Tag::ENUMERATED, i64::from(code), into)?;
+    close_value(Tag::SEQUENCE, start, into)?;
+    Ok(())
 }
 
 /// The frame that answers the BIND of an association with this number.
@@ -75,30 +118,55 @@ pub fn bind_answer_frame(alloc: Global, code: u8, association: u64) -> Result<Ve
     requires { association < 2 ^ 63 }
     ensures { IfOk result (λ octets. octets.items ≡ frame (bind_answer code association)) }
 {
-    let mut code_contents = Vec::new(alloc);
-    write_integer_contents(i64::from(code), &mut code_contents)?;
-    let mut contents = Vec::new(alloc);
-    write_value(false, Tag::ENUMERATED, &code_contents, &mut contents)?;
-    write_integer(alloc, association as i64, &mut contents)?;
-    framed(alloc, Tag::SEQUENCE, &contents)
+    let mut octets = Vec::new(alloc);
+    write_bind_answer(code, association, &mut octets)?;
+    close_frame(0, &mut octets)?;
+    reverse_from(0, &mut octets);
+    Ok(octets)
 }
 
-/// The frame of a Result: the invoke id, the operation and the result's octets.
-fn result_frame(
-    alloc: Global,
+/// Appends the operation of a Result with the result's octets, the last octet first.
+fn write_result(operation: i64, value: &[u8], into: &mut Vec<u8>) -> Result<(), AllocError>
+    ensures written { OnOk result (into.new.items
+        ≡ into.old.items ++ reverse (encoded true (universal 16) (integer operation ++ value.now))) }
+    ensures begun { Extends into.old.items into.new.items }
+{
+    let start = into.as_slice().len();
+    write_backwards(value, into)?;
+    write_integer_backwards(Tag::INTEGER, operation, into)?;
+    close_value(Tag::SEQUENCE, start, into)?;
+    Ok(())
+}
+
+/// Appends the frame of a Result, the last octet first: the invoke id, the operation and the result's octets.
+fn write_result_frame(
     invoke: i64,
     operation: i64,
     value: &[u8],
-) -> Result<Vec<u8>, AllocError>
-    ensures { IfOk result (λ octets. octets.items ≡ frame (result_apdu invoke operation value.now)) }
+    into: &mut Vec<u8>,
+) -> Result<(), AllocError>
+    ensures written { OnOk result
+        (into.new.items ≡ into.old.items ++ reverse (frame (result_apdu invoke operation value.now))) }
+    ensures begun { Extends into.old.items into.new.items }
 {
-    let mut inside = Vec::new(alloc);
-    write_integer(alloc, operation, &mut inside)?;
-    inside.extend_from_slice(value)?;
-    let mut contents = Vec::new(alloc);
-    write_integer(alloc, invoke, &mut contents)?;
-    write_value(true, Tag::SEQUENCE, &inside, &mut contents)?;
-    framed(alloc, RESULT, &contents)
+    let start = into.as_slice().len();
+    write_result(operation, value, into)?;
+    write_integer_backwards(Tag::INTEGER, invoke, into)?;
+    close_value(RESULT, start, into)?;
+    close_frame(start, into)?;
+    Ok(())
+}
+
+/// Appends the frame of a Result with the invoke id alone, the last octet first.
+fn write_empty_result_frame(invoke: i64, into: &mut Vec<u8>) -> Result<(), AllocError>
+    ensures written { OnOk result (into.new.items ≡ into.old.items ++ reverse (frame (empty_result_apdu invoke))) }
+    ensures begun { Extends into.old.items into.new.items }
+{
+    let start = into.as_slice().len();
+    write_integer_backwards(Tag::INTEGER, invoke, into)?;
+    close_value(RESULT, start, into)?;
+    close_frame(start, into)?;
+    Ok(())
 }
 
 /// The parameter of an error as it is sent: nothing where there is none, or one that is too long.
@@ -111,112 +179,74 @@ fn sent_parameter(error: &CmisError) -> &[u8]
     }
 }
 
-/// What stands in an Error: the invoke id, the error's number and the parameter that is sent.
-fn error_contents(
-    alloc: Global,
+/// Appends the frame of an Error with this number and parameter, the last octet first.
+fn write_error_frame(
     invoke: i64,
     code: i64,
     parameter: &[u8],
-) -> Result<Vec<u8>, AllocError>
-    ensures { IfOk result (λ octets. octets.items ≡ integer invoke ++ (integer code ++ parameter.now)) }
+    into: &mut Vec<u8>,
+) -> Result<(), AllocError>
+    ensures written { OnOk result
+        (into.new.items ≡ into.old.items ++ reverse (frame (error_apdu invoke code parameter.now))) }
+    ensures begun { Extends into.old.items into.new.items }
 {
-    let mut contents = Vec::new(alloc);
-    write_integer(alloc, invoke, &mut contents)?;
-    write_integer(alloc, code, &mut contents)?;
-    contents.extend_from_slice(parameter)?;
-    Ok(contents)
+    let start = into.as_slice().len();
+    write_backwards(parameter, into)?;
+    write_integer_backwards(Tag::INTEGER, code, into)?;
+    write_integer_backwards(Tag::INTEGER, invoke, into)?;
+    close_value(ERROR, start, into)?;
+    close_frame(start, into)?;
+    Ok(())
 }
 
-/// The frame of an Error with this number and parameter.
-fn coded_error_frame(
-    alloc: Global,
-    invoke: i64,
-    code: i64,
-    parameter: &[u8],
-) -> Result<Vec<u8>, AllocError>
-    ensures { IfOk result (λ octets. octets.items ≡ frame (error_apdu invoke code parameter.now)) }
-{
-    let contents = error_contents(alloc, invoke, code, parameter)?;
-    framed(alloc, ERROR, &contents)
-}
-
-/// The frame of an Error with its parameter.
-fn error_frame(alloc: Global, invoke: i64, error: &CmisError) -> Result<Vec<u8>, AllocError>
-    ensures { IfOk result (λ octets. octets.items ≡ frame (error_apdu invoke error.now.code (sent_parameter error.now.parameter))) }
-{
-    coded_error_frame(alloc, invoke, error.code, sent_parameter(error))
-}
-
-/// The frame of a Result with the invoke id alone.
-fn empty_result_frame(alloc: Global, invoke: i64) -> Result<Vec<u8>, AllocError>
-    ensures { IfOk result (λ octets. octets.items ≡ frame (empty_result_apdu invoke)) }
-{
-    let mut contents = Vec::new(alloc);
-    write_integer(alloc, invoke, &mut contents)?;
-    framed(alloc, RESULT, &contents)
-}
-
-/// What stands in the Invoke of a linked reply: the agent's own invoke id, the invoke id to which it is linked, the operation,
-/// and the reply under the tag of LinkedReply with this number.
-fn linked_contents(
-    alloc: Global,
+/// Appends the frame of a linked reply, the last octet first: the agent's own invoke id, the invoke id to which it is
+/// linked, the operation, and the reply under the tag of LinkedReply with this number.
+fn write_linked_frame(
     own: u32,
     invoke: i64,
     number: u8,
     reply: &[u8],
-) -> Result<Vec<u8>, AllocError>
-    ensures { IfOk result (λ octets. octets.items ≡ integer (pos own)
-        ++ (encoded false (context 0) (integer_contents invoke)
-        ++ (integer (pos 2) ++ encoded true (context number) reply.now))) }
+    into: &mut Vec<u8>,
+) -> Result<(), AllocError>
+    ensures written { OnOk result
+        (into.new.items ≡ into.old.items ++ reverse (frame (linked_apdu (pos own) invoke number reply.now))) }
+    ensures begun { Extends into.old.items into.new.items }
 {
-    let mut linked = Vec::new(alloc);
-    write_integer_contents(invoke, &mut linked)?;
-    let mut contents = Vec::new(alloc);
-    write_integer(alloc, i64::from(own), &mut contents)?;
-    write_value(false, LINKED_ID, &linked, &mut contents)?;
-    write_integer(alloc, M_LINKED_REPLY, &mut contents)?;
-    write_value(true, Tag::context(u32::from(number)), reply, &mut contents)?;
-    Ok(contents)
+    let start = into.as_slice().len();
+    write_value_backwards(true, Tag::context(u32::from(number)), reply, into)?;
+    write_integer_backwards(Tag::INTEGER, M_LINKED_REPLY, into)?;
+    write_integer_backwards(LINKED_ID, invoke, into)?;
+    write_integer_backwards(Tag::INTEGER, i64::from(own), into)?;
+    close_value(INVOKE, start, into)?;
+    close_frame(start, into)?;
+    Ok(())
 }
 
-/// The frame of a linked reply.
-fn linked_frame(
-    alloc: Global,
-    own: u32,
-    invoke: i64,
-    number: u8,
-    reply: &[u8],
-) -> Result<Vec<u8>, AllocError>
-    ensures { IfOk result (λ octets. octets.items ≡ frame (linked_apdu (pos own) invoke number reply.now)) }
-{
-    let contents = linked_contents(alloc, own, invoke, number, reply)?;
-    framed(alloc, INVOKE, &contents)
-}
-
-/// The frame of a reply to an invoke of an operation; a linked reply takes this own invoke id.
-pub fn reply_frame(
-    alloc: Global,
+/// Appends the frame of a reply, the last octet first.
+fn write_frame_backwards(
     invoke: i64,
     operation: i64,
     own: u32,
     reply: &Reply,
-) -> Result<Vec<u8>, AllocError>
-    ensures { IfOk result (λ octets. octets.items ≡ reply_frame invoke operation own reply.now) }
+    into: &mut Vec<u8>,
+) -> Result<(), AllocError>
+    ensures written { OnOk result
+        (into.new.items ≡ into.old.items ++ reverse (reply_frame invoke operation own reply.now)) }
+    ensures begun { Extends into.old.items into.new.items }
 {
     match reply {
-        Reply::Single(value) => result_frame(alloc, invoke, operation, value.as_slice()),
+        Reply::Single(value) => write_result_frame(invoke, operation, value.as_slice(), into),
         Reply::Linked(number, contents) => {
-            linked_frame(alloc, own, invoke, *number, contents.as_slice())
+            write_linked_frame(own, invoke, *number, contents.as_slice(), into)
         }
-        Reply::Empty => empty_result_frame(alloc, invoke),
-        Reply::Error(error) => error_frame(alloc, invoke, error),
+        Reply::Empty => write_empty_result_frame(invoke, into),
+        Reply::Error(error) => write_error_frame(invoke, error.code, sent_parameter(error), into),
     }
 }
 
 /// Appends the frame of a reply to an invoke of an operation; a linked reply takes this own invoke id. After want of memory
 /// `into` is as it was.
 pub fn write_reply_frame(
-    alloc: Global,
     invoke: i64,
     operation: i64,
     own: u32,
@@ -226,8 +256,17 @@ pub fn write_reply_frame(
     ensures written { OnOk result (into.new.items ≡ into.old.items ++ reply_frame invoke operation own reply.now) }
     ensures kept { OnErr result (into.new.items ≡ into.old.items) }
 {
-    let frame = reply_frame(alloc, invoke, operation, own, reply)?;
-    into.extend_from_slice(frame.as_slice())
+    let start = into.as_slice().len();
+    match write_frame_backwards(invoke, operation, own, reply, into) {
+        Ok(()) => {
+            reverse_from(start, into);
+            Ok(())
+        }
+        Err(fault) => {
+            into.truncate(start);
+            Err(fault)
+        }
+    }
 }
 
 /// The own invoke id behind this one: they begin anew with 1 behind the greatest of 32 bits.
@@ -251,11 +290,24 @@ pub fn own_behind(own: u32, reply: &Reply) -> u32
 pub fn write_bind(alloc: Global, title: &Oid) -> Result<Vec<u8>, AllocError>
     ensures { IfOk result (λ octets. octets.items ≡ bind title.now) }
 {
-    let mut contents = Vec::new(alloc);
-    write_oid(alloc, Tag::OBJECT_IDENTIFIER, title, &mut contents)?;
     let mut octets = Vec::new(alloc);
-    write_value(true, Tag::SEQUENCE, &contents, &mut octets)?;
+    write_oid_backwards(Tag::OBJECT_IDENTIFIER, title, &mut octets)?;
+    close_value(Tag::SEQUENCE, 0, &mut octets)?;
+    reverse_from(0, &mut octets);
     Ok(octets)
+}
+
+/// Appends the argument of m-Get for an object of this class with this name, the last octet first.
+fn write_get_argument(class: &Oid, name: &[Rdn], into: &mut Vec<u8>) -> Result<(), AllocError>
+    ensures written { OnOk result (into.new.items
+        ≡ into.old.items ++ reverse (encoded true (universal 16) (class_octets class.now ++ instance_octets name.now))) }
+    ensures begun { Extends into.old.items into.new.items }
+{
+    let start = into.as_slice().len();
+    write_instance(name, into)?;
+    write_oid_backwards(GLOBAL_FORM, class, into)?;
+    close_value(Tag::SEQUENCE, start, into)?;
+    Ok(())
 }
 
 /// The written invoke of m-Get for an object of this class with this name.
@@ -267,14 +319,11 @@ pub fn write_get(
 ) -> Result<Vec<u8>, AllocError>
     ensures { IfOk result (λ octets. octets.items ≡ get_apdu invoke class.now name.now) }
 {
-    let mut argument = Vec::new(alloc);
-    write_oid(alloc, GLOBAL_FORM, class, &mut argument)?;
-    write_instance(alloc, name, &mut argument)?;
-    let mut contents = Vec::new(alloc);
-    write_integer(alloc, invoke, &mut contents)?;
-    write_integer(alloc, M_GET, &mut contents)?;
-    write_value(true, Tag::SEQUENCE, &argument, &mut contents)?;
     let mut octets = Vec::new(alloc);
-    write_value(true, INVOKE, &contents, &mut octets)?;
+    write_get_argument(class, name, &mut octets)?;
+    write_integer_backwards(Tag::INTEGER, M_GET, &mut octets)?;
+    write_integer_backwards(Tag::INTEGER, invoke, &mut octets)?;
+    close_value(INVOKE, 0, &mut octets)?;
+    reverse_from(0, &mut octets);
     Ok(octets)
 }

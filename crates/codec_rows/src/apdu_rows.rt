@@ -7,7 +7,7 @@ use crate::row_fault::RowFault;
 use crate::showing::{show_name, show_octets, show_oid};
 use cmip_apdus::apdu_reading::{invocation_in, title_in};
 use cmip_apdus::apdu_writing::{
-    bind_answer_frame, reply_frame, write_bind, write_frame, write_get,
+    bind_answer_frame, write_bind, write_frame, write_get, write_reply_frame,
 };
 use std::alloc::{AllocError, Global};
 use term_model::{CmisError, IdRef, Invocation, Named, Reply, Request};
@@ -94,7 +94,8 @@ fn show_reply(
     reply: &Reply,
     out: &mut String,
 ) -> Result<(), AllocError> {
-    let frame = reply_frame(alloc, invoke, operation, OWN, reply)?;
+    let mut frame = Vec::new(alloc);
+    write_reply_frame(invoke, operation, OWN, reply, &mut frame)?;
     show_octets(&frame, out)
 }
 

@@ -3,8 +3,9 @@
 use crate::reading;
 use crate::row_fault::RowFault;
 use crate::showing::show_octets;
-use ber_tree::value_writing::write_oid;
-use op_object::object_reading::{attribute_set, get_one, write_instance, write_members};
+use ber_tree::tree_writing::reverse_from;
+use ber_tree::value_writing::write_oid_backwards;
+use op_object::object_reading::{attribute_set, get_one, write_instance};
 use op_object::property_lists::readable_attributes;
 use std::alloc::Global;
 use term_model::{Attribute, Attrs, Object, Oids, Set};
@@ -40,20 +41,8 @@ fn attributes(alloc: Global, text: &str) -> Result<Attrs, RowFault> {
 fn write_instance_row(alloc: Global, text: &str, out: &mut String) -> Result<(), RowFault> {
     let name = reading::name(alloc, text)?;
     let mut into = Vec::new(alloc);
-    write_instance(alloc, &name.parts, &mut into)?;
-    Ok(show_octets(&into, out)?)
-}
-
-/// Members of a SET OF in their order.
-fn write_members_row(alloc: Global, text: &str, out: &mut String) -> Result<(), RowFault> {
-    let mut members = Vec::new(alloc);
-    for text in text.split(',') {
-        if !text.trim().is_empty() {
-            members.push(reading::bytes(alloc, text)?)?;
-        }
-    }
-    let mut into = Vec::new(alloc);
-    write_members(members, &mut into)?;
+    write_instance(&name.parts, &mut into)?;
+    reverse_from(0, &mut into);
     Ok(show_octets(&into, out)?)
 }
 
@@ -75,7 +64,9 @@ fn readable_row(alloc: Global, schema: &Set, text: &str, out: &mut String) -> Re
     let ids = readable_attributes(alloc, schema, &class)?;
     let mut into = Vec::new(alloc);
     for id in &ids {
-        write_oid(alloc, Tag::OBJECT_IDENTIFIER, id, &mut into)?;
+        let start = into.len();
+        write_oid_backwards(Tag::OBJECT_IDENTIFIER, id, &mut into)?;
+        reverse_from(start, &mut into);
     }
     Ok(show_octets(&into, out)?)
 }
@@ -113,7 +104,6 @@ pub fn answer(
 ) -> Result<(), RowFault> {
     match call {
         "write_instance" => write_instance_row(alloc, text, out),
-        "write_members" => write_members_row(alloc, text, out),
         "attribute_set" => attribute_set_row(alloc, schema, text, out),
         "readable_attributes" => readable_row(alloc, schema, text, out),
         "get_one" => get_one_row(alloc, schema, text, out),

@@ -72,12 +72,8 @@ fn class(alloc: Global, text: &str) -> Result<ClassRec, RowFault> {
 /// A schema that has no classes.
 pub fn empty_schema(alloc: Global) -> Set {
     Set {
-        classes: ClassRecs {
-            items: Vec::new(alloc),
-        },
-        attributes: AttrRecs {
-            items: Vec::new(alloc),
-        },
+        classes: ClassRecs::new(alloc),
+        attributes: AttrRecs::new(alloc),
         groups: GroupRecs {
             items: Vec::new(alloc),
         },
@@ -107,8 +103,8 @@ fn add_class(
     text: &str,
     out: &mut String,
 ) -> Result<(), RowFault> {
-    schema.classes.items.push(class(alloc, text)?)?;
-    Ok(write!(out, "{} classes", schema.classes.items.len())?)
+    schema.classes.push(alloc, class(alloc, text)?)?;
+    Ok(write!(out, "{} classes", schema.classes.as_slice().len())?)
 }
 
 /// An attribute whose values are INTEGERs without bounds.
@@ -134,8 +130,8 @@ fn add_attribute(
     text: &str,
     out: &mut String,
 ) -> Result<(), RowFault> {
-    schema.attributes.items.push(attribute(alloc, text)?)?;
-    Ok(write!(out, "{} attributes", schema.attributes.items.len())?)
+    schema.attributes.push(alloc, attribute(alloc, text)?)?;
+    Ok(write!(out, "{} attributes", schema.attributes.as_slice().len())?)
 }
 
 /// Appends the answer to a call.

@@ -3,7 +3,8 @@
 use crate::reading;
 use crate::row_fault::RowFault;
 use crate::showing::{show_octets, show_oid, show_tag, show_tree};
-use ber_values::encoding::encode_into;
+use ber_tree::tree_writing::reverse_from;
+use ber_values::encoding::{encode_into, write_rising};
 use std::alloc::{AllocError, Global};
 use std::cmp::Ordering;
 use term_values::{
@@ -121,6 +122,20 @@ fn encode_row(alloc: Global, text: &str, out: &mut String) -> Result<(), RowFaul
     Ok(show_octets(&into, out)?)
 }
 
+/// Members of a SET OF in their order.
+fn write_rising_row(alloc: Global, text: &str, out: &mut String) -> Result<(), RowFault> {
+    let mut members = Vec::new(alloc);
+    for text in text.split(',') {
+        if !text.trim().is_empty() {
+            members.push(reading::bytes(alloc, text)?)?;
+        }
+    }
+    let mut into = Vec::new(alloc);
+    write_rising(members, &mut into)?;
+    reverse_from(0, &mut into);
+    Ok(show_octets(&into, out)?)
+}
+
 /// Appends the answer to a call of `ber_values`.
 pub fn answer_encoding(
     alloc: Global,
@@ -130,6 +145,7 @@ pub fn answer_encoding(
 ) -> Result<(), RowFault> {
     match call {
         "encode_into" => encode_row(alloc, text, out),
+        "write_rising" => write_rising_row(alloc, text, out),
         _ => Err(RowFault::Call),
     }
 }

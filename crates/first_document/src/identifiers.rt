@@ -10,7 +10,7 @@ use crate::numbers::read_identifier;
 use crate::parts::{AttributePart, ClassPart};
 use std::alloc::Global;
 use std::collections::{BTreeMap, BTreeSet};
-use term_model::AttrRec;
+use term_model::{AttrRec, AttrRecs};
 use term_values::{Bytes, Oid, Rules, Syntax};
 use text_lex::Token;
 
@@ -43,15 +43,15 @@ fn attribute_record(alloc: Global, attribute: &AttributePart) -> Result<AttrRec,
 pub(crate) fn attribute_records(
     alloc: Global,
     attributes: &[AttributePart],
-) -> Result<Vec<AttrRec>, DocumentRefusal>
+) -> Result<AttrRecs, DocumentRefusal>
     ensures arcs { OnOk result (All HasArcs attributes.now) }
-    ensures found { IfOk result (λ records. records.items ≡ map part_record attributes.now) }
+    ensures found { IfOk result (λ records. records ≡ map part_record attributes.now) }
     ensures outside { result ≡ Err DocumentRefusal.Outside → All HasArcs attributes.now → ⊥ }
 {
-    let mut records = Vec::new(alloc);
+    let mut records = AttrRecs::new(alloc);
     for attribute in attributes {
         let made = attribute_record(alloc, attribute)?;
-        records.push(made)?;
+        records.push(alloc, made)?;
     }
     Ok(records)
 }

@@ -178,9 +178,9 @@ fn class_records(
         → AreDistinct (use_labels uses.now) → GivesEach (use_labels uses.now) (given_texts (all_given root.now)) → ⊥ }
 {
     let class = class_record(alloc, identifiers, id, labels, uses, root)?;
-    let mut items = Vec::new(alloc);
-    items.push(class)?;
-    Ok(ClassRecs { items })
+    let mut records = ClassRecs::new(alloc);
+    records.push(alloc, class)?;
+    Ok(records)
 }
 
 /// The records of the instances, of which there is the root. `Outside`: as of its record.
@@ -267,10 +267,9 @@ pub(crate) fn records_of(alloc: Global, parts: &DocumentParts) -> Result<Set, Do
     if !is_of_class {
         return Err(DocumentRefusal::Outside);
     }
-    let attributes = attribute_records(alloc, &parts.attributes)?;
+    let records = attribute_records(alloc, &parts.attributes)?;
     let id = read_identifier(alloc, &parts.class.arcs)?;
-    let identifiers = check_names(alloc, &parts.class, &id, &attributes)?;
-    let records = AttrRecs { items: attributes };
+    let identifiers = check_names(alloc, &parts.class, &id, records.as_slice())?;
     let instances = root_records(alloc, &identifiers, &records, &id, &parts.root)?;
     let system = system_name(alloc, &identifiers, &parts.root.named_by)?;
     let classes = class_records(

@@ -50,7 +50,6 @@ fn answer_get(
 
 /// Places the frame of a reply to an invoke for an association.
 fn place_frame(
-    alloc: Global,
     association: &mut Association,
     invoke: i32,
     operation: i64,
@@ -61,7 +60,6 @@ fn place_frame(
 {
     let own = association.next_own;
     write_reply_frame(
-        alloc,
         i64::from(invoke),
         operation,
         own,
@@ -74,7 +72,6 @@ fn place_frame(
 
 /// Places the frame of a reply to an invoke for the association under this number, where there is one.
 fn place_reply(
-    alloc: Global,
     agent: &mut AgentState,
     number: u64,
     invoke: i32,
@@ -89,7 +86,7 @@ fn place_reply(
     let at = number.saturating_sub(1) as usize;
     if at < agent.associations.items.len() {
         let association = &mut agent.associations.items[at];
-        place_frame(alloc, association, invoke, operation, reply)?;
+        place_frame(association, invoke, operation, reply)?;
     }
     Ok(())
 }
@@ -126,7 +123,7 @@ fn carry_out(
             let (association, invoke) = (*association, *invoke);
             let Request::Get { head } = request;
             let reply = answer_get(alloc, &agent.schema, &agent.objects, &head.base, time)?;
-            place_reply(alloc, agent, association, invoke, M_GET, &reply)
+            place_reply(agent, association, invoke, M_GET, &reply)
         }
     }
 }

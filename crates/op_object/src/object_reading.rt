@@ -1,13 +1,17 @@
-//! What a Get does to one object: X.711, section 7.4.
+//! What a Get does to one object: X.711, section 7.4. The result is written with its last octet first, so that the
+//! length of each part is known when its header is written.
+#![tactic(auto, using(ber_tree::proofs::Extending::extending))]
 
-ghost use Rattle.std.specs.Prelude.{◌≡◌, ◌++◌, IfOk, OnOk, IsTrue, map, flat_map};
-ghost use Rattle.term_model.specs.GetRequest.{class_octets, instance_octets, rdn_octets};
+ghost use Rattle.std.specs.Prelude.{◌≡◌, ◌++◌, IfOk, OnOk, flat_map, map, reverse, true};
+ghost use Rattle.ber_tree.specs.Writing.{Extends};
+ghost use Rattle.term_values.specs.Rearranged.{joined, rising};
+ghost use Rattle.term_model.specs.GetRequest.{assertion_octets, class_octets, instance_octets, rdn_octets};
 ghost use Rattle.term_model.specs.ObjectOperation.{attribute_octets, attributes_octets, get_one, readable, time_octets, value_octets};
-ghost use Rattle.term_model.specs.Rising.{rising};
 
-use crate::property_lists::{readable_attributes, syntax_of};
-use ber_tree::value_writing::{write_oid, write_value};
-use ber_values::encoding::encode_into;
+use crate::property_lists::readable_attributes;
+use ber_tree::tree_writing::{reverse_from, write_backwards, write_header_backwards};
+use ber_tree::value_writing::{write_oid_backwards, write_value_backwards};
+use ber_values::encoding::{encode_backwards, write_rising};
 use std::alloc::{AllocError, Global};
 use term_model::{AttrRecs, Attribute, Attrs, Object, Rdn, Set};
 use term_values::tag::CONTEXT;
@@ -37,22 +41,42 @@ const ATTRIBUTE_LIST: Tag = Tag {
     number: 6,
 };
 
-/// Appends the written encoding of an attribute's value; one without a record has none.
+/// Appends the written encoding of an attribute's value, the last octet first; one without a record has none.
 fn write_attribute_value(
     alloc: Global,
     records: &AttrRecs,
     attribute: &Attribute,
     into: &mut Vec<u8>,
 ) -> Result<(), AllocError>
-    ensures { OnOk result (into.new.items ≡ into.old.items ++ value_octets records.now attribute.now) }
+    ensures written { OnOk result
+        (into.new.items ≡ into.old.items ++ reverse (value_octets records.now attribute.now)) }
+    ensures begun { Extends into.old.items into.new.items }
 {
-    match syntax_of(records, &attribute.id) {
-        Some(syntax) => encode_into(alloc, syntax, &attribute.value, into),
+    match records.find(&attribute.id) {
+        Some(found) => encode_backwards(alloc, &found.syntax, &attribute.value, into),
         None => Ok(()),
     }
 }
 
-/// An Attribute: its identifier in globalForm and its value.
+/// Appends an Attribute, the last octet first: its identifier in globalForm and its value.
+fn write_attribute(
+    alloc: Global,
+    records: &AttrRecs,
+    attribute: &Attribute,
+    into: &mut Vec<u8>,
+) -> Result<(), AllocError>
+    ensures written { OnOk result
+        (into.new.items ≡ into.old.items ++ reverse (attribute_octets records.now attribute.now)) }
+    ensures begun { Extends into.old.items into.new.items }
+{
+    let start = into.as_slice().len();
+    write_attribute_value(alloc, records, attribute, into)?;
+    write_oid_backwards(GLOBAL_FORM, &attribute.id, into)?;
+    let size = into.as_slice().len() - start;
+    write_header_backwards(true, Tag::SEQUENCE, size, into)
+}
+
+/// The octets of an Attribute.
 fn attribute_octets(
     alloc: Global,
     records: &AttrRecs,
@@ -60,23 +84,10 @@ fn attribute_octets(
 ) -> Result<Bytes, AllocError>
     ensures { IfOk result (λ octets. octets ≡ attribute_octets records.now attribute.now) }
 {
-    let mut contents = Vec::new(alloc);
-    write_oid(alloc, GLOBAL_FORM, &attribute.id, &mut contents)?;
-    write_attribute_value(alloc, records, attribute, &mut contents)?;
     let mut items = Vec::new(alloc);
-    write_value(true, Tag::SEQUENCE, &contents, &mut items)?;
+    write_attribute(alloc, records, attribute, &mut items)?;
+    reverse_from(0, &mut items);
     Ok(Bytes { items })
-}
-
-/// Appends encodings as the contents of a SET OF, in rising order: X.690, section 11.6.
-pub fn write_members(mut members: Vec<Bytes>, into: &mut Vec<u8>) -> Result<(), AllocError>
-    ensures { OnOk result (into.new.items ≡ into.old.items ++ flat_map (λ member. member) (rising members.items)) }
-{
-    members.sort()?;
-    for member in &members {
-        into.extend_from_slice(member.as_slice())?;
-    }
-    Ok(())
 }
 
 /// The octets of attributes as the contents of a SET OF Attribute.
@@ -86,21 +97,26 @@ pub fn attribute_set(
     attrs: &Attrs,
 ) -> Result<Vec<u8>, AllocError>
     ensures { IfOk result (λ octets. octets.items
-        ≡ flat_map (λ member. member) (rising (map (attribute_octets records.now) attrs.now))) }
+        ≡ joined (rising (map (attribute_octets records.now) attrs.now))) }
 {
     let mut members = Vec::new(alloc);
     for attribute in &attrs.items {
         members.push(attribute_octets(alloc, records, attribute)?)?;
     }
     let mut contents = Vec::new(alloc);
-    write_members(members, &mut contents)?;
+    write_rising(members, &mut contents)?;
+    reverse_from(0, &mut contents);
     Ok(contents)
 }
 
-/// The octets of the attributes that a Get without a list gives, as the contents of a SET OF Attribute.
-fn readable_set(alloc: Global, schema: &Set, object: &Object) -> Result<Vec<u8>, AllocError>
-    ensures { IfOk result (λ octets. octets.items
-        ≡ flat_map (λ member. member) (rising (map (attribute_octets schema.now.attributes) (readable schema.now object.now)))) }
+/// The octets of each attribute that a Get without a list gives.
+fn readable_members(
+    alloc: Global,
+    schema: &Set,
+    object: &Object,
+) -> Result<Vec<Bytes>, AllocError>
+    ensures { IfOk result (λ members. members.items
+        ≡ map (attribute_octets schema.now.attributes) (readable schema.now object.now)) }
 {
     let ids = readable_attributes(alloc, schema, &object.class)?;
     let mut members = Vec::new(alloc);
@@ -109,77 +125,113 @@ fn readable_set(alloc: Global, schema: &Set, object: &Object) -> Result<Vec<u8>,
             members.push(attribute_octets(alloc, &schema.attributes, attribute)?)?;
         }
     }
-    let mut contents = Vec::new(alloc);
-    write_members(members, &mut contents)?;
-    Ok(contents)
+    Ok(members)
 }
 
-/// Appends an RDN of one assertion.
-fn write_rdn(alloc: Global, rdn: &Rdn, into: &mut Vec<u8>) -> Result<(), AllocError>
-    ensures { OnOk result (into.new.items ≡ into.old.items ++ rdn_octets rdn.now) }
+/// Appends the assertion of an RDN, the last octet first.
+fn write_assertion(rdn: &Rdn, into: &mut Vec<u8>) -> Result<(), AllocError>
+    ensures written { OnOk result
+        (into.new.items ≡ into.old.items ++ reverse (assertion_octets rdn.now)) }
+    ensures begun { Extends into.old.items into.new.items }
 {
-    let mut assertion = Vec::new(alloc);
-    write_oid(
-        alloc,
-        Tag::OBJECT_IDENTIFIER,
-        &rdn.attribute,
-        &mut assertion,
-    )?;
-    assertion.extend_from_slice(rdn.value.as_slice())?;
-    let mut inside = Vec::new(alloc);
-    write_value(true, Tag::SEQUENCE, &assertion, &mut inside)?;
-    write_value(true, Tag::SET, &inside, into)
+    let start = into.as_slice().len();
+    write_backwards(rdn.value.as_slice(), into)?;
+    write_oid_backwards(Tag::OBJECT_IDENTIFIER, &rdn.attribute, into)?;
+    let size = into.as_slice().len() - start;
+    write_header_backwards(true, Tag::SEQUENCE, size, into)
 }
 
-/// Appends an ObjectInstance in localDistinguishedName.
-pub fn write_instance(alloc: Global, name: &[Rdn], into: &mut Vec<u8>) -> Result<(), AllocError>
-    ensures { OnOk result (into.new.items ≡ into.old.items ++ instance_octets name.now) }
+/// Appends an RDN of one assertion, the last octet first.
+fn write_rdn(rdn: &Rdn, into: &mut Vec<u8>) -> Result<(), AllocError>
+    ensures written { OnOk result (into.new.items ≡ into.old.items ++ reverse (rdn_octets rdn.now)) }
+    ensures begun { Extends into.old.items into.new.items }
 {
-    let mut rdns = Vec::new(alloc);
-    for rdn in name {
-        write_rdn(alloc, rdn, &mut rdns)?;
+    let start = into.as_slice().len();
+    write_assertion(rdn, into)?;
+    let size = into.as_slice().len() - start;
+    write_header_backwards(true, Tag::SET, size, into)
+}
+
+/// Appends the RDNs of a name, the last octet first.
+fn write_rdns(name: &[Rdn], into: &mut Vec<u8>) -> Result<(), AllocError>
+    ensures written { OnOk result
+        (into.new.items ≡ into.old.items ++ reverse (flat_map rdn_octets name.now)) }
+    ensures begun { Extends into.old.items into.new.items }
+{
+    for i in (0..name.len()).rev() {
+        write_rdn(&name[i], into)?;
     }
-    write_value(true, LOCAL_DISTINGUISHED_NAME, &rdns, into)
+    Ok(())
 }
 
-/// Appends the time of a result, as GeneralizedTime.
-fn write_time(time: &[u8], into: &mut Vec<u8>) -> Result<(), AllocError>
-    ensures { OnOk result (into.new.items ≡ into.old.items ++ time_octets time.now) }
+/// Appends an ObjectInstance in localDistinguishedName, the last octet first.
+pub fn write_instance(name: &[Rdn], into: &mut Vec<u8>) -> Result<(), AllocError>
+    ensures written { OnOk result
+        (into.new.items ≡ into.old.items ++ reverse (instance_octets name.now)) }
+    ensures begun { Extends into.old.items into.new.items }
 {
-    write_value(false, CURRENT_TIME, time, into)
+    let start = into.as_slice().len();
+    write_rdns(name, into)?;
+    let size = into.as_slice().len() - start;
+    write_header_backwards(true, LOCAL_DISTINGUISHED_NAME, size, into)
 }
 
-/// Appends the attributes that a Get without a list gives.
+/// Appends the attributes that a Get without a list gives, the last octet first.
 fn write_attributes(
     alloc: Global,
     schema: &Set,
     object: &Object,
     into: &mut Vec<u8>,
 ) -> Result<(), AllocError>
-    ensures { OnOk result (into.new.items ≡ into.old.items ++ attributes_octets schema.now.attributes (readable schema.now object.now)) }
+    ensures written { OnOk result (into.new.items
+        ≡ into.old.items ++ reverse (attributes_octets schema.now.attributes (readable schema.now object.now))) }
+    ensures begun { Extends into.old.items into.new.items }
 {
-    let attributes = readable_set(alloc, schema, object)?;
-    write_value(true, ATTRIBUTE_LIST, &attributes, into)
+    let start = into.as_slice().len();
+    let members = readable_members(alloc, schema, object)?;
+    write_rising(members, into)?;
+    let size = into.as_slice().len() - start;
+    write_header_backwards(true, ATTRIBUTE_LIST, size, into)
 }
 
-/// What stands in the GetResult of an object, granted at the moment that `time` tells.
-fn result_contents(
+/// Appends what stands in the GetResult of an object, granted at the moment that `time` tells, the last octet first.
+fn write_result_contents(
     alloc: Global,
     schema: &Set,
     name: &[Rdn],
     object: &Object,
     time: &[u8],
-) -> Result<Vec<u8>, AllocError>
-    ensures { IfOk result (λ octets. octets.items
-        ≡ class_octets object.now.class ++ (instance_octets name.now ++ (time_octets time.now
-        ++ attributes_octets schema.now.attributes (readable schema.now object.now)))) }
+    into: &mut Vec<u8>,
+) -> Result<(), AllocError>
+    ensures written { OnOk result (into.new.items ≡ into.old.items
+        ++ reverse (class_octets object.now.class ++ (instance_octets name.now ++ (time_octets time.now
+        ++ attributes_octets schema.now.attributes (readable schema.now object.now))))) }
+    ensures begun { Extends into.old.items into.new.items }
 {
-    let mut contents = Vec::new(alloc);
-    write_oid(alloc, GLOBAL_FORM, &object.class, &mut contents)?;
-    write_instance(alloc, name, &mut contents)?;
-    write_time(time, &mut contents)?;
-    write_attributes(alloc, schema, object, &mut contents)?;
-    Ok(contents)
+    write_attributes(alloc, schema, object, into)?;
+    write_value_backwards(false, CURRENT_TIME, time, into)?;
+    write_instance(name, into)?;
+    write_oid_backwards(GLOBAL_FORM, &object.class, into)?;
+    Ok(())
+}
+
+/// Appends the GetResult of an object, granted at the moment that `time` tells as GeneralizedTime, the last octet first.
+fn write_result(
+    alloc: Global,
+    schema: &Set,
+    name: &[Rdn],
+    object: &Object,
+    time: &[u8],
+    into: &mut Vec<u8>,
+) -> Result<(), AllocError>
+    ensures written { OnOk result (into.new.items
+        ≡ into.old.items ++ reverse (get_one schema.now name.now object.now time.now)) }
+    ensures begun { Extends into.old.items into.new.items }
+{
+    let start = into.as_slice().len();
+    write_result_contents(alloc, schema, name, object, time, into)?;
+    let size = into.as_slice().len() - start;
+    write_header_backwards(true, Tag::SEQUENCE, size, into)
 }
 
 /// The GetResult of an object, granted at the moment that `time` tells as GeneralizedTime.
@@ -192,8 +244,8 @@ pub fn get_one(
 ) -> Result<Bytes, AllocError>
     ensures { IfOk result (λ octets. octets ≡ get_one schema.now name.now object.now time.now) }
 {
-    let contents = result_contents(alloc, schema, name, object, time)?;
     let mut items = Vec::new(alloc);
-    write_value(true, Tag::SEQUENCE, &contents, &mut items)?;
+    write_result(alloc, schema, name, object, time, &mut items)?;
+    reverse_from(0, &mut items);
     Ok(Bytes { items })
 }

@@ -5,24 +5,12 @@ ghost use Rattle.std.specs.BTreeSet.{contains};
 ghost use Rattle.std.specs.Cmp.Lexicographic.{slice_cmp};
 ghost use Rattle.std.specs.List.{list_any};
 ghost use Rattle.std.specs.Ordering.{nat_cmp};
-ghost use Rattle.term_model.specs.declared.schema.AttrRec.{AttrRec};
-ghost use Rattle.term_model.specs.ObjectOperation.{attribute_record, is_readable, lets_read};
-ghost use Rattle.std.specs.Option.{option_copied, option_map};
+ghost use Rattle.term_model.specs.ObjectOperation.{is_readable, lets_read};
 
 use std::alloc::{AllocError, Global};
 use std::collections::BTreeSet;
-use term_model::{AttrRecs, Property, Set};
-use term_values::{Oid, Syntax};
-
-/// The syntax of an attribute, where it has a record.
-pub fn syntax_of<'a>(records: &'a AttrRecs, attribute: &Oid) -> Option<&'a Syntax>
-    ensures { option_copied result ≡ option_map (λ (of_attribute : AttrRec). of_attribute.syntax)
-        (attribute_record records.now attribute.now) }
-{
-    let attributes = records.items.as_slice();
-    let record = attributes.iter().find(|record| record.id == *attribute)?;
-    Some(&record.syntax)
-}
+use term_model::{Property, Set};
+use term_values::Oid;
 
 /// Adds the attribute of a property that lets managers read it.
 fn add_property(
@@ -64,10 +52,8 @@ pub fn readable_attributes(
     ensures { IfOk result (λ ids. (q : List ℕ) → contains (slice_cmp nat_cmp) ids q ≡ is_readable schema.now class.now q) }
 {
     let mut ids = BTreeSet::new(alloc);
-    for record in &schema.classes.items {
-        if record.id == *class {
-            add_properties(alloc, &record.properties.items, &mut ids)?;
-        }
+    if let Some(record) = schema.classes.find(class) {
+        add_properties(alloc, &record.properties.items, &mut ids)?;
     }
     Ok(ids)
 }

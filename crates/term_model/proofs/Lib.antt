@@ -3,8 +3,9 @@ pub mod FindingLaws
 pub mod FrameLaws
 pub mod HistoryLaws
 mod ObeyingFacts
+pub mod MapLaws
 pub mod ObjectLaws
-pub mod RisingLaws
+pub mod PlaceLaws
 pub mod ScriptLaws
 mod StandardFacts
 pub mod StepLaws

@@ -78,10 +78,11 @@ abbrev pub invocation_in : List ℕ → Option Invocation
 invocation_in bytes = option_and_then invocation_by (option_and_then invoke_of (tree_in bytes))
 
 -- the written encoding of names
+abbrev pub assertion_octets : Rdn → List ℕ
+assertion_octets rdn = encoded true (universal 16) (encoded false (universal 6) (oid_contents rdn.attribute) ++ rdn.value)
+
 abbrev pub rdn_octets : Rdn → List ℕ
-rdn_octets rdn =
-    encoded true (universal 17)
-    (encoded true (universal 16) (encoded false (universal 6) (oid_contents rdn.attribute) ++ rdn.value))
+rdn_octets rdn = encoded true (universal 17) (assertion_octets rdn)
 
 abbrev pub instance_octets : List Rdn → List ℕ
 instance_octets name = encoded true local_distinguished_name (flat_map rdn_octets name)

@@ -8,6 +8,7 @@ pub mod GetRequest
 pub mod History
 pub mod Inheritance
 pub mod JournalLaws
+pub mod MapLaws
 pub mod Moment
 pub mod NameLaws
 pub mod NameOrder
@@ -15,9 +16,9 @@ pub mod NamedObjects
 pub mod ObjectOperation
 pub mod Operation
 pub mod Parts
+pub mod Places
 pub mod Played
 pub mod RemoteOperation
-pub mod Rising
 pub mod Settled
 pub mod Step
 pub mod TextLaws

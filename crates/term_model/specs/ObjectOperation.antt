@@ -1,10 +1,11 @@
 -- What a request does to one object: X.711, section 7.4.
-use Rattle.std.specs.Prelude.{ℕ, List, [], ◌++◌, Bool, true, false, ◌&&◌, filter, find, map, flat_map, Option}
+use Rattle.std.specs.Prelude.{ℕ, List, [], ◌++◌, Bool, true, false, ◌&&◌, filter, find, map, Option}
 use Rattle.std.specs.List.{list_any}
 use Rattle.std.specs.Option.{option_map_or}
 use Rattle.term_values.specs.declared.tag.Tag.{Tag}
 use Rattle.term_values.specs.Der.{encoded}
 use Rattle.term_values.specs.Oid.{oid_contents}
+use Rattle.term_values.specs.Rearranged.{joined, rising}
 use Rattle.term_values.specs.Tag.{context, universal}
 use Rattle.term_values.specs.Written.{der}
 use Rattle.term_model.specs.declared.name.Rdn.{Rdn}
@@ -16,16 +17,19 @@ use Rattle.term_model.specs.declared.schema.ClassRec.{ClassRec}
 use Rattle.term_model.specs.declared.schema.Set.{Set}
 use Rattle.term_model.specs.Comparing.{is_same_oid}
 use Rattle.term_model.specs.GetRequest.{class_octets, instance_octets, global_form}
-use Rattle.term_model.specs.Rising.{rising}
 
 -- managers may read the attribute of an object of this class
 abbrev pub lets_read : List ℕ → Property → Bool
 lets_read attribute property = property.get && is_same_oid property.attribute attribute
 
+-- the record of a class
+abbrev pub class_record : List ClassRec → List ℕ → Option ClassRec
+class_record records class = find (λ (of_class : ClassRec). is_same_oid of_class.id class) records
+
 abbrev pub is_readable : Set → List ℕ → List ℕ → Bool
 is_readable schema class attribute =
-    list_any (λ (of_class : ClassRec). is_same_oid of_class.id class && list_any (lets_read attribute) of_class.properties)
-    schema.classes
+    option_map_or (λ (of_class : ClassRec). list_any (lets_read attribute) of_class.properties)
+    (class_record schema.classes class) false
 
 -- the record of an attribute
 abbrev pub attribute_record : List AttrRec → List ℕ → Option AttrRec
@@ -55,7 +59,7 @@ attribute_list = context 6
 -- SET OF Attribute, implicitly tagged
 abbrev pub attributes_octets : List AttrRec → List Attribute → List ℕ
 attributes_octets records attributes =
-    encoded true attribute_list (flat_map (λ member. member) (rising (map (attribute_octets records) attributes)))
+    encoded true attribute_list (joined (rising (map (attribute_octets records) attributes)))
 
 -- currentTime, a moment's text, implicitly tagged
 abbrev pub time_octets : List ℕ → List ℕ
@@ -71,4 +75,4 @@ get_one schema name object time =
 -- an object's encoding as SET OF Attribute, which its size is measured by
 abbrev pub object_octets : List AttrRec → Object → List ℕ
 object_octets records object =
-    encoded true (universal 17) (flat_map (λ member. member) (rising (map (attribute_octets records) object.attrs)))
+    encoded true (universal 17) (joined (rising (map (attribute_octets records) object.attrs)))

@@ -25,7 +25,6 @@ use Rattle.term_model.specs.Arriving.Arriving.{Rejected, Cancels, NoEffect, Queu
 use Rattle.term_model.specs.Bind.{title_in, bind_answer, accepted, bad_bind}
 use Rattle.term_model.specs.declared.reply.Reply.{Reply}
 use Rattle.term_model.specs.declared.request.Invocation.{Invocation}
-use Rattle.term_model.specs.declared.request.Request.{Request}
 use Rattle.term_model.specs.declared.request.Request.TheVariants.{Get}
 use Rattle.term_model.specs.Operation.{exec, operation_number, replied}
 use Rattle.term_model.specs.RemoteOperation.{empty_result_apdu, error_apdu, frame, integer, reject_apdu}

@@ -1,6 +1,7 @@
-//! Laws of journals, each as the contract of a function that does nothing.
+//! Laws of journals and of the map of objects, each as the contract of a function that does nothing.
 
 ghost use Rattle.term_model.specs.JournalLaws.{LegalGoesOn, PlacedStays, ReplayGoesOn, ReplayStepsOn, ScriptFrames, ScriptReplays};
+ghost use Rattle.term_model.specs.MapLaws.{EqualMaps, NamesRise, OthersStay, StoredIsFound};
 ghost use Rattle.term_model.specs.TextLaws.{PrintTellsJournal, TextsDiffer};
 
 /// A journal that follows another is replayed from the state that the other one came to.
@@ -41,4 +42,24 @@ pub fn texts_differ()
 /// What stands in front of the line of two dashes is the text of one journal alone, whatever stands behind it.
 pub fn print_tells_journal()
     ensures { PrintTellsJournal }
+{}
+
+/// Under its name stands the object that was stored last.
+pub fn stored_is_found()
+    ensures { StoredIsFound }
+{}
+
+/// Under each other name than the stored one stands what stood there.
+pub fn others_stay()
+    ensures { OthersStay }
+{}
+
+/// The names of the map rise before and behind a storing.
+pub fn names_rise()
+    ensures { NamesRise }
+{}
+
+/// Maps that have the same object under each name are the same list.
+pub fn equal_maps()
+    ensures { EqualMaps }
 {}

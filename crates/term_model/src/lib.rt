@@ -4,6 +4,8 @@
 
 pub mod actions;
 pub mod agent_state;
+pub mod attribute_records;
+pub mod class_records;
 pub mod entry;
 pub mod event;
 pub mod laws;
@@ -13,6 +15,7 @@ pub mod name_binding;
 pub mod object;
 pub mod objects;
 pub mod packages;
+pub(crate) mod places;
 pub mod reply;
 pub mod request;
 pub mod rule;
@@ -23,6 +26,8 @@ pub use agent_state::{
     AgentState, Association, AssociationState, Associations, Operation, OperationState, Operations,
     Work,
 };
+pub use attribute_records::AttrRecs;
+pub use class_records::ClassRecs;
 pub use entry::{Entries, Entry, Why};
 pub use event::{Event, Events, WaitingRecord, WaitingRecords};
 pub use limits::Limits;
@@ -36,6 +41,4 @@ pub use packages::{
 pub use reply::{CmisError, Reply};
 pub use request::{Head, IdRef, Instance, Invocation, Named, Request};
 pub use rule::{RuleRec, RuleRecs, RuleStep, RuleSteps};
-pub use schema::{
-    AttrRec, AttrRecs, ClassRec, ClassRecs, GroupRec, GroupRecs, InstRec, InstRecs, Set, SystemName,
-};
+pub use schema::{AttrRec, ClassRec, GroupRec, GroupRecs, InstRec, InstRecs, Set, SystemName};

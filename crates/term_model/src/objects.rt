@@ -5,7 +5,7 @@ ghost use Rattle.std.specs.Option.{option_copied};
 ghost use Rattle.std.specs.Ordering.{is_gt};
 ghost use Rattle.term_model.specs.declared.objects.NamedObject.{NamedObject};
 ghost use Rattle.term_model.specs.NameOrder.{name_cmp};
-ghost use Rattle.term_model.specs.NamedObjects.{is_named_at, object_at, stored};
+ghost use Rattle.term_model.specs.NamedObjects.{IsByName, is_named_at, object_at, stored};
 
 use crate::name::Name;
 use crate::object::Object;
@@ -33,12 +33,15 @@ impl Model for Objects {
     ghost use Rattle.std.specs.Coded.{codes};
     ghost use Rattle.term_values.specs.Typed.{value_code};
     ghost use Rattle.term_model.specs.declared.objects.NamedObject.{NamedObject};
+    ghost use Rattle.term_model.specs.NamedObjects.{IsByName};
 
     ghost Value = { List NamedObject };
 
     ghost coded = { Prim.hlevel (codes, value_code) };
 
     ghost view = { λ objects. objects.items.items };
+
+    ghost invariant = { λ objects. IsByName objects.items.items };
 }
 
 impl Objects {
@@ -53,7 +56,8 @@ impl Objects {
 
     /// The objects by rising name.
     pub fn as_slice(&self) -> &[NamedObject]
-        ensures { result.now ≡ self.now }
+        ensures objects { result.now ≡ self.now }
+        ensures rising { IsByName self.now }
     {
         self.items.as_slice()
     }

@@ -1,6 +1,8 @@
 //! The records that documents define: X.722.
 
 use crate::actions::{ActRecs, NoteRecs};
+use crate::attribute_records::AttrRecs;
+use crate::class_records::ClassRecs;
 use crate::name::Name;
 use crate::name_binding::BindRecs;
 use crate::object::{Attrs, Oids};
@@ -20,26 +22,6 @@ pub struct AttrRec {
     pub syntax: Syntax,
     /// The rules by which its values match.
     pub rules: Rules,
-}
-
-/// Attributes in the order of their documents.
-#[derive(Drop)]
-pub struct AttrRecs {
-    /// The records.
-    pub items: Vec<AttrRec>,
-}
-
-impl Model for AttrRecs {
-    ghost use Rattle.std.specs.Prelude.{List};
-    ghost use Rattle.std.specs.Coded.{codes};
-    ghost use Rattle.term_values.specs.SyntaxCode.{syntax_code};
-    ghost use Rattle.term_model.specs.declared.schema.AttrRec.{AttrRec};
-
-    ghost Value = { List AttrRec };
-
-    ghost coded = { Prim.hlevel (codes, syntax_code) };
-
-    ghost view = { λ list. list.items.items };
 }
 
 /// An attribute group: X.722, section 8.8.
@@ -86,27 +68,6 @@ pub struct ClassRec {
     pub conditional: PackageRecs,
     /// The properties of each attribute, joined over all packages of the class and of the classes from which it derives.
     pub properties: Properties,
-}
-
-/// Classes in the order of their documents.
-#[derive(Drop)]
-pub struct ClassRecs {
-    /// The records.
-    pub items: Vec<ClassRec>,
-}
-
-impl Model for ClassRecs {
-    ghost use Rattle.std.specs.Prelude.{List};
-    ghost use Rattle.std.specs.Coded.{codes};
-    ghost use Rattle.term_values.specs.SyntaxCode.{syntax_code};
-    ghost use Rattle.term_values.specs.Typed.{value_code};
-    ghost use Rattle.term_model.specs.declared.schema.ClassRec.{ClassRec};
-
-    ghost Value = { List ClassRec };
-
-    ghost coded = { Prim.hlevel (codes, value_code, syntax_code) };
-
-    ghost view = { λ list. list.items.items };
 }
 
 /// An object that is there at the opening; INSTANCES sections are this project's own.

@@ -6,5 +6,5 @@ use Rattle.first_document.proofs.identifiers.attribute_records.Given as goal
 abbrev pub invariant-loop-attribute : goal.invariant-loop-attribute
 invariant-loop-attribute l = record {
   each : All HasArcs (take l.attribute-index l.attributes);
-  made : l.records.items ≡ map part_record (take l.attribute-index l.attributes);
+  made : l.records ≡ map part_record (take l.attribute-index l.attributes);
 }

@@ -21,10 +21,10 @@ pub returns-then-not-is_of_class-clause-outside : goal.returns-then-not-is_of_cl
 returns-then-not-is_of_class-clause-outside c =
     λ e consistent. false≢true (sym c.if-not-is_of_class.true ∙ c.is_same_text-is_of_class.ensures.1 consistent.class_named)
 
-pub returns-in_err-attributes-clause-outside : goal.returns-in_err-attributes-clause-outside
-returns-in_err-attributes-clause-outside c =
+pub returns-in_err-records-clause-outside : goal.returns-in_err-records-clause-outside
+returns-in_err-records-clause-outside c =
     λ e consistent.
-    c.in_err-attributes.ensures.outside (first_of (search rules, grind arith))
+    c.in_err-records.ensures.outside (first_of (search rules, grind arith))
     (subst (All HasArcs) (sym c.deref-2.ensures.value) (all_registered c.args.parts.now consistent))
 
 pub returns-in_err-id-clause-outside : goal.returns-in_err-id-clause-outside
@@ -37,32 +37,32 @@ pub returns-in_err-identifiers-clause-outside : goal.returns-in_err-identifiers-
 returns-in_err-identifiers-clause-outside c =
     λ e consistent.
     let parts = c.args.parts.now in
-    let records = c.in_ok-attributes.attributes.items in
-    let made : records ≡ map part_record parts.attributes.items = c.in_ok-attributes.ensures.found ∙ ap (map part_record) c.deref-2.ensures.value in
+    let records = c.in_ok-records.records in
+    let made : records ≡ map part_record parts.attributes.items = c.in_ok-records.ensures.found ∙ ap (map part_record) c.deref-2.ensures.value in
     let id = c.in_ok-id.id in
     let class : id ≡ arcs_of parts.class.arcs.items = c.in_ok-id.ensures.found.1 ∙ ap arcs_of c.deref-3.ensures.value in
     c.in_err-identifiers.ensures.outside (first_of (search rules, grind arith))
-    (subst (λ l. AreDistinct (parts.class.label.text ∷ parts.class.package.text ∷ record_labels l)) (sym c.deref-4.ensures.value) (labels_differ parts records made consistent))
-    (subst (λ l. AreDistinct (id ∷ record_ids l)) (sym c.deref-4.ensures.value) (ids_differ parts records id made class consistent))
+    (subst (λ l. AreDistinct (parts.class.label.text ∷ parts.class.package.text ∷ record_labels l)) (sym c.as_slice.ensures) (labels_differ parts records made consistent))
+    (subst (λ l. AreDistinct (id ∷ record_ids l)) (sym c.as_slice.ensures) (ids_differ parts records id made class consistent))
 
 pub returns-in_err-instances-clause-outside : goal.returns-in_err-instances-clause-outside
 returns-in_err-instances-clause-outside c =
     λ e consistent.
     let parts = c.args.parts.now in
-    let records = c.in_ok-attributes.attributes.items in
-    let made : records ≡ map part_record parts.attributes.items = c.in_ok-attributes.ensures.found ∙ ap (map part_record) c.deref-2.ensures.value in
+    let records = c.in_ok-records.records in
+    let made : records ≡ map part_record parts.attributes.items = c.in_ok-records.ensures.found ∙ ap (map part_record) c.deref-2.ensures.value in
     let identifiers = c.in_ok-identifiers.identifiers in
-    let index = index_is parts identifiers records made (subst (IsIndex identifiers) c.deref-4.ensures.value c.in_ok-identifiers.ensures.found) in
+    let index = index_is parts identifiers records made (subst (IsIndex identifiers) c.as_slice.ensures c.in_ok-identifiers.ensures.found) in
     c.in_err-instances.ensures.outside (first_of (search rules, grind arith)) (all_givable parts identifiers index consistent) (root_small parts records identifiers made index consistent)
 
 pub returns-in_err-system-clause-outside : goal.returns-in_err-system-clause-outside
 returns-in_err-system-clause-outside c =
     λ e consistent.
     let parts = c.args.parts.now in
-    let records = c.in_ok-attributes.attributes.items in
-    let made : records ≡ map part_record parts.attributes.items = c.in_ok-attributes.ensures.found ∙ ap (map part_record) c.deref-2.ensures.value in
+    let records = c.in_ok-records.records in
+    let made : records ≡ map part_record parts.attributes.items = c.in_ok-records.ensures.found ∙ ap (map part_record) c.deref-2.ensures.value in
     let identifiers = c.in_ok-identifiers.identifiers in
-    let index = index_is parts identifiers records made (subst (IsIndex identifiers) c.deref-4.ensures.value c.in_ok-identifiers.ensures.found) in
+    let index = index_is parts identifiers records made (subst (IsIndex identifiers) c.as_slice.ensures c.in_ok-identifiers.ensures.found) in
     c.in_err-system.ensures.outside (first_of (search rules, grind arith))
     (All-head (IsGivable identifiers) parts.root.named_by parts.root.others.items (all_givable parts identifiers index consistent))
 
@@ -70,38 +70,38 @@ pub returns-in_err-classes-clause-outside : goal.returns-in_err-classes-clause-o
 returns-in_err-classes-clause-outside c =
     λ e consistent.
     let parts = c.args.parts.now in
-    let records = c.in_ok-attributes.attributes.items in
-    let made : records ≡ map part_record parts.attributes.items = c.in_ok-attributes.ensures.found ∙ ap (map part_record) c.deref-2.ensures.value in
+    let records = c.in_ok-records.records in
+    let made : records ≡ map part_record parts.attributes.items = c.in_ok-records.ensures.found ∙ ap (map part_record) c.deref-2.ensures.value in
     let identifiers = c.in_ok-identifiers.identifiers in
-    let index = index_is parts identifiers records made (subst (IsIndex identifiers) c.deref-4.ensures.value c.in_ok-identifiers.ensures.found) in
+    let index = index_is parts identifiers records made (subst (IsIndex identifiers) c.as_slice.ensures c.in_ok-identifiers.ensures.found) in
     c.in_err-classes.ensures.outside (first_of (search rules, grind arith))
-    (subst (All (IsKnown identifiers)) (sym c.deref-5.ensures.value) (all_known parts identifiers index consistent))
-    (subst (λ l. AreDistinct (use_labels l)) (sym c.deref-5.ensures.value) consistent.used_once)
-    (subst (λ l. GivesEach (use_labels l) (given_texts (all_given parts))) (sym c.deref-5.ensures.value) (gives parts consistent))
+    (subst (All (IsKnown identifiers)) (sym c.deref-4.ensures.value) (all_known parts identifiers index consistent))
+    (subst (λ l. AreDistinct (use_labels l)) (sym c.deref-4.ensures.value) consistent.used_once)
+    (subst (λ l. GivesEach (use_labels l) (given_texts (all_given parts))) (sym c.deref-4.ensures.value) (gives parts consistent))
 
 pub returns-clause-found : goal.returns-clause-found
 returns-clause-found c =
     let parts = c.args.parts.now in
-    let records = c.in_ok-attributes.attributes.items in
-    let made : records ≡ map part_record parts.attributes.items = c.in_ok-attributes.ensures.found ∙ ap (map part_record) c.deref-2.ensures.value in
+    let records = c.in_ok-records.records in
+    let made : records ≡ map part_record parts.attributes.items = c.in_ok-records.ensures.found ∙ ap (map part_record) c.deref-2.ensures.value in
     let identifiers = c.in_ok-identifiers.identifiers in
-    let index = index_is parts identifiers records made (subst (IsIndex identifiers) c.deref-4.ensures.value c.in_ok-identifiers.ensures.found) in
+    let index = index_is parts identifiers records made (subst (IsIndex identifiers) c.as_slice.ensures c.in_ok-identifiers.ensures.found) in
     let id = c.in_ok-id.id in
     let class_id : id ≡ arcs_of parts.class.arcs.items = c.in_ok-id.ensures.found.1 ∙ ap arcs_of c.deref-3.ensures.value in
     let types = subst (All (λ (part : AttributePart). HasType parts.module (attribute_contents part))) c.deref.ensures.value (c.are_of_type-is_typed.ensures.0 c.if-not-is_typed.false) in
     let named = c.is_same_text-is_of_class.ensures.0 c.if-not-is_of_class.false in
-    let arcs = subst (All HasArcs) c.deref-2.ensures.value c.in_ok-attributes.ensures.arcs in
+    let arcs = subst (All HasArcs) c.deref-2.ensures.value c.in_ok-records.ensures.arcs in
     let class_arcs = subst AreArcs c.deref-3.ensures.value c.in_ok-id.ensures.found.0 in
-    let labels = subst (λ l. AreDistinct (parts.class.label.text ∷ parts.class.package.text ∷ record_labels l)) c.deref-4.ensures.value c.in_ok-identifiers.ensures.labels in
-    let ids = subst (λ l. AreDistinct (id ∷ record_ids l)) c.deref-4.ensures.value c.in_ok-identifiers.ensures.identifiers in
+    let labels = subst (λ l. AreDistinct (parts.class.label.text ∷ parts.class.package.text ∷ record_labels l)) c.as_slice.ensures c.in_ok-identifiers.ensures.labels in
+    let ids = subst (λ l. AreDistinct (id ∷ record_ids l)) c.as_slice.ensures c.in_ok-identifiers.ensures.identifiers in
     let root = c.in_ok-instances.ensures in
     let class = c.in_ok-classes.ensures in
-    let uses = c.deref-5.ensures.value in
+    let uses = c.deref-4.ensures.value in
     let known = subst (All (IsKnown identifiers)) uses class.known in
     let used = subst (λ l. AreDistinct (use_labels l)) uses class.once in
     let given = subst (λ l. GivesEach (use_labels l) (given_texts (all_given parts))) uses class.gives in
     let properties = ap (map (property_under identifiers)) uses ∙ properties_are parts identifiers index in
-    let uses_now = map (property_under identifiers) c.deref-5.result.now in
+    let uses_now = map (property_under identifiers) c.deref-4.result.now in
     let classes = class.found ∙ ap (λ x. x ∷ []) (class_is parts id uses_now class_id properties) in
     let instances = root.found ∙ ap (λ x. x ∷ []) (root_is parts identifiers index id class_id) in
     let system = c.in_ok-system.system in
