@@ -1,0 +1,15 @@
+pub mod AnyOrderRead
+pub mod Choosing
+pub mod DenotesFound
+pub mod DenotesTold
+pub mod IntegerLaws
+pub mod LeavesTold
+pub mod ListsTold
+pub mod PartsRead
+pub mod ReadAgain
+pub mod ReadingStatements
+pub mod SameIs
+pub mod StringsTold
+pub mod TagsApart
+pub mod WritableLaws
+pub mod WritingStatements

@@ -1,0 +1,21 @@
+//! Laws of typed values, as contracts: X.690, sections 8, 10 and 11.
+
+ghost use Rattle.typed_laws.specs.ReadingLaws.{ReadingDenotes, DenotedIsRead, NoneIsDenoted};
+ghost use Rattle.typed_laws.specs.WritingLaws.{WrittenIsReadAgain, WrittenDenotes, WrittenIsReadBack, OneValueWritten};
+
+/// The value that is read from a tree is one that the tree denotes. Where the tags of the syntax are clear, a value is
+/// read exactly where the tree denotes one. Does nothing.
+pub fn reading_is_denoting()
+    ensures denotes { ReadingDenotes }
+    ensures read { DenotedIsRead }
+    ensures none { NoneIsDenoted }
+{}
+
+/// What is written for a value spells a tree that denotes the value, and is read back as it, whatever follows. The
+/// value fits the syntax, whose tags are clear, and the octets are fewer than 2^32. Does nothing.
+pub fn written_is_read_back()
+    ensures again { WrittenIsReadAgain }
+    ensures denotes { WrittenDenotes }
+    ensures read_back { WrittenIsReadBack }
+    ensures one_value { OneValueWritten }
+{}
