@@ -25,7 +25,7 @@ abbrev pub Each : {A : Type 0} → (A → Type 0) → List A → Type 0
 Each P [] = Unit {0}
 Each P (x ∷ xs) = P x × Each P xs
 
-each_among : {A : Type 0} (P : A → Type 0) (x : A) (others ys : List A) → IsAmong x others ys → Each P ys
+pub each_among : {A : Type 0} (P : A → Type 0) (x : A) (others ys : List A) → IsAmong x others ys → Each P ys
     → P x × Each P others
 each_among P x others [] a h = absurd a
 each_among P x others (y ∷ ys) (inl p) h = (subst P p.0 h.0, subst (Each P) p.1 h.1)
@@ -65,7 +65,8 @@ all_pass : (tags : Option (List Tag)) (parts : TypeParts) (trees : List TreeValu
 all_pass tags NoParts trees slots e r = subst (Each (Passes tags)) (sym r.0) tt
 all_pass tags (Part name syntax optional default rest) [] slots e r = tt
 all_pass tags (Part name syntax optional default rest) (x ∷ xs) (Filled v slots) e (inl r) =
-    (apart tags (first_tags syntax) (tag_of x) (and_parts _ _ e).0 r.0.begun, all_pass tags rest xs slots (and_parts _ _ e).1 r.1)
+    (apart tags (first_tags syntax) (tag_of x) (and_parts _ _ e).0 r.0.begun, all_pass tags rest xs slots
+    (and_parts _ _ e).1 r.1)
 all_pass tags (Part name syntax optional default rest) (x ∷ xs) NoSlots e (inl r) = absurd r
 all_pass tags (Part name syntax optional default rest) (x ∷ xs) (Empty slots) e (inl r) = absurd r
 all_pass tags (Part name syntax optional (Some default) rest) (x ∷ xs) (Filled v slots) e (inr r) =
@@ -108,15 +109,18 @@ pub unordered_read : (parts : TypeParts) (inside ordered : List TreeValue) (slot
     → are_all_apart parts ≡ true → IsRearrangement inside ordered → PartsRead parts ordered slots
     → unordered_in parts (trees_listed inside) ≡ Some slots
 unordered_read NoParts [] ordered slots e m r = ap Some (sym r.1)
-unordered_read NoParts (x ∷ xs) ordered slots e m r = absurd (each_among (λ y. ⊥) x m.0 ordered m.1 (subst (Each (λ y. ⊥)) (sym r.0) tt)).0
+unordered_read NoParts (x ∷ xs) ordered slots e m r = absurd (each_among (λ y. ⊥) x m.0 ordered m.1
+    (subst (Each (λ y. ⊥)) (sym r.0) tt)).0
 unordered_read (Part name syntax optional default rest) inside [] slots e m (inl r) = absurd r
 unordered_read (Part name syntax optional default rest) inside (x ∷ xs) NoSlots e m (inl r) = absurd r
 unordered_read (Part name syntax optional default rest) inside (x ∷ xs) (Empty slots) e m (inl r) = absurd r
 unordered_read (Part name syntax optional default rest) inside (x ∷ xs) (Filled v slots) e m (inl r) =
     let p = and_parts (is_apart_from_all (first_tags syntax) rest) (are_all_apart rest) e in
     let f = first_among x xs inside m in
-    let pass = each_rearranged (Passes (first_tags syntax)) f.0 xs f.2 (all_pass (first_tags syntax) rest xs slots p.0 r.1) in
-    rw (taken_is (first_tags syntax) x f.0 inside r.0.begun pass f.1, r.0.found, unordered_read rest f.0 xs slots p.1 f.2 r.1) refl
+    let pass = each_rearranged (Passes (first_tags syntax)) f.0 xs f.2
+    (all_pass (first_tags syntax) rest xs slots p.0 r.1) in
+    rw (taken_is (first_tags syntax) x f.0 inside r.0.begun pass f.1, r.0.found, unordered_read rest f.0 xs slots p.1
+    f.2 r.1) refl
 unordered_read (Part name syntax optional default rest) inside ordered slots e m (inr r) =
     let p = and_parts (is_apart_from_all (first_tags syntax) rest) (are_all_apart rest) e in
     let pass = each_rearranged (Passes (first_tags syntax)) inside ordered m

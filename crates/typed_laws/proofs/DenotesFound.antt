@@ -16,7 +16,7 @@ use Rattle.term_values.specs.Fits.{count}
 use Rattle.term_values.specs.LeafReading.{where_it, contents_in, truth_in, null_in, whole_in, named_in, bit_string_in, octet_string_in, identifier_in, text_in, time_in}
 use Rattle.term_values.specs.Octets.{integer_in, integer_contents}
 use Rattle.term_values.specs.Oid.{oid_in, oid_contents}
-use Rattle.term_values.specs.Rearranged.{IsRearrangement}
+use Rattle.term_values.specs.Rearranged.{IsRearrangement, IsRising}
 use Rattle.term_values.specs.Soundness.{has_clear_tags, have_clear_tags, are_all_apart, are_runs_apart, has_own_tag}
 use Rattle.term_values.specs.Syntaxes.{Bounds, TypeSyntax, TypeParts}
 use Rattle.term_values.specs.Syntaxes.TypeSyntax.{Boolean, Integer, Enumerated, BitString, OctetString, NullType}
@@ -29,7 +29,7 @@ use Rattle.term_values.specs.Tree.{TreeValue, TreeValues, listed as trees_listed
 use Rattle.term_values.specs.Tree.TreeValue.{Primitive, Constructed}
 use Rattle.term_values.specs.Tree.TreeValues.{Nothing as NoTrees, Then as AndTrees}
 use Rattle.term_values.specs.TreeTags.{tag_of, due}
-use Rattle.term_values.specs.Typed.{TypedValue, TypedSlots, TypedValues}
+use Rattle.term_values.specs.Typed.{TypedValue, TypedSlots, TypedValues, listed}
 use Rattle.term_values.specs.Typed.TypedValue.{Truth, Int, Bits, Octets, Null, Identifier, Text, Time, Parts, Many, Pick, Raw}
 use Rattle.term_values.specs.Typed.TypedSlots.{NoSlots, Filled, Empty}
 use Rattle.term_values.specs.Typed.TypedValues.{Nothing, Then}
@@ -37,11 +37,13 @@ use Rattle.term_values.specs.UniversalTags.{boolean, integer, bit_string, octet_
 use Rattle.term_values.specs.UniversalTags.{sequence, set, generalized_time, text_tag}
 use Rattle.term_values.specs.Written.{der}
 use Rattle.term_values.specs.declared.tag.Tag.{Tag}
+use Rattle.typed_laws.specs.Distinct.{IsDistinct, AreDistinct, PickDistinct}
 use Rattle.typed_laws.proofs.Choosing.{under_is, due_is, same_itself}
 use Rattle.typed_laws.proofs.IntegerLaws.{whole_read}
 use Rattle.typed_laws.proofs.ListsTold.{rising_counts, rearranged_counts}
 use Rattle.typed_laws.proofs.PartsRead.{IsRead, PartsRead, PickRead, parts_read}
-use Rattle.typed_laws.proofs.AnyOrderRead.{unordered_read, picked_read}
+use Rattle.typed_laws.proofs.AnyOrderRead.{Each, each_rearranged, unordered_read, picked_read}
+use Rattle.typed_laws.proofs.RisingOnce.{each_of, rising_once}
 use Rattle.typed_laws.proofs.StringsTold.{octets_read, bits_read}
 use Rattle.typed_laws.proofs.TagsApart.{only_tag, left_has, right_has}
 
@@ -127,13 +129,15 @@ mutual
 
 -- ---- what is read
 
-pub record IsFound (tag : Option Tag) (syntax : TypeSyntax) (tree : TreeValue) : Type 0 where
-  pub value : TypedValue
-  pub found : denoted (is_some tag) syntax tree ≡ Some value
+-- a value is read, and it is the one that the tree denotes, where no two members of a SET OF in it have one encoding
+pub record IsFound (tag : Option Tag) (syntax : TypeSyntax) (tree : TreeValue) (value : TypedValue) : Type 0 where
+  pub read : TypedValue
+  pub found : denoted (is_some tag) syntax tree ≡ Some read
+  pub same : IsDistinct syntax value → read ≡ value
 
-by : (tag : Option Tag) (syntax : TypeSyntax) (tree : TreeValue) (v : TypedValue)
-    → denoted (is_some tag) syntax tree ≡ Some v → IsFound tag syntax tree
-by tag syntax tree v e = record { value = v; found = e }
+by : (tag : Option Tag) (syntax : TypeSyntax) (tree : TreeValue) (value v : TypedValue) → value ≡ v
+    → denoted (is_some tag) syntax tree ≡ Some v → IsFound tag syntax tree value
+by tag syntax tree value v s e = record { read = v; found = e; same = λ _. sym s }
 
 pub where_holds : (b : Bool) (x : TypedValue) → b ≡ true → where_it b x ≡ Some x
 where_holds b x e = rw e refl
@@ -148,24 +152,27 @@ pub inside_found : (tag : Tag) (f : TreeValues → Option TypedValue) (tree : Tr
     (v : TypedValue) → Holds tag tree inside → f (trees_listed inside) ≡ Some v → within f tree ≡ Some v
 inside_found tag f tree inside v h e = ap (within f) h ∙ e
 
-record AreFound (member : TreeValue → Option TypedValue) (trees : List TreeValue) (size : ℕ) : Type 0 where
+record AreFound (member : TypeSyntax) (trees : List TreeValue) (vs : List TypedValue) : Type 0 where
   values : TypedValues
-  found : members_in member (trees_listed trees) ≡ Some values
-  many : count values ≡ size
+  found : members_in (denoted false member) (trees_listed trees) ≡ Some values
+  many : count values ≡ length vs
+  same : Each (IsDistinct member) vs → values ≡ listed vs
 
-members_found : (member : TreeValue → Option TypedValue) (holds : TreeValue → TypedValue → Type 0)
-    → ((x : TreeValue) (v : TypedValue) → holds x v → (w : TypedValue) × (member x ≡ Some w))
-    → (trees : List TreeValue) (vs : List TypedValue) → AllDenote holds trees vs → AreFound member trees (length vs)
-members_found member holds each [] [] a = record { values = Nothing; found = refl; many = refl }
-members_found member holds each [] (v ∷ vs) a = absurd a
-members_found member holds each (x ∷ xs) [] a = absurd a
-members_found member holds each (x ∷ xs) (v ∷ vs) a =
+members_found : (member : TypeSyntax)
+    → ((x : TreeValue) (v : TypedValue) → DenotesAs None member x v → IsFound None member x v)
+    → (trees : List TreeValue) (vs : List TypedValue) → AllDenote (DenotesAs None member) trees vs
+    → AreFound member trees vs
+members_found member each [] [] a = record { values = Nothing; found = refl; many = refl; same = λ _. refl }
+members_found member each [] (v ∷ vs) a = absurd a
+members_found member each (x ∷ xs) [] a = absurd a
+members_found member each (x ∷ xs) (v ∷ vs) a =
     let w = each x v a.0 in
-    let r = members_found member holds each xs vs a.1 in
+    let r = members_found member each xs vs a.1 in
     record {
-      values = Then w.0 r.values;
-      found = rw (w.1, r.found) refl;
+      values = Then w.read r.values;
+      found = rw (w.found, r.found) refl;
       many = ap suc r.many;
+      same = λ h i. Then (w.same h.0 i) (r.same h.1 i);
     }
 
 sized_found : (sizes : Bounds) (members : TypedValues) (size : ℕ) → count members ≡ size
@@ -173,85 +180,141 @@ sized_found : (sizes : Bounds) (members : TypedValues) (size : ℕ) → count me
 sized_found sizes members size e a =
     where_holds (allowed_size sizes (count members)) (Many members) (ap (allowed_size sizes) e ∙ a)
 
+-- members of a SET OF
+set_same : (member : TypeSyntax) (sizes : Bounds) (as_they_came members : List TypedValue) (values : TypedValues)
+    (v : TypedValue) → IsRearrangement as_they_came members → IsRising (map (der member) members)
+    → v ≡ Many (listed members) → (Each (IsDistinct member) as_they_came → values ≡ listed as_they_came)
+    → IsDistinct (SetOf member sizes) v → Many (rising_by (der member) values) ≡ v
+set_same member sizes as_they_came members values v r up e same h =
+    let d = subst (IsDistinct (SetOf member sizes)) e h in
+    let one = same (each_rearranged (IsDistinct member) as_they_came members r
+    (each_of (IsDistinct member) members d.0)) in
+    ap (λ xs. Many (rising_by (der member) xs)) one
+    ∙ ap Many (rising_once (der member) as_they_came members r up d.1) ∙ sym e
+
 mutual
   pub found : (syntax : TypeSyntax) (tag : Option Tag) (tree : TreeValue) (v : TypedValue)
-      → has_clear_tags syntax ≡ true → DenotesAs tag syntax tree v → IsFound tag syntax tree
+      → has_clear_tags syntax ≡ true → DenotesAs tag syntax tree v → IsFound tag syntax tree v
   found Boolean tag tree v c d =
-      by tag Boolean tree (Truth (not (d.0 == 0))) (under_is tag boolean truth_in tree (Truth (not (d.0 == 0))) (ap tag_of d.1) (ap truth_in d.1))
+      by tag Boolean tree v (Truth (not (d.0 == 0))) d.2 (under_is tag boolean truth_in tree (Truth (not (d.0 == 0)))
+      (ap tag_of d.1) (ap truth_in d.1))
   found (Integer names ranges) tag tree v c d =
-      by tag (Integer names ranges) tree (Int d.0) (under_is tag integer (whole_in ranges) tree (Int d.0) (ap tag_of d.1.0)
+      by tag (Integer names ranges) tree v (Int d.0) d.3 (under_is tag integer (whole_in ranges) tree (Int d.0)
+      (ap tag_of d.1.0)
       (whole_found (due tag integer) (allowed ranges) tree d.0 d.1 d.2))
   found (Enumerated names) tag tree v c d =
-      by tag (Enumerated names) tree (Int d.0) (under_is tag enumerated (named_in names) tree (Int d.0) (ap tag_of d.1.0)
+      by tag (Enumerated names) tree v (Int d.0) d.3 (under_is tag enumerated (named_in names) tree (Int d.0)
+      (ap tag_of d.1.0)
       (whole_found (due tag enumerated) (is_named names) tree d.0 d.1 d.2))
   found (BitString names sizes) tag tree v c d =
-      by tag (BitString names sizes) tree (Bits d.0 d.1) (under_is tag bit_string (bit_string_in sizes) tree (Bits d.0 d.1) d.2
+      by tag (BitString names sizes) tree v (Bits d.0 d.1) d.5
+      (under_is tag bit_string (bit_string_in sizes) tree (Bits d.0 d.1) d.2
       (rw (bits_read tree d.0 d.1 d.3) (where_holds (allowed_size sizes (bit_count d.0 d.1)) (Bits d.0 d.1) d.4)))
   found (OctetString sizes) tag tree v c d =
-      by tag (OctetString sizes) tree (Octets d.0) (under_is tag octet_string (octet_string_in sizes) tree (Octets d.0) d.1.0
+      by tag (OctetString sizes) tree v (Octets d.0) d.3 (under_is tag octet_string (octet_string_in sizes) tree
+      (Octets d.0) d.1.0
       (rw (octets_read tree d.0 d.1.1) (where_holds (allowed_size sizes (length d.0)) (Octets d.0) d.2)))
   found NullType tag tree v c d =
-      by tag NullType tree Null (under_is tag null null_in tree Null (ap tag_of d.0) (ap null_in d.0))
+      by tag NullType tree v Null d.1 (under_is tag null null_in tree Null (ap tag_of d.0) (ap null_in d.0))
   found ObjectIdentifier tag tree v c d =
-      by tag ObjectIdentifier tree (Identifier d.0) (under_is tag object_identifier identifier_in tree (Identifier d.0) (ap tag_of d.1.0)
+      by tag ObjectIdentifier tree v (Identifier d.0) d.2 (under_is tag object_identifier identifier_in tree
+      (Identifier d.0) (ap tag_of d.1.0)
       (ap identifier_in d.1.0 ∙ (rw (oid_read d.0 d.1.1 d.1.2) refl)))
   found (TextString charset sizes) tag tree v c d =
-      by tag (TextString charset sizes) tree (Text d.0) (under_is tag (text_tag charset) (text_in charset sizes) tree (Text d.0) d.1.0
-      (rw (octets_read tree d.0 d.1.1) (where_holds (list_all (has_character charset) d.0 && allowed_size sizes (length d.0)) (Text d.0)
+      by tag (TextString charset sizes) tree v (Text d.0) d.4
+      (under_is tag (text_tag charset) (text_in charset sizes) tree (Text d.0) d.1.0
+      (rw (octets_read tree d.0 d.1.1) (where_holds (list_all (has_character charset) d.0 && allowed_size sizes
+      (length d.0)) (Text d.0)
       (and_from (list_all (has_character charset) d.0) (allowed_size sizes (length d.0)) d.2 d.3))))
   found GeneralizedTime tag tree v c d =
-      by tag GeneralizedTime tree (Time d.0) (under_is tag generalized_time time_in tree (Time d.0) d.1.0
+      by tag GeneralizedTime tree v (Time d.0) d.3 (under_is tag generalized_time time_in tree (Time d.0) d.1.0
       (rw (octets_read tree d.0 d.1.1) (where_holds (is_time d.0) (Time d.0) d.2)))
   found (Sequence parts) tag tree v c d =
       let p = and_parts (are_runs_apart parts) (have_clear_tags parts) c in
       let r = parts_found parts d.0 d.1 p.1 d.3 in
-      by tag (Sequence parts) tree (Parts r.0) (under_is tag sequence (within (λ inside. option_map Parts (parts_in parts inside))) tree (Parts r.0) (ap tag_of d.2)
+      record {
+        read = Parts r.0;
+        found = under_is tag sequence (within (λ inside. option_map Parts (parts_in parts inside))) tree (Parts r.0)
+        (ap tag_of d.2)
       (inside_found (due tag sequence) (λ inside. option_map Parts (parts_in parts inside)) tree d.0 (Parts r.0) d.2
-      (ap (option_map Parts) (parts_read parts d.0 r.0 p.0 r.1))))
+      (ap (option_map Parts) (parts_read parts d.0 r.0 p.0 r.1)));
+        same = λ h. ap Parts (r.2 (subst (IsDistinct (Sequence parts)) d.4 h)) ∙ sym d.4;
+      }
   found (SetType parts) tag tree v c d =
       let p = and_parts (are_all_apart parts) (have_clear_tags parts) c in
       let r = parts_found parts d.1 d.2 p.1 d.5 in
-      by tag (SetType parts) tree (Parts r.0) (under_is tag set (within (λ inside. option_map Parts (unordered_in parts inside))) tree (Parts r.0) (ap tag_of d.3)
+      record {
+        read = Parts r.0;
+        found = under_is tag set (within (λ inside. option_map Parts (unordered_in parts inside))) tree (Parts r.0)
+        (ap tag_of d.3)
       (inside_found (due tag set) (λ inside. option_map Parts (unordered_in parts inside)) tree d.0 (Parts r.0) d.3
-      (ap (option_map Parts) (unordered_read parts d.0 d.1 r.0 p.0 d.4 r.1))))
+      (ap (option_map Parts) (unordered_read parts d.0 d.1 r.0 p.0 d.4 r.1)));
+        same = λ h. ap Parts (r.2 (subst (IsDistinct (SetType parts)) d.6 h)) ∙ sym d.6;
+      }
   found (SequenceOf member sizes) tag tree v c d =
-      let r = members_found (denoted false member) (DenotesAs None member)
-      (λ x w h. let f = found member None x w c h in (f.value, f.found)) d.0 d.1 d.3 in
-      by tag (SequenceOf member sizes) tree (Many r.values) (under_is tag sequence (within (λ inside. option_and_then (sized_members sizes) (members_in (denoted false member) inside))) tree (Many r.values) (ap tag_of d.2)
-      (inside_found (due tag sequence) (λ inside. option_and_then (sized_members sizes) (members_in (denoted false member) inside)) tree d.0 (Many r.values) d.2
-      (rw r.found (sized_found sizes r.values (length d.1) r.many d.4))))
+      let r = members_found member (λ x w h. found member None x w c h) d.0 d.1 d.3 in
+      record {
+        read = Many r.values;
+        found = under_is tag sequence (within (λ inside. option_and_then (sized_members sizes)
+        (members_in (denoted false member) inside))) tree (Many r.values) (ap tag_of d.2)
+      (inside_found (due tag sequence) (λ inside. option_and_then (sized_members sizes)
+      (members_in (denoted false member) inside)) tree d.0 (Many r.values) d.2
+      (rw r.found (sized_found sizes r.values (length d.1) r.many d.4)));
+        same = λ h. ap Many (r.same (each_of (IsDistinct member) d.1
+        (subst (IsDistinct (SequenceOf member sizes)) d.5 h)))
+            ∙ sym d.5;
+      }
   found (SetOf member sizes) tag tree v c d =
-      let r = members_found (denoted false member) (DenotesAs None member)
-      (λ x w h. let f = found member None x w c h in (f.value, f.found)) d.0 d.1 d.4 in
+      let r = members_found member (λ x w h. found member None x w c h) d.0 d.1 d.4 in
       let m = rising_by (der member) r.values in
-      let size : count m ≡ length d.2 = rising_counts (der member) r.values ∙ (r.many ∙ rearranged_counts d.1 d.2 d.5) in
-      by tag (SetOf member sizes) tree (Many m) (under_is tag set (within (λ inside. option_and_then (sized_members sizes)
+      let size : count m ≡ length d.2 = rising_counts (der member) r.values ∙ (r.many ∙ rearranged_counts d.1 d.2 d.5)
+      in
+      record {
+        read = Many m;
+        found = under_is tag set (within (λ inside. option_and_then (sized_members sizes)
       (option_map (rising_by (der member)) (members_in (denoted false member) inside)))) tree (Many m) (ap tag_of d.3)
       (inside_found (due tag set) (λ inside. option_and_then (sized_members sizes)
       (option_map (rising_by (der member)) (members_in (denoted false member) inside))) tree d.0 (Many m) d.3
-      (rw r.found (sized_found sizes m (length d.2) size d.7))))
+      (rw r.found (sized_found sizes m (length d.2) size d.7)));
+        same = λ h. set_same member sizes d.1 d.2 r.values v d.5 d.6 d.8 r.same h;
+      }
   found (Choice parts) None tree v c d =
       let p = and_parts (are_all_apart parts) (have_clear_tags parts) c in
       let r = pick_found parts d.0 tree d.1 p.1 d.2 in
-      by None (Choice parts) tree _ (picked_read parts zero d.0 tree r.0 p.0 r.1)
+      let plain : zero + d.0 ≡ d.0 = omega arith in
+      record {
+        read = Pick d.0 r.0;
+        found = picked_read parts zero d.0 tree r.0 p.0 r.1 ∙ ap (λ n. Some (Pick n r.0)) plain;
+        same = λ h. ap (Pick d.0) (r.2 (subst (IsDistinct (Choice parts)) d.3 h)) ∙ sym d.3;
+      }
   found (Choice parts) (Some tag) tree v c d = absurd d
   found (Tagged own true of) tag tree v c d =
       let f = found of None d.0 v c d.2 in
-      by tag (Tagged own true of) tree f.value (under_is tag own (within (one_in (denoted false of))) tree f.value (ap tag_of d.1)
-      (ap (within (one_in (denoted false of))) d.1 ∙ f.found))
+      record {
+        read = f.read;
+        found = under_is tag own (within (one_in (denoted false of))) tree f.read (ap tag_of d.1)
+      (ap (within (one_in (denoted false of))) d.1 ∙ f.found);
+        same = f.same;
+      }
   found (Tagged own false of) tag tree v c d =
       let p = and_parts (has_own_tag of) (has_clear_tags of) c in
       let f = found of (Some (due tag own)) tree v p.1 d in
-      by tag (Tagged own false of) tree f.value (under_is tag own (denoted true of) tree f.value
-      (tag_told of (due tag own) tree v d) f.found)
-  found Any None tree v c d = by None Any tree _ refl
+      record {
+        read = f.read;
+        found = under_is tag own (denoted true of) tree f.read
+      (tag_told of (due tag own) tree v d) f.found;
+        same = f.same;
+      }
+  found Any None tree v c d = by None Any tree v (Raw (written tree)) d refl
   found Any (Some tag) tree v c d = absurd d
-  found Filter None tree v c d = by None Filter tree _ (where_holds (is_filter tree) (Raw (written tree)) d.0)
+  found Filter None tree v c d = by None Filter tree v (Raw (written tree)) d.1
+      (where_holds (is_filter tree) (Raw (written tree)) d.0)
   found Filter (Some tag) tree v c d = absurd d
 
   parts_found : (parts : TypeParts) (trees : List TreeValue) (slots : TypedSlots) → have_clear_tags parts ≡ true
       → PartsDenote parts trees slots → (others : TypedSlots) × PartsRead parts trees others
-  parts_found NoParts trees slots c d = (NoSlots, (d.0, refl))
+      × (AreDistinct parts slots → others ≡ slots)
+  parts_found NoParts trees slots c d = (NoSlots, (d.0, refl), λ _. sym d.1)
   parts_found (Part name syntax optional default rest) [] slots c (inl d) = absurd d
   parts_found (Part name syntax optional default rest) (x ∷ xs) NoSlots c (inl d) = absurd d
   parts_found (Part name syntax optional default rest) (x ∷ xs) (Empty slots) c (inl d) = absurd d
@@ -259,24 +322,29 @@ mutual
       let p = and_parts (has_clear_tags syntax) (have_clear_tags rest) c in
       let f = found syntax None x v p.0 d.0 in
       let r = parts_found rest xs slots p.1 d.1 in
-      (Filled f.value r.0, inl (record { begun = begins_told syntax x v d.0; found = f.found }, r.1))
+      (
+        Filled f.read r.0,
+        inl (record { begun = begins_told syntax x v d.0; found = f.found }, r.1),
+        λ h i. Filled (f.same h.0 i) (r.2 h.1 i),
+      )
   parts_found (Part name syntax optional (Some default) rest) trees (Filled v slots) c (inr d) =
       let r = parts_found rest trees slots (and_parts (has_clear_tags syntax) (have_clear_tags rest) c).1 d.1 in
-      (Filled v r.0, inr (d.0, r.1))
+      (Filled v r.0, inr (d.0, r.1), λ h. ap (Filled v) (r.2 h.1))
   parts_found (Part name syntax optional (Some default) rest) trees NoSlots c (inr d) = absurd d
   parts_found (Part name syntax optional (Some default) rest) trees (Empty slots) c (inr d) = absurd d
   parts_found (Part name syntax true None rest) trees (Empty slots) c (inr d) =
       let r = parts_found rest trees slots (and_parts (has_clear_tags syntax) (have_clear_tags rest) c).1 d in
-      (Empty r.0, inr r.1)
+      (Empty r.0, inr r.1, λ h. ap Empty (r.2 h))
   parts_found (Part name syntax true None rest) trees NoSlots c (inr d) = absurd d
   parts_found (Part name syntax true None rest) trees (Filled v slots) c (inr d) = absurd d
   parts_found (Part name syntax false None rest) trees slots c (inr d) = absurd d
 
   pick_found : (parts : TypeParts) (index : ℕ) (tree : TreeValue) (v : TypedValue) → have_clear_tags parts ≡ true
       → PickDenotes parts index tree v → (w : TypedValue) × PickRead parts index tree w
+      × (PickDistinct parts index v → w ≡ v)
   pick_found NoParts index tree v c d = absurd d
   pick_found (Part name syntax optional default rest) zero tree v c d =
       let f = found syntax None tree v (and_parts (has_clear_tags syntax) (have_clear_tags rest) c).0 d in
-      (f.value, record { begun = begins_told syntax tree v d; found = f.found })
+      (f.read, record { begun = begins_told syntax tree v d; found = f.found }, f.same)
   pick_found (Part name syntax optional default rest) (suc index) tree v c d =
       pick_found rest index tree v (and_parts (has_clear_tags syntax) (have_clear_tags rest) c).1 d

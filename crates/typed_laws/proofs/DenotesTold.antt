@@ -185,7 +185,8 @@ mutual
       let r = unordered_told parts i.0 f.0 t.1 f.1 in
       (trees_of i.0, r.0, f.0, t.0, r.1, r.2, sym f.2)
   told (SequenceOf member sizes) tag tree v m h e =
-      let f : TreeValues → Option TypedValue = λ inside. option_and_then (sized_members sizes) (members_in (denoted false member) inside) in
+      let f : TreeValues → Option TypedValue = λ inside. option_and_then (sized_members sizes)
+      (members_in (denoted false member) inside) in
       let p = under_parts tag sequence (within f) tree v m e in
       let i = then_some f (inside_of tree) v p.1 in
       let g = then_some (sized_members sizes) (members_in (denoted false member) i.0) v i.2 in
@@ -194,7 +195,8 @@ mutual
         trees_of i.0,
         values_of g.0,
         t.0,
-        members_told (denoted false member) (DenotesAs None member) (λ x w k q. told member None x w tt k q) i.0 g.0 t.1 g.1,
+        members_told (denoted false member) (DenotesAs None member) (λ x w k q. told member None x w tt k q) i.0 g.0
+        t.1 g.1,
         s.0,
         s.1,
       )
@@ -203,7 +205,8 @@ mutual
       (option_map (rising_by (der member)) (members_in (denoted false member) inside)) in
       let p = under_parts tag set (within f) tree v m e in
       let i = then_some f (inside_of tree) v p.1 in
-      let g = then_some (sized_members sizes) (option_map (rising_by (der member)) (members_in (denoted false member) i.0)) v i.2 in
+      let g = then_some (sized_members sizes) (option_map (rising_by (der member))
+      (members_in (denoted false member) i.0)) v i.2 in
       let r = map_some (rising_by (der member)) (members_in (denoted false member) i.0) g.0 g.1 in
       let t = inside_told (due tag set) tree i.0 p.0 h i.1 in
       let s = sized_told sizes g.0 v g.2 in (
@@ -211,7 +214,8 @@ mutual
         values_of r.0,
         values_of g.0,
         t.0,
-        members_told (denoted false member) (DenotesAs None member) (λ x w k q. told member None x w tt k q) i.0 r.0 t.1 r.1,
+        members_told (denoted false member) (DenotesAs None member) (λ x w k q. told member None x w tt k q) i.0 r.0
+        t.1 r.1,
         subst (λ ws. IsRearrangement (values_of r.0) (values_of ws)) r.2 (rising_rearranges (der member) r.0),
         subst (λ ws. IsRising (map (der member) (values_of ws))) r.2 (rising_rises (der member) r.0),
         s.0,

@@ -8,7 +8,9 @@ pub mod ListsTold
 pub mod PartsRead
 pub mod ReadAgain
 pub mod ReadingStatements
+pub mod RisingOnce
 pub mod SameIs
+pub mod SpeltOctets
 pub mod StringsTold
 pub mod TagsApart
 pub mod WritableLaws

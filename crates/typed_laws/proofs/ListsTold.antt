@@ -45,7 +45,8 @@ pub members_told : (member : TreeValue → Option TypedValue) (holds : TreeValue
     → ((x : TreeValue) (v : TypedValue) → HasOctets x → member x ≡ Some v → holds x v)
     → (xs : TreeValues) (vs : TypedValues) → HaveOctets xs → members_in member xs ≡ Some vs
     → AllDenote holds (trees_of xs) (values_of vs)
-members_told member holds each NoTrees vs h e = subst (λ ws. AllDenote holds [] (values_of ws)) (same_Some Nothing vs e) tt
+members_told member holds each NoTrees vs h e = subst (λ ws. AllDenote holds [] (values_of ws))
+    (same_Some Nothing vs e) tt
 members_told member holds each (AndTrees x xs) vs h e =
     let f = then_some _ (member x) vs e in
     let r = map_some (Then f.0) (members_in member xs) vs f.2 in
@@ -69,7 +70,8 @@ pub rising_rearranges : (encoding : TypedValue → List ℕ) (xs : TypedValues)
     → IsRearrangement (values_of xs) (values_of (rising_by encoding xs))
 rising_rearranges encoding Nothing = refl
 rising_rearranges encoding (Then x xs) =
-    (values_of (rising_by encoding xs), among_inserted encoding x (rising_by encoding xs), rising_rearranges encoding xs)
+    (values_of (rising_by encoding xs), among_inserted encoding x (rising_by encoding xs), rising_rearranges encoding
+    xs)
 
 pub rising_inserted : (encoding : TypedValue → List ℕ) (x : TypedValue) (ys : TypedValues)
     → IsRising (map encoding (values_of ys)) → IsRising (map encoding (values_of (inserted_by encoding x ys)))
@@ -140,14 +142,16 @@ taken_octets starts (AndTrees y ys) x others h e =
   where
     either : (c : Bool)
         → ((z : TreeValue) (os : TreeValues) → taken_out starts ys ≡ Some (z, os) → HasOctets z × HaveOctets os)
-        → cond {A = Option (TreeValue × TreeValues)} c (Some (y, ys)) (option_map (λ (rest : TreeValue × TreeValues). (rest.0, AndTrees y rest.1))
+        → cond {A = Option (TreeValue × TreeValues)} c (Some (y, ys))
+        (option_map (λ (rest : TreeValue × TreeValues). (rest.0, AndTrees y rest.1))
         (taken_out starts ys)) ≡ Some (x, others)
         → HasOctets x × HaveOctets others
     either true later e =
         let p = some_pair_parts y x ys others e in
         (subst HasOctets p.0 h.0, subst HaveOctets p.1 h.1)
     either false later e =
-        let f = map_some (λ (rest : TreeValue × TreeValues). (rest.0, AndTrees y rest.1)) (taken_out starts ys) (x, others) e in
+        let f = map_some (λ (rest : TreeValue × TreeValues). (rest.0, AndTrees y rest.1)) (taken_out starts ys)
+        (x, others) e in
         let q = some_pair_parts f.0.0 x (AndTrees y f.0.1) others (ap Some f.2) in
         let r = later f.0.0 f.0.1 f.1 in
         (subst HasOctets q.0 r.0, subst HaveOctets q.1 (h.0, r.1))
@@ -166,14 +170,16 @@ taken_rearranges starts (AndTrees y ys) x others ordered e r =
     either : (c : Bool)
         → ((front : TreeValue) (os : TreeValues) → taken_out starts ys ≡ Some (front, os)
         → IsRearrangement (y ∷ trees_of os) ordered → IsRearrangement (y ∷ trees_of ys) (front ∷ ordered))
-        → cond {A = Option (TreeValue × TreeValues)} c (Some (y, ys)) (option_map (λ (rest : TreeValue × TreeValues). (rest.0, AndTrees y rest.1))
+        → cond {A = Option (TreeValue × TreeValues)} c (Some (y, ys))
+        (option_map (λ (rest : TreeValue × TreeValues). (rest.0, AndTrees y rest.1))
         (taken_out starts ys)) ≡ Some (x, others)
         → IsRearrangement (y ∷ trees_of ys) (x ∷ ordered)
     either true moved e =
         let p = some_pair_parts y x ys others e in
         (ordered, inl (sym p.0, refl), subst (λ os. IsRearrangement (trees_of os) ordered) (sym p.1) r)
     either false moved e =
-        let f = map_some (λ (rest : TreeValue × TreeValues). (rest.0, AndTrees y rest.1)) (taken_out starts ys) (x, others) e in
+        let f = map_some (λ (rest : TreeValue × TreeValues). (rest.0, AndTrees y rest.1)) (taken_out starts ys)
+        (x, others) e in
         let q = some_pair_parts f.0.0 x (AndTrees y f.0.1) others (ap Some f.2) in
         subst (λ z. IsRearrangement (y ∷ trees_of ys) (z ∷ ordered)) q.0
         (moved f.0.0 f.0.1 f.1 (subst (λ os. IsRearrangement (trees_of os) ordered) (sym q.1) r))

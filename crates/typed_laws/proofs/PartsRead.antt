@@ -57,7 +57,8 @@ first_apart tags (Part name syntax optional default rest) x xs (Filled v slots) 
 first_apart tags (Part name syntax optional default rest) x xs NoSlots e (inl r) = absurd r
 first_apart tags (Part name syntax optional default rest) x xs (Empty slots) e (inl r) = absurd r
 first_apart tags (Part name syntax optional (Some default) rest) x xs (Filled v slots) e (inr r) =
-    first_apart tags rest x xs slots (apart_next tags syntax (may_be_absent optional (Some default)) rest e (or_right optional true refl)) r.1
+    first_apart tags rest x xs slots (apart_next tags syntax (may_be_absent optional (Some default)) rest e
+    (or_right optional true refl)) r.1
 first_apart tags (Part name syntax optional (Some default) rest) x xs NoSlots e (inr r) = absurd r
 first_apart tags (Part name syntax optional (Some default) rest) x xs (Empty slots) e (inr r) = absurd r
 first_apart tags (Part name syntax true None rest) x xs (Empty slots) e (inr r) =
@@ -94,7 +95,8 @@ parts_read NoParts [] slots e r = ap Some (sym r.1)
 parts_read NoParts (x ∷ xs) slots e r = absurd (no_cons x xs r.0)
 parts_read (Part name syntax optional default rest) [] slots e (inl r) = absurd r
 parts_read (Part name syntax optional default rest) (x ∷ xs) (Filled v slots) e (inl r) =
-    let p = and_parts (not (may_be_absent optional default) || is_apart_from_next (first_tags syntax) rest) (are_runs_apart rest) e in
+    let p = and_parts (not (may_be_absent optional default) || is_apart_from_next (first_tags syntax) rest)
+    (are_runs_apart rest) e in
     let others = parts_read rest xs slots p.1 r.1 in
     rw (r.0.begun, r.0.found, others) refl
 parts_read (Part name syntax optional default rest) (x ∷ xs) NoSlots e (inl r) = absurd r
@@ -103,11 +105,13 @@ parts_read (Part name syntax optional default rest) [] slots e (inr r) =
     left_out_read optional default (PartsRead rest []) (parts_in rest NoTrees) slots
     (λ ws q. parts_read rest [] ws (and_parts _ _ e).1 q) r
 parts_read (Part name syntax optional default rest) (x ∷ xs) slots e (inr r) =
-    let p = and_parts (not (may_be_absent optional default) || is_apart_from_next (first_tags syntax) rest) (are_runs_apart rest) e in
+    let p = and_parts (not (may_be_absent optional default) || is_apart_from_next (first_tags syntax) rest)
+    (are_runs_apart rest) e in
     let may = absent_may optional default (PartsRead rest (x ∷ xs)) slots r in
     let next = unless_present optional default (first_tags syntax) rest p.0 may in
     let passes = first_of_absent optional default (first_tags syntax) rest x xs slots next r in
-    rw passes (left_out_read optional default (PartsRead rest (x ∷ xs)) (parts_in rest (AndTrees x (trees_listed xs))) slots
+    rw passes (left_out_read optional default (PartsRead rest (x ∷ xs)) (parts_in rest (AndTrees x (trees_listed xs)))
+    slots
     (λ ws q. parts_read rest (x ∷ xs) ws p.1 q) r)
   where
     first_of_absent : (optional : Bool) (default : Option TypedValue) (tags : Option (List Tag)) (rest : TypeParts)

@@ -183,7 +183,8 @@ by_default name syntax optional (Some default) rest value slots here later short
     either (same_value value default) refl short
   where
     either : (b : Bool) → same_value value default ≡ b
-        → length (joined (cond b (part_encodings rest slots) (der syntax value ∷ part_encodings rest slots))) < 4294967296
+        → length (joined (cond b (part_encodings rest slots) (der syntax value ∷ part_encodings rest slots))) <
+        4294967296
         → PartsAgain (Part name syntax optional (Some default) rest) (Filled value slots)
     either true e short =
         let r = later short in
@@ -280,8 +281,10 @@ mutual
       (where_holds (is_time octets) (Time octets) f)
   again (Sequence parts) tag (Parts slots) c o t h f short =
       let p = and_parts (are_runs_apart parts) (have_clear_tags parts) c in
-      let r = parts_again parts slots p.1 h f (encoded_within true (due tag sequence) (joined (part_encodings parts slots)) short) in
-      built tag (Sequence parts) sequence r.depth (trees_listed r.trees) (joined (part_encodings parts slots)) (Parts slots)
+      let r = parts_again parts slots p.1 h f (encoded_within true (due tag sequence)
+      (joined (part_encodings parts slots)) short) in
+      built tag (Sequence parts) sequence r.depth (trees_listed r.trees) (joined (part_encodings parts slots))
+      (Parts slots)
       (λ inside. option_map Parts (parts_in parts inside)) refl
       (due_can tag sequence t (universal_can 16 (omega arith) (omega arith))) r.writable
       (ap joined r.whole ∙ joined_written r.trees) short refl refl
@@ -290,18 +293,22 @@ mutual
       let p = and_parts (are_all_apart parts) (have_clear_tags parts) c in
       let r = parts_again parts slots p.1 h f (joined_rising_within (part_encodings parts slots) 4294967296
       (encoded_within true (due tag set) (joined (rising (part_encodings parts slots))) short)) in
-      built tag (SetType parts) set r.depth (trees_listed (trees_rising r.trees)) (joined (rising (part_encodings parts slots))) (Parts slots)
+      built tag (SetType parts) set r.depth (trees_listed (trees_rising r.trees))
+      (joined (rising (part_encodings parts slots))) (Parts slots)
       (λ inside. option_map Parts (unordered_in parts inside)) refl
       (due_can tag set t (universal_can 17 (omega arith) (omega arith)))
       (all_writable r.depth (trees_rising r.trees) (each_rearranged (IsWritable r.depth) (trees_rising r.trees) r.trees
       (rising_trees_rearrange r.trees) (each_writable r.depth r.trees r.writable)))
-      (ap (λ es. joined (rising es)) r.whole ∙ ap joined (sym (rising_written r.trees)) ∙ joined_written (trees_rising r.trees))
+      (ap (λ es. joined (rising es)) r.whole ∙ ap joined (sym (rising_written r.trees)) ∙ joined_written
+      (trees_rising r.trees))
       short refl refl
-      (ap (option_map Parts) (unordered_read parts (trees_rising r.trees) r.trees slots p.0 (rising_trees_rearrange r.trees) r.read))
+      (ap (option_map Parts) (unordered_read parts (trees_rising r.trees) r.trees slots p.0
+      (rising_trees_rearrange r.trees) r.read))
   again (SequenceOf member sizes) tag (Many values) c o t h f short =
       let r = members_again member (λ v g s. again member None v c (λ e. absurd (cc)) tt h g s) values f.0
       (encoded_within true (due tag sequence) (joined (member_encodings (der member) values)) short) in
-      built tag (SequenceOf member sizes) sequence r.depth (trees_listed r.trees) (joined (member_encodings (der member) values)) (Many values)
+      built tag (SequenceOf member sizes) sequence r.depth (trees_listed r.trees)
+      (joined (member_encodings (der member) values)) (Many values)
       (λ inside. option_and_then (sized_members sizes) (members_in (denoted false member) inside)) refl
       (due_can tag sequence t (universal_can 16 (omega arith) (omega arith))) r.writable
       (ap joined r.whole ∙ joined_written r.trees) short refl refl
@@ -309,8 +316,10 @@ mutual
   again (SetOf member sizes) tag (Many values) c o t h f short =
       let r = members_again member (λ v g s. again member None v c (λ e. absurd (cc)) tt h g s) values f.0
       (encoded_within true (due tag set) (joined (member_encodings (der member) values)) short) in
-      built tag (SetOf member sizes) set r.depth (trees_listed r.trees) (joined (member_encodings (der member) values)) (Many values)
-      (λ inside. option_and_then (sized_members sizes) (option_map (rising_by (der member)) (members_in (denoted false member) inside))) refl
+      built tag (SetOf member sizes) set r.depth (trees_listed r.trees)
+      (joined (member_encodings (der member) values)) (Many values)
+      (λ inside. option_and_then (sized_members sizes) (option_map (rising_by (der member))
+      (members_in (denoted false member) inside))) refl
       (due_can tag set t (universal_can 17 (omega arith) (omega arith))) r.writable
       (ap joined r.whole ∙ joined_written r.trees) short refl refl
       (rw (r.read, rising_stays (der member) values f.2) (sized_again sizes values f.1))
@@ -328,8 +337,10 @@ mutual
       }
   again (Choice parts) (Some tag) value c o t h f short = absurd (let e = o refl in cc)
   again (Tagged own true of) tag value c o t h f short =
-      let r = again of None value c (λ e. absurd (cc)) tt h.1 f (encoded_within true (due tag own) (der of value) short) in
-      built tag (Tagged own true of) own r.depth (AndTrees r.tree NoTrees) (der of value) value (one_in (denoted false of)) refl
+      let r = again of None value c (λ e. absurd (cc)) tt h.1 f
+      (encoded_within true (due tag own) (der of value) short) in
+      built tag (Tagged own true of) own r.depth (AndTrees r.tree NoTrees) (der of value) value
+      (one_in (denoted false of)) refl
       (due_can tag own t h.0) (r.writable, tt) (r.whole ∙ sym (append-nil (written r.tree))) short refl refl r.read
   again (Tagged own false of) tag value c o t h f short =
       let p = and_parts (has_own_tag of) (has_clear_tags of) c in

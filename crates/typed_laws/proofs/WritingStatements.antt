@@ -58,7 +58,8 @@ sym_assoc a b c = sym (append_assoc a b c)
 mutual
   has_octets : (tree : TreeValue) → AreOctets (written tree) → HasOctets tree
   has_octets (Primitive tag contents) h =
-      octets_back (written (Primitive tag contents)) (identifier_octets false tag ++ length_octets (length contents)) contents
+      octets_back (written (Primitive tag contents)) (identifier_octets false tag ++ length_octets (length contents))
+      contents
       (sym_assoc (identifier_octets false tag) (length_octets (length contents)) contents) h
   has_octets (Constructed tag inside) h =
       have_octets inside (octets_back (written (Constructed tag inside))

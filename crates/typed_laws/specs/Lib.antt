@@ -1,4 +1,5 @@
 -- The laws that the contracts of this crate cite, and their words.
+pub mod Distinct
 pub mod Nesting
 pub mod ReadingLaws
 pub mod SyntaxTags
