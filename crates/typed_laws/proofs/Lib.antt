@@ -2,6 +2,7 @@ pub mod AnyOrderRead
 pub mod Choosing
 pub mod DenotesFound
 pub mod DenotesTold
+pub mod FilterChoice
 pub mod IntegerLaws
 pub mod LeavesTold
 pub mod ListsTold

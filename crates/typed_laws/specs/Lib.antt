@@ -1,5 +1,6 @@
 -- The laws that the contracts of this crate cite, and their words.
 pub mod Distinct
+pub mod FilterLaws
 pub mod Nesting
 pub mod ReadingLaws
 pub mod SyntaxTags

@@ -1,5 +1,6 @@
 //! Laws of typed values, as contracts: X.690, sections 8, 10 and 11.
 
+ghost use Rattle.typed_laws.specs.FilterLaws.{FilterIsChoice};
 ghost use Rattle.typed_laws.specs.ReadingLaws.{ReadingDenotes, DenotedIsRead, ReadingIsExact, NoneIsDenoted, SpeltHasOctets};
 ghost use Rattle.typed_laws.specs.WritingLaws.{WrittenIsReadAgain, WrittenDenotes, WrittenIsReadBack, OneValueWritten};
 
@@ -21,4 +22,10 @@ pub fn written_is_read_back()
     ensures denotes { WrittenDenotes }
     ensures read_back { WrittenIsReadBack }
     ensures one_value { OneValueWritten }
+{}
+
+/// A tree is a CMISFilter by its form exactly where a value of the CHOICE of a filter's alternatives is read from it.
+/// Does nothing.
+pub fn filter_is_choice()
+    ensures { FilterIsChoice }
 {}
