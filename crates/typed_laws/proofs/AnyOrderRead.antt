@@ -1,23 +1,20 @@
 -- Components in any order, and alternatives, are found by their tags: X.680, sections 26.3 and 28.3.
-use Rattle.std.proofs.Common.{◌≡◌, ◌⊎◌, Bool, true, false, cond, Option, Some, None, refl, ap, sym, ◌∙◌, subst, ℕ, suc, zero, ◌+◌, ◌&&◌, ◌||◌, not, List, [], ◌∷◌, length, inl, inr, arith}
-use Rattle.std.specs.Prelude.{option_map, option_and_then, if◌then◌else◌, is_some}
-use Rattle.std.proofs.lemmas.Bool.{and_parts, or_right}
-use Rattle.std.proofs.lemmas.Option.{none-some}
-use Rattle.term_values.specs.Beginnings.{begins, first_tags, has_tag}
-use Rattle.term_values.specs.Decoding.{denoted, picked_in, unordered_in, left_out, taken_out, where_taken}
-use Rattle.term_values.specs.Denotes.{PresentHolds, AbsentHolds}
+use Rattle.std.proofs.Common.{◌≡◌, Bool, true, false, Option, Some, None, refl, ap, sym, ◌∙◌, subst, ℕ, suc, zero, ◌+◌, List, [], ◌∷◌, inl, inr, arith}
+use Rattle.std.proofs.lemmas.Bool.{and_parts}
+use Rattle.term_values.specs.Beginnings.{first_tags, has_tag}
+use Rattle.term_values.specs.Decoding.{picked_in, unordered_in, taken_out}
+use Rattle.term_values.specs.Denotes.{AbsentHolds}
 use Rattle.term_values.specs.Rearranged.{IsAmong, IsRearrangement}
 use Rattle.term_values.specs.Soundness.{are_all_apart, is_apart_from_all}
-use Rattle.term_values.specs.Syntaxes.{TypeSyntax, TypeParts}
+use Rattle.term_values.specs.Syntaxes.{TypeParts}
 use Rattle.term_values.specs.Syntaxes.TypeParts.{NoParts, Part}
-use Rattle.term_values.specs.Tree.{TreeValue, TreeValues, listed as trees_listed}
-use Rattle.term_values.specs.Tree.TreeValues.{Nothing as NoTrees, Then as AndTrees}
+use Rattle.term_values.specs.Tree.{TreeValue, listed as trees_listed}
 use Rattle.term_values.specs.TreeTags.{tag_of}
 use Rattle.term_values.specs.Typed.{TypedValue, TypedSlots}
 use Rattle.term_values.specs.Typed.TypedValue.{Pick}
 use Rattle.term_values.specs.Typed.TypedSlots.{NoSlots, Filled, Empty}
 use Rattle.term_values.specs.declared.tag.Tag.{Tag}
-use Rattle.typed_laws.proofs.PartsRead.{IsRead, PartsRead, PickRead, left_out_read}
+use Rattle.typed_laws.proofs.PartsRead.{PartsRead, PickRead, left_out_read}
 use Rattle.typed_laws.proofs.TagsApart.{apart}
 
 -- each of a list
@@ -64,9 +61,11 @@ all_pass : (tags : Option (List Tag)) (parts : TypeParts) (trees : List TreeValu
     → is_apart_from_all tags parts ≡ true → PartsRead parts trees slots → Each (Passes tags) trees
 all_pass tags NoParts trees slots e r = subst (Each (Passes tags)) (sym r.0) tt
 all_pass tags (Part name syntax optional default rest) [] slots e r = tt
-all_pass tags (Part name syntax optional default rest) (x ∷ xs) (Filled v slots) e (inl r) =
-    (apart tags (first_tags syntax) (tag_of x) (and_parts _ _ e).0 r.0.begun, all_pass tags rest xs slots
-    (and_parts _ _ e).1 r.1)
+all_pass tags (Part name syntax optional default rest) (x ∷ xs) (Filled v slots) e (inl r) = (
+  apart tags (first_tags syntax) (tag_of x) (and_parts _ _ e).0 r.0.begun,
+  all_pass tags rest xs slots
+      (and_parts _ _ e).1 r.1,
+)
 all_pass tags (Part name syntax optional default rest) (x ∷ xs) NoSlots e (inl r) = absurd r
 all_pass tags (Part name syntax optional default rest) (x ∷ xs) (Empty slots) e (inl r) = absurd r
 all_pass tags (Part name syntax optional (Some default) rest) (x ∷ xs) (Filled v slots) e (inr r) =
@@ -119,8 +118,12 @@ unordered_read (Part name syntax optional default rest) inside (x ∷ xs) (Fille
     let f = first_among x xs inside m in
     let pass = each_rearranged (Passes (first_tags syntax)) f.0 xs f.2
     (all_pass (first_tags syntax) rest xs slots p.0 r.1) in
-    rw (taken_is (first_tags syntax) x f.0 inside r.0.begun pass f.1, r.0.found, unordered_read rest f.0 xs slots p.1
-    f.2 r.1) refl
+    rw (
+      taken_is (first_tags syntax) x f.0 inside r.0.begun pass f.1,
+      r.0.found,
+      unordered_read rest f.0 xs slots p.1
+          f.2 r.1,
+    ) refl
 unordered_read (Part name syntax optional default rest) inside ordered slots e m (inr r) =
     let p = and_parts (is_apart_from_all (first_tags syntax) rest) (are_all_apart rest) e in
     let pass = each_rearranged (Passes (first_tags syntax)) inside ordered m

@@ -1,21 +1,18 @@
 -- A tree that denotes a value of a syntax whose tags are clear is read as one: X.690, section 8.
-use Rattle.std.proofs.Common.{◌≡◌, ◌⊎◌, Bool, true, false, not, ◌==◌, cond, Option, Some, None, refl, ap, sym, ◌∙◌, subst, ℕ, suc, zero, ◌+◌, ◌&&◌, ◌||◌, List, [], ◌∷◌, length, map, arith, inl, inr, ℤ, FitsSigned}
-use Rattle.std.specs.Int.{w64}
+use Rattle.std.proofs.Common.{◌≡◌, Bool, true, false, not, ◌==◌, Option, Some, None, refl, ap, sym, ◌∙◌, subst, ℕ, suc, zero, ◌+◌, ◌&&◌, ◌||◌, List, [], ◌∷◌, length, map, arith, inl, inr, ℤ}
 use Rattle.std.specs.List.{list_all}
-use Rattle.std.specs.Prelude.{option_map, option_and_then, if◌then◌else◌, is_some}
-use Rattle.std.proofs.lemmas.Bool.{and_parts, and_from, or_left, or_right, le-leb}
-use Rattle.std.proofs.lemmas.Option.{none-some, same_Some}
+use Rattle.std.specs.Prelude.{option_map, option_and_then, is_some}
+use Rattle.std.proofs.lemmas.Bool.{and_parts, and_from}
 use Rattle.term_values.proofs.OidLaws.{oid_read}
 use Rattle.term_values.specs.Beginnings.{begins, first_tags, has_tag, parts_tags}
 use Rattle.term_values.specs.Bounded.{allowed, allowed_size, bit_count, is_named, has_character}
-use Rattle.term_values.specs.Decoding.{denoted, picked_in, parts_in, unordered_in, members_in, rising_by, one_in, within, sized_members}
-use Rattle.term_values.specs.Denotes.{DenotesAs, PartsDenote, PickDenotes, AllDenote, PresentHolds, AbsentHolds, IsWhole, IsString, IsIdentifier, Holds}
+use Rattle.term_values.specs.Decoding.{denoted, parts_in, unordered_in, members_in, rising_by, one_in, within, sized_members}
+use Rattle.term_values.specs.Denotes.{DenotesAs, PartsDenote, PickDenotes, AllDenote, IsWhole, Holds}
 use Rattle.term_values.specs.Der.{written}
 use Rattle.term_values.specs.FilterTrees.{is_filter, is_context, is_one_item, are_filters, is_one_filter}
 use Rattle.term_values.specs.Fits.{count}
 use Rattle.term_values.specs.LeafReading.{where_it, contents_in, truth_in, null_in, whole_in, named_in, bit_string_in, octet_string_in, identifier_in, text_in, time_in}
-use Rattle.term_values.specs.Octets.{integer_in, integer_contents}
-use Rattle.term_values.specs.Oid.{oid_in, oid_contents}
+use Rattle.term_values.specs.Octets.{integer_in}
 use Rattle.term_values.specs.Rearranged.{IsRearrangement, IsRising}
 use Rattle.term_values.specs.Soundness.{has_clear_tags, have_clear_tags, are_all_apart, are_runs_apart, has_own_tag}
 use Rattle.term_values.specs.Syntaxes.{Bounds, TypeSyntax, TypeParts}
@@ -23,11 +20,9 @@ use Rattle.term_values.specs.Syntaxes.TypeSyntax.{Boolean, Integer, Enumerated, 
 use Rattle.term_values.specs.Syntaxes.TypeSyntax.{ObjectIdentifier, TextString, GeneralizedTime, Sequence, SetType}
 use Rattle.term_values.specs.Syntaxes.TypeSyntax.{SequenceOf, SetOf, Choice, Tagged, Any, Filter}
 use Rattle.term_values.specs.Syntaxes.TypeParts.{NoParts, Part}
-use Rattle.term_values.specs.Tag.{context, is_same_tag}
 use Rattle.term_values.specs.Times.{is_time}
 use Rattle.term_values.specs.Tree.{TreeValue, TreeValues, listed as trees_listed}
 use Rattle.term_values.specs.Tree.TreeValue.{Primitive, Constructed}
-use Rattle.term_values.specs.Tree.TreeValues.{Nothing as NoTrees, Then as AndTrees}
 use Rattle.term_values.specs.TreeTags.{tag_of, due}
 use Rattle.term_values.specs.Typed.{TypedValue, TypedSlots, TypedValues, listed}
 use Rattle.term_values.specs.Typed.TypedValue.{Truth, Int, Bits, Octets, Null, Identifier, Text, Time, Parts, Many, Pick, Raw}
@@ -38,10 +33,10 @@ use Rattle.term_values.specs.UniversalTags.{sequence, set, generalized_time, tex
 use Rattle.term_values.specs.Written.{der}
 use Rattle.term_values.specs.declared.tag.Tag.{Tag}
 use Rattle.typed_laws.specs.Distinct.{IsDistinct, AreDistinct, PickDistinct}
-use Rattle.typed_laws.proofs.Choosing.{under_is, due_is, same_itself}
+use Rattle.typed_laws.proofs.Choosing.{under_is}
 use Rattle.typed_laws.proofs.IntegerLaws.{whole_read}
 use Rattle.typed_laws.proofs.ListsTold.{rising_counts, rearranged_counts}
-use Rattle.typed_laws.proofs.PartsRead.{IsRead, PartsRead, PickRead, parts_read}
+use Rattle.typed_laws.proofs.PartsRead.{PartsRead, PickRead, parts_read}
 use Rattle.typed_laws.proofs.AnyOrderRead.{Each, each_rearranged, unordered_read, picked_read}
 use Rattle.typed_laws.proofs.RisingOnce.{each_of, rising_once}
 use Rattle.typed_laws.proofs.StringsTold.{octets_read, bits_read}
@@ -235,9 +230,9 @@ mutual
       record {
         read = Parts r.0;
         found = under_is tag sequence (within (λ inside. option_map Parts (parts_in parts inside))) tree (Parts r.0)
-        (ap tag_of d.2)
-      (inside_found (due tag sequence) (λ inside. option_map Parts (parts_in parts inside)) tree d.0 (Parts r.0) d.2
-      (ap (option_map Parts) (parts_read parts d.0 r.0 p.0 r.1)));
+            (ap tag_of d.2)
+            (inside_found (due tag sequence) (λ inside. option_map Parts (parts_in parts inside)) tree d.0 (Parts r.0) d.2
+            (ap (option_map Parts) (parts_read parts d.0 r.0 p.0 r.1)));
         same = λ h. ap Parts (r.2 (subst (IsDistinct (Sequence parts)) d.4 h)) ∙ sym d.4;
       }
   found (SetType parts) tag tree v c d =
@@ -246,9 +241,9 @@ mutual
       record {
         read = Parts r.0;
         found = under_is tag set (within (λ inside. option_map Parts (unordered_in parts inside))) tree (Parts r.0)
-        (ap tag_of d.3)
-      (inside_found (due tag set) (λ inside. option_map Parts (unordered_in parts inside)) tree d.0 (Parts r.0) d.3
-      (ap (option_map Parts) (unordered_read parts d.0 d.1 r.0 p.0 d.4 r.1)));
+            (ap tag_of d.3)
+            (inside_found (due tag set) (λ inside. option_map Parts (unordered_in parts inside)) tree d.0 (Parts r.0) d.3
+            (ap (option_map Parts) (unordered_read parts d.0 d.1 r.0 p.0 d.4 r.1)));
         same = λ h. ap Parts (r.2 (subst (IsDistinct (SetType parts)) d.6 h)) ∙ sym d.6;
       }
   found (SequenceOf member sizes) tag tree v c d =
@@ -256,12 +251,12 @@ mutual
       record {
         read = Many r.values;
         found = under_is tag sequence (within (λ inside. option_and_then (sized_members sizes)
-        (members_in (denoted false member) inside))) tree (Many r.values) (ap tag_of d.2)
-      (inside_found (due tag sequence) (λ inside. option_and_then (sized_members sizes)
-      (members_in (denoted false member) inside)) tree d.0 (Many r.values) d.2
-      (rw r.found (sized_found sizes r.values (length d.1) r.many d.4)));
+            (members_in (denoted false member) inside))) tree (Many r.values) (ap tag_of d.2)
+            (inside_found (due tag sequence) (λ inside. option_and_then (sized_members sizes)
+            (members_in (denoted false member) inside)) tree d.0 (Many r.values) d.2
+            (rw r.found (sized_found sizes r.values (length d.1) r.many d.4)));
         same = λ h. ap Many (r.same (each_of (IsDistinct member) d.1
-        (subst (IsDistinct (SequenceOf member sizes)) d.5 h)))
+            (subst (IsDistinct (SequenceOf member sizes)) d.5 h)))
             ∙ sym d.5;
       }
   found (SetOf member sizes) tag tree v c d =
@@ -272,10 +267,10 @@ mutual
       record {
         read = Many m;
         found = under_is tag set (within (λ inside. option_and_then (sized_members sizes)
-      (option_map (rising_by (der member)) (members_in (denoted false member) inside)))) tree (Many m) (ap tag_of d.3)
-      (inside_found (due tag set) (λ inside. option_and_then (sized_members sizes)
-      (option_map (rising_by (der member)) (members_in (denoted false member) inside))) tree d.0 (Many m) d.3
-      (rw r.found (sized_found sizes m (length d.2) size d.7)));
+            (option_map (rising_by (der member)) (members_in (denoted false member) inside)))) tree (Many m) (ap tag_of d.3)
+            (inside_found (due tag set) (λ inside. option_and_then (sized_members sizes)
+            (option_map (rising_by (der member)) (members_in (denoted false member) inside))) tree d.0 (Many m) d.3
+            (rw r.found (sized_found sizes m (length d.2) size d.7)));
         same = λ h. set_same member sizes d.1 d.2 r.values v d.5 d.6 d.8 r.same h;
       }
   found (Choice parts) None tree v c d =
@@ -293,7 +288,7 @@ mutual
       record {
         read = f.read;
         found = under_is tag own (within (one_in (denoted false of))) tree f.read (ap tag_of d.1)
-      (ap (within (one_in (denoted false of))) d.1 ∙ f.found);
+            (ap (within (one_in (denoted false of))) d.1 ∙ f.found);
         same = f.same;
       }
   found (Tagged own false of) tag tree v c d =
@@ -302,7 +297,7 @@ mutual
       record {
         read = f.read;
         found = under_is tag own (denoted true of) tree f.read
-      (tag_told of (due tag own) tree v d) f.found;
+            (tag_told of (due tag own) tree v d) f.found;
         same = f.same;
       }
   found Any None tree v c d = by None Any tree v (Raw (written tree)) d refl
@@ -321,8 +316,7 @@ mutual
   parts_found (Part name syntax optional default rest) (x ∷ xs) (Filled v slots) c (inl d) =
       let p = and_parts (has_clear_tags syntax) (have_clear_tags rest) c in
       let f = found syntax None x v p.0 d.0 in
-      let r = parts_found rest xs slots p.1 d.1 in
-      (
+      let r = parts_found rest xs slots p.1 d.1 in (
         Filled f.read r.0,
         inl (record { begun = begins_told syntax x v d.0; found = f.found }, r.1),
         λ h i. Filled (f.same h.0 i) (r.2 h.1 i),

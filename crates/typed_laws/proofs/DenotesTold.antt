@@ -1,22 +1,22 @@
 -- The value that is read from a tree is one that the tree denotes: X.690, section 8.
-use Rattle.std.proofs.Common.{◌≡◌, ◌⊎◌, Bool, true, false, cond, Option, Some, None, refl, ap, sym, ◌∙◌, subst, ℕ, suc, zero, ◌+◌, List, [], ◌∷◌, length, map, arith, inl, inr, ℤ}
-use Rattle.std.specs.Prelude.{option_map, option_and_then, if◌then◌else◌, is_some}
-use Rattle.std.proofs.lemmas.Option.{none-some, same_Some, some_pair_parts}
+use Rattle.std.proofs.Common.{◌≡◌, ◌⊎◌, Bool, true, false, cond, Option, Some, None, refl, ap, sym, ◌∙◌, subst, ℕ, suc, zero, ◌+◌, List, [], ◌∷◌, length, map, arith, inl, inr}
+use Rattle.std.specs.Prelude.{option_map, option_and_then, is_some}
+use Rattle.std.proofs.lemmas.Option.{none-some, same_Some}
 use Rattle.term_values.specs.Beginnings.{begins}
 use Rattle.term_values.specs.Bounded.{allowed, allowed_size, is_named}
-use Rattle.term_values.specs.Decoding.{denoted, value_in, picked_in, parts_in, unordered_in, members_in, rising_by, left_out, inside_of, one_in, within, sized_members, taken_out, where_taken, under, is_due}
-use Rattle.term_values.specs.Denotes.{DenotesAs, Denotes, PartsDenote, PickDenotes, AllDenote, PresentHolds, AbsentHolds, Holds}
+use Rattle.term_values.specs.Decoding.{denoted, picked_in, parts_in, unordered_in, members_in, rising_by, left_out, inside_of, one_in, within, sized_members, taken_out, where_taken}
+use Rattle.term_values.specs.Denotes.{DenotesAs, PartsDenote, PickDenotes, PresentHolds, AbsentHolds, Holds}
 use Rattle.term_values.specs.Der.{written}
 use Rattle.term_values.specs.FilterTrees.{is_filter}
 use Rattle.term_values.specs.Fits.{count}
-use Rattle.term_values.specs.LeafReading.{where_it, truth_in, null_in, whole_in, named_in, bit_string_in, octet_string_in, identifier_in, text_in, time_in}
+use Rattle.term_values.specs.LeafReading.{truth_in, null_in, whole_in, named_in, bit_string_in, octet_string_in, identifier_in, text_in, time_in}
 use Rattle.term_values.specs.Rearranged.{IsRearrangement, IsRising}
 use Rattle.term_values.specs.Syntaxes.{Bounds, TypeSyntax, TypeParts}
 use Rattle.term_values.specs.Syntaxes.TypeSyntax.{Boolean, Integer, Enumerated, BitString, OctetString, NullType}
 use Rattle.term_values.specs.Syntaxes.TypeSyntax.{ObjectIdentifier, TextString, GeneralizedTime, Sequence, SetType}
 use Rattle.term_values.specs.Syntaxes.TypeSyntax.{SequenceOf, SetOf, Choice, Tagged, Any, Filter}
 use Rattle.term_values.specs.Syntaxes.TypeParts.{NoParts, Part}
-use Rattle.term_values.specs.Tree.{TreeValue, TreeValues, listed as trees_listed}
+use Rattle.term_values.specs.Tree.{TreeValue, TreeValues}
 use Rattle.term_values.specs.Tree.TreeValue.{Primitive, Constructed}
 use Rattle.term_values.specs.Tree.TreeValues.{Nothing as NoTrees, Then as AndTrees}
 use Rattle.term_values.specs.TreeTags.{tag_of, due}
@@ -28,9 +28,9 @@ use Rattle.term_values.specs.UniversalTags.{sequence, set, generalized_time, tex
 use Rattle.term_values.specs.Written.{der}
 use Rattle.term_values.specs.declared.tag.Tag.{Tag}
 use Rattle.typed_laws.specs.TreeOctets.{HasOctets, HaveOctets}
-use Rattle.typed_laws.proofs.Choosing.{Meets, map_some, then_some, if_some, under_parts}
+use Rattle.typed_laws.proofs.Choosing.{Meets, map_some, then_some, under_parts}
 use Rattle.typed_laws.proofs.LeavesTold.{where_is, truth_told, null_told, whole_told, bit_string_told, octet_string_told, text_told, time_told, identifier_told}
-use Rattle.typed_laws.proofs.ListsTold.{trees_of, trees_again, values_of, values_again, count_is, members_told, rising_rearranges, rising_rises, rising_counts, taken_octets, taken_rearranges}
+use Rattle.typed_laws.proofs.ListsTold.{trees_of, trees_again, values_of, values_again, count_is, members_told, rising_rearranges, rising_rises, taken_octets, taken_rearranges}
 
 -- the trees in a constructed value
 pub inside_told : (tag : Tag) (tree : TreeValue) (inside : TreeValues) → tag_of tree ≡ tag → HasOctets tree
@@ -196,7 +196,7 @@ mutual
         values_of g.0,
         t.0,
         members_told (denoted false member) (DenotesAs None member) (λ x w k q. told member None x w tt k q) i.0 g.0
-        t.1 g.1,
+            t.1 g.1,
         s.0,
         s.1,
       )
@@ -215,7 +215,7 @@ mutual
         values_of g.0,
         t.0,
         members_told (denoted false member) (DenotesAs None member) (λ x w k q. told member None x w tt k q) i.0 r.0
-        t.1 r.1,
+            t.1 r.1,
         subst (λ ws. IsRearrangement (values_of r.0) (values_of ws)) r.2 (rising_rearranges (der member) r.0),
         subst (λ ws. IsRising (map (der member) (values_of ws))) r.2 (rising_rises (der member) r.0),
         s.0,

@@ -1,26 +1,25 @@
--- A tree is a filter exactly where a value of the CHOICE of a filter's alternatives is read from it: X.711, section
-7.5.
-use Rattle.std.proofs.Common.{◌≡◌, ◌⊎◌, Bool, true, false, cond, ◌&&◌, ◌||◌, ◌==◌, Option, Some, None, refl, ap, sym, ◌∙◌, subst, ⊎_elim, ℕ, suc, zero, ◌+◌, List, [], ◌∷◌}
+-- A tree is a filter exactly where the CHOICE of a filter's alternatives has it: X.711, section 7.5.
+use Rattle.std.proofs.Common.{◌≡◌, Bool, true, false, ◌&&◌, ◌||◌, Option, Some, None, refl, ap, sym, ◌∙◌, subst, ⊎_elim, ℕ, List, []}
 use Rattle.std.specs.Prelude.{is_some, option_map, option_and_then, codes}
-use Rattle.std.proofs.lemmas.Bool.{and_parts, eqb-true, false_from_ne_true, true≢false, cases_Bool, or_parts}
+use Rattle.std.proofs.lemmas.Bool.{cases_Bool, or_parts}
 use Rattle.term_values.specs.Beginnings.{begins}
-use Rattle.term_values.specs.CmipTypes.{one, unnamed, implicit, explicit, number, filter_choice, filter_item, substrings, piece, attribute, attribute_id}
-use Rattle.term_values.specs.Decoding.{denoted, value_in, picked_in, parts_in, members_in, one_in, left_out, rising_by, sized_members}
+use Rattle.term_values.specs.CmipTypes.{one, unnamed, implicit, filter_choice, filter_item, piece, attribute_id}
+use Rattle.term_values.specs.Decoding.{denoted, value_in, parts_in, members_in, one_in, rising_by, sized_members}
 use Rattle.term_values.specs.Der.{written}
-use Rattle.term_values.specs.FilterTrees.{is_filter, are_filters, is_one_filter, is_item, is_one_item, is_assertion, are_attribute_parts, are_pieces, is_one_attribute_id, is_attribute_id, is_context}
+use Rattle.term_values.specs.FilterTrees.{is_filter, are_filters, is_one_filter, is_item, is_one_item, are_attribute_parts, are_pieces, is_one_attribute_id, is_attribute_id, is_context}
 use Rattle.term_values.specs.LeafReading.{where_it}
 use Rattle.term_values.specs.Octets.{integer_in}
 use Rattle.term_values.specs.Oid.{oid_in}
 use Rattle.term_values.specs.Syntaxes.{TypeSyntax, TypeParts}
 use Rattle.term_values.specs.Syntaxes.TypeSyntax.{Filter, Any, Choice}
 use Rattle.term_values.specs.Syntaxes.TypeParts.{NoParts, Part}
-use Rattle.term_values.specs.Tag.{context, is_same_tag}
+use Rattle.term_values.specs.Tag.{context}
 use Rattle.term_values.specs.Tree.{TreeValue, TreeValues}
 use Rattle.term_values.specs.Tree.TreeValue.{Primitive, Constructed}
 use Rattle.term_values.specs.Tree.TreeValues.{Nothing as NoTrees, Then as AndTrees}
 use Rattle.term_values.specs.TreeTags.{tag_of}
 use Rattle.term_values.specs.Typed.{TypedValue, TypedSlots, TypedValues}
-use Rattle.term_values.specs.Typed.TypedValue.{Identifier, Int, Parts, Many, Pick, Raw}
+use Rattle.term_values.specs.Typed.TypedValue.{Identifier, Int, Parts, Pick, Raw}
 use Rattle.term_values.specs.Typed.TypedSlots.{NoSlots, Filled}
 use Rattle.term_values.specs.Typed.TypedValues.{Then}
 use Rattle.term_values.specs.Written.{der}

@@ -1,5 +1,5 @@
 -- The least octets of an INTEGER of 64 bits, read and written: X.690, section 8.3.
-use Rattle.std.proofs.Common.{◌≡◌, ℕ, zero, suc, ◌+◌, ◌-◌, ◌*◌, ◌/◌, ◌%◌, ◌^◌, ◌<◌, ◌≤◌, Bool, true, false, not, ◌&&◌, ◌==◌, nat_lt, nat_le, List, [], ◌∷◌, length, map, take, get_or, All, mod-lt, ℤ, pos, negsuc, ◌-ℤ◌, FitsSigned, Fits, w8, to_z, of_z, Some, slice_get, sym, ap, ◌∙◌, refl, inl, inr, ◌⊎◌, ⊎_elim, arith, add-one, zero-add}
+use Rattle.std.proofs.Common.{◌≡◌, ℕ, zero, suc, ◌+◌, ◌-◌, ◌*◌, ◌/◌, ◌%◌, ◌^◌, ◌<◌, ◌≤◌, Bool, true, false, not, ◌&&◌, ◌==◌, nat_lt, nat_le, List, [], ◌∷◌, length, map, take, get_or, All, ℤ, pos, negsuc, ◌-ℤ◌, FitsSigned, Fits, w8, to_z, of_z, Some, slice_get, sym, ap, ◌∙◌, refl, inl, inr, ◌⊎◌, ⊎_elim, arith, add-one, zero-add}
 use Rattle.std.specs.Int.{w64}
 use Rattle.std.proofs.lemmas.Bool.{lt-ltb, le-ltb, cases_lt, cases_Bool, ltb-true, ltb-false, leb-true, leb-false, le-leb, lt-leb, false≢true}
 use Rattle.std.proofs.lemmas.Bool.Decides.{nat_tests}

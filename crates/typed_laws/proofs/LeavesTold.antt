@@ -1,31 +1,30 @@
 -- What is read of trees that hold no others is what they denote: X.690, sections 8.2 to 8.8, 8.19 and 8.23.
-use Rattle.std.proofs.Common.{◌≡◌, Bool, true, false, Option, Some, None, refl, ap, sym, ◌∙◌, subst, ℕ, suc, zero, ◌+◌, ◌^◌, ◌<◌, ◌≤◌, ◌==◌, ◌&&◌, ◌||◌, not, nat_lt, nat_le, List, [], ◌∷◌, ◌++◌, length, map, get_or, ⊎_elim, arith, ℤ, pos, negsuc, FitsSigned, All}
+use Rattle.std.proofs.Common.{◌≡◌, Bool, true, false, Some, refl, ap, sym, ◌∙◌, subst, ℕ, ◌<◌, ◌≤◌, ◌==◌, ◌&&◌, not, nat_lt, nat_le, List, [], ◌∷◌, length, map, ⊎_elim, arith, ℤ, FitsSigned}
 use Rattle.std.specs.Int.{w64}
 use Rattle.std.specs.List.{list_all}
-use Rattle.std.specs.Prelude.{option_map, option_and_then, if◌then◌else◌, is_some}
-use Rattle.std.proofs.lemmas.Bool.{and_parts, eqb-true, eq-eqb, false≢true, cases_Bool, ltb-true, ltb-false, lt-ltb, and_from, or_right, or_left, leb-true, le-leb}
-use Rattle.std.proofs.lemmas.Option.{none-some, same_Some, some_pair_parts}
-use Rattle.term_values.proofs.OidLaws.{oid_spelt, oid_read}
-use Rattle.term_values.specs.Bounded.{allowed, allowed_size, bit_count, is_named, has_character}
-use Rattle.term_values.specs.Denotes.{IsWhole, IsString, IsIdentifier, DenotesAs}
-use Rattle.term_values.specs.LeafReading.{truth_in, null_in, whole_in, named_in, bit_string_in, octet_string_in, identifier_in, text_in, time_in, where_it, contents_in, octets_in, bits_in}
+use Rattle.std.specs.Prelude.{option_and_then}
+use Rattle.std.proofs.lemmas.Bool.{and_parts, false≢true, cases_Bool, ltb-true, ltb-false, leb-true}
+use Rattle.std.proofs.lemmas.Option.{none-some, same_Some}
+use Rattle.term_values.proofs.OidLaws.{oid_spelt}
+use Rattle.term_values.specs.Bounded.{allowed_size, bit_count, has_character}
+use Rattle.term_values.specs.Denotes.{IsWhole, IsString, IsIdentifier}
+use Rattle.term_values.specs.LeafReading.{truth_in, null_in, bit_string_in, octet_string_in, identifier_in, text_in, time_in, where_it, contents_in, octets_in, bits_in}
 use Rattle.term_values.specs.Octets.{number, integer_in, integer_contents, are_least, signed_number, octet_turned}
-use Rattle.term_values.specs.Oid.{oid_in, is_oid, is_arc, oid_contents}
+use Rattle.term_values.specs.Oid.{oid_in}
 use Rattle.term_values.specs.SpellingLaws.{AreOctets}
-use Rattle.term_values.specs.Strings.{SpellsOctets, SpellsBits}
-use Rattle.term_values.specs.Syntaxes.{Named, Bounds, TypeSyntax}
-use Rattle.term_values.specs.Syntaxes.TypeSyntax.{Boolean, Integer, Enumerated, BitString, OctetString, NullType, ObjectIdentifier, TextString, GeneralizedTime}
+use Rattle.term_values.specs.Strings.{SpellsBits}
+use Rattle.term_values.specs.Syntaxes.{Bounds}
 use Rattle.term_values.specs.Times.{is_time}
-use Rattle.term_values.specs.Tree.{TreeValue, TreeValues}
+use Rattle.term_values.specs.Tree.{TreeValue}
 use Rattle.term_values.specs.Tree.TreeValue.{Primitive, Constructed}
-use Rattle.term_values.specs.TreeTags.{tag_of, due}
+use Rattle.term_values.specs.TreeTags.{tag_of}
 use Rattle.term_values.specs.Typed.{TypedValue}
 use Rattle.term_values.specs.Typed.TypedValue.{Truth, Int, Bits, Octets, Null, Identifier, Text, Time}
 use Rattle.term_values.specs.declared.charset.Charset.{Charset}
 use Rattle.term_values.specs.declared.tag.Tag.{Tag}
 use Rattle.typed_laws.specs.TreeOctets.{HasOctets}
 use Rattle.typed_laws.proofs.Choosing.{map_some, then_some, if_some}
-use Rattle.typed_laws.proofs.IntegerLaws.{contents_of_value, contents_least, number_below_sign}
+use Rattle.typed_laws.proofs.IntegerLaws.{contents_of_value, number_below_sign}
 use Rattle.typed_laws.proofs.StringsTold.{octets_spelt, bits_spelt}
 
 -- a primitive value with these contents and this tag

@@ -1,7 +1,6 @@
 -- Trees and members in rows, and in other orders: X.690, sections 8.9 to 8.12 and 11.6.
-use Rattle.std.proofs.Common.{◌≡◌, Bool, true, false, cond, Option, Some, None, refl, ap, sym, ◌∙◌, subst, ℕ, suc, zero, ◌+◌, List, [], ◌∷◌, ◌++◌, length, map, ⊎_elim, arith, inl, inr}
-use Rattle.std.specs.Prelude.{option_map, option_and_then, if◌then◌else◌}
-use Rattle.std.proofs.lemmas.Bool.{cases_Bool}
+use Rattle.std.proofs.Common.{◌≡◌, Bool, true, false, cond, Option, Some, refl, ap, sym, ◌∙◌, subst, ℕ, suc, List, [], ◌∷◌, length, map, arith, inl, inr}
+use Rattle.std.specs.Prelude.{option_map}
 use Rattle.std.proofs.lemmas.Option.{none-some, same_Some, some_pair_parts}
 use Rattle.term_values.proofs.RisingLaws.{may_precede_back}
 use Rattle.term_values.specs.Decoding.{members_in, inserted_by, rising_by, taken_out}
@@ -15,7 +14,7 @@ use Rattle.term_values.specs.Typed.{TypedValue, TypedValues, listed}
 use Rattle.term_values.specs.Typed.TypedValues.{Nothing, Then}
 use Rattle.term_values.specs.declared.tag.Tag.{Tag}
 use Rattle.typed_laws.specs.TreeOctets.{HasOctets, HaveOctets}
-use Rattle.typed_laws.proofs.Choosing.{map_some, then_some, if_some}
+use Rattle.typed_laws.proofs.Choosing.{map_some, then_some}
 
 -- ---- rows as lists
 
@@ -69,9 +68,12 @@ among_inserted encoding x (Then y ys) =
 pub rising_rearranges : (encoding : TypedValue → List ℕ) (xs : TypedValues)
     → IsRearrangement (values_of xs) (values_of (rising_by encoding xs))
 rising_rearranges encoding Nothing = refl
-rising_rearranges encoding (Then x xs) =
-    (values_of (rising_by encoding xs), among_inserted encoding x (rising_by encoding xs), rising_rearranges encoding
-    xs)
+rising_rearranges encoding (Then x xs) = (
+  values_of (rising_by encoding xs),
+  among_inserted encoding x (rising_by encoding xs),
+  rising_rearranges encoding
+      xs,
+)
 
 pub rising_inserted : (encoding : TypedValue → List ℕ) (x : TypedValue) (ys : TypedValues)
     → IsRising (map encoding (values_of ys)) → IsRising (map encoding (values_of (inserted_by encoding x ys)))

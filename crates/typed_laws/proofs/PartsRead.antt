@@ -1,20 +1,16 @@
 -- Components and alternatives whose tags tell them apart are found by their tags: X.680, sections 24.5, 26.3 and 28.3.
-use Rattle.std.proofs.Common.{◌≡◌, ◌⊎◌, Bool, true, false, cond, Option, Some, None, refl, ap, sym, ◌∙◌, subst, ℕ, suc, zero, ◌+◌, ◌&&◌, ◌||◌, not, List, [], ◌∷◌, length, inl, inr, arith}
-use Rattle.std.specs.Prelude.{option_map, option_and_then, if◌then◌else◌, is_some}
+use Rattle.std.proofs.Common.{◌≡◌, ◌⊎◌, Bool, true, false, Option, Some, None, refl, ap, sym, ℕ, suc, zero, ◌||◌, not, List, [], ◌∷◌, inl, inr}
 use Rattle.std.proofs.lemmas.Bool.{and_parts, or_right}
-use Rattle.std.proofs.lemmas.Option.{none-some}
 use Rattle.term_values.specs.Beginnings.{begins, first_tags, has_tag}
-use Rattle.term_values.specs.Decoding.{denoted, picked_in, parts_in, unordered_in, left_out, taken_out, where_taken}
+use Rattle.term_values.specs.Decoding.{denoted, parts_in, left_out}
 use Rattle.term_values.specs.Denotes.{PresentHolds, AbsentHolds}
-use Rattle.term_values.specs.Rearranged.{IsAmong, IsRearrangement}
-use Rattle.term_values.specs.Soundness.{are_all_apart, are_runs_apart, is_apart_from_all, is_apart_from_next, may_be_absent}
+use Rattle.term_values.specs.Soundness.{are_runs_apart, is_apart_from_next, may_be_absent}
 use Rattle.term_values.specs.Syntaxes.{TypeSyntax, TypeParts}
 use Rattle.term_values.specs.Syntaxes.TypeParts.{NoParts, Part}
-use Rattle.term_values.specs.Tree.{TreeValue, TreeValues, listed as trees_listed}
+use Rattle.term_values.specs.Tree.{TreeValue, listed as trees_listed}
 use Rattle.term_values.specs.Tree.TreeValues.{Nothing as NoTrees, Then as AndTrees}
 use Rattle.term_values.specs.TreeTags.{tag_of}
 use Rattle.term_values.specs.Typed.{TypedValue, TypedSlots}
-use Rattle.term_values.specs.Typed.TypedValue.{Pick}
 use Rattle.term_values.specs.Typed.TypedSlots.{NoSlots, Filled, Empty}
 use Rattle.term_values.specs.declared.tag.Tag.{Tag}
 use Rattle.typed_laws.proofs.TagsApart.{apart, apart_next}

@@ -1,16 +1,16 @@
 -- What is written for a value that fits its syntax is read again: X.690, sections 8, 10 and 11.
-use Rattle.std.proofs.Common.{◌≡◌, ◌⊎◌, Bool, true, false, cond, Option, Some, None, refl, ap, sym, ◌∙◌, subst, ℕ, suc, zero, ◌+◌, ◌<◌, ◌≤◌, ◌&&◌, ◌||◌, List, [], ◌∷◌, ◌++◌, length, map, arith, inl, inr, ⊎_elim, length-append}
-use Rattle.std.specs.Prelude.{option_map, option_and_then, if◌then◌else◌, is_some, max}
-use Rattle.std.proofs.lemmas.Bool.{and_parts, and_from, cases_Bool}
+use Rattle.std.proofs.Common.{◌≡◌, Bool, true, false, cond, Option, Some, None, refl, ap, sym, ◌∙◌, subst, ℕ, suc, zero, ◌+◌, ◌<◌, List, [], ◌∷◌, ◌++◌, length, map, arith, inl, inr, length-append}
+use Rattle.std.specs.Prelude.{option_map, option_and_then, is_some}
+use Rattle.std.proofs.lemmas.Bool.{and_parts, and_from}
 use Rattle.std.proofs.lemmas.List.{append-nil}
 use Rattle.term_values.proofs.OidLaws.{oid_read}
 use Rattle.term_values.specs.Beginnings.{begins, first_tags, has_tag, parts_tags}
-use Rattle.term_values.specs.Bounded.{allowed, allowed_size, bit_count, is_named, has_character}
-use Rattle.term_values.specs.Decoding.{denoted, picked_in, parts_in, unordered_in, members_in, inserted_by, rising_by, one_in, within, sized_members, under}
+use Rattle.term_values.specs.Bounded.{allowed, allowed_size, bit_count, is_named}
+use Rattle.term_values.specs.Decoding.{denoted, parts_in, unordered_in, members_in, inserted_by, rising_by, one_in, within, sized_members, under}
 use Rattle.term_values.specs.Der.{written, written_all, encoded, identifier_octets, length_octets}
 use Rattle.term_values.specs.FilterTrees.{is_filter}
-use Rattle.term_values.specs.Fits.{Fits, AllFit, PartsFit, PickFits, IsKept, count}
-use Rattle.term_values.specs.LeafReading.{where_it, truth_in, null_in, whole_in, named_in, bit_string_in, octet_string_in, identifier_in, text_in, time_in}
+use Rattle.term_values.specs.Fits.{Fits, AllFit, PartsFit, PickFits, count}
+use Rattle.term_values.specs.LeafReading.{truth_in, null_in, whole_in, named_in, bit_string_in, octet_string_in, identifier_in, text_in, time_in}
 use Rattle.term_values.specs.Octets.{integer_contents}
 use Rattle.term_values.specs.Oid.{oid_contents}
 use Rattle.term_values.specs.Rearranged.{IsRising, joined, inserted, rising, may_precede}
@@ -37,11 +37,11 @@ use Rattle.term_values.specs.Writable.{IsTag, IsWritable, AreWritable}
 use Rattle.term_values.specs.Written.{der, der_as, part_encodings, pick_encoding, unless_default}
 use Rattle.term_values.specs.declared.tag.Tag.{Tag}
 use Rattle.typed_laws.specs.SyntaxTags.{HasTags, HaveTags}
-use Rattle.typed_laws.proofs.AnyOrderRead.{Each, each_rearranged, unordered_read, picked_read}
+use Rattle.typed_laws.proofs.AnyOrderRead.{each_rearranged, unordered_read, picked_read}
 use Rattle.typed_laws.proofs.Choosing.{under_is}
 use Rattle.typed_laws.proofs.DenotesFound.{where_holds, filter_begins, begins_by_tag}
 use Rattle.typed_laws.proofs.IntegerLaws.{whole_read}
-use Rattle.typed_laws.proofs.PartsRead.{IsRead, PartsRead, PickRead, parts_read}
+use Rattle.typed_laws.proofs.PartsRead.{PartsRead, PickRead, parts_read}
 use Rattle.typed_laws.proofs.SameIs.{same_is}
 use Rattle.typed_laws.proofs.StringsTold.{bits_contents_read}
 use Rattle.typed_laws.proofs.TagsApart.{left_has, right_has}

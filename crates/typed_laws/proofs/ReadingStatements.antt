@@ -1,5 +1,5 @@
 -- The laws of specs/ReadingLaws, proved.
-use Rattle.std.proofs.Common.{◌≡◌, true, Option, Some, None, sym, ap, ◌∙◌, refl}
+use Rattle.std.proofs.Common.{◌≡◌, Option, Some, None, sym, ap, ◌∙◌, refl}
 use Rattle.std.proofs.lemmas.Option.{none-some}
 use Rattle.term_values.specs.Decoding.{value_in}
 use Rattle.term_values.specs.Denotes.{Denotes}

@@ -1,11 +1,11 @@
 -- Members of which no two have one encoding have one rising order: X.690, section 11.6.
-use Rattle.std.proofs.Common.{◌≡◌, ◌⊎◌, Bool, true, false, cond, refl, ap, sym, ◌∙◌, subst, ℕ, List, [], ◌∷◌, map, inl, inr}
+use Rattle.std.proofs.Common.{◌≡◌, Bool, true, false, cond, refl, ap, sym, ◌∙◌, subst, ℕ, List, [], ◌∷◌, map, inl, inr}
 use Rattle.term_values.proofs.RisingLaws.{may_precede_both, may_precede_through}
 use Rattle.term_values.specs.Decoding.{inserted_by, rising_by}
 use Rattle.term_values.specs.Fits.{AllFit}
 use Rattle.term_values.specs.Rearranged.{IsAmong, IsRearrangement, IsRising, may_precede}
-use Rattle.term_values.specs.Typed.{TypedValue, TypedValues, listed}
-use Rattle.term_values.specs.Typed.TypedValues.{Nothing, Then}
+use Rattle.term_values.specs.Typed.{TypedValue, listed}
+use Rattle.term_values.specs.Typed.TypedValues.{Then}
 use Rattle.typed_laws.specs.Distinct.{IsMember, OneEach}
 use Rattle.typed_laws.proofs.AnyOrderRead.{Each, each_among}
 

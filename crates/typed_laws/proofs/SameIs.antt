@@ -1,5 +1,5 @@
 -- Values that the test of equality takes for equal are equal.
-use Rattle.std.proofs.Common.{◌≡◌, Bool, true, false, refl, ap, sym, ◌∙◌, ℕ, ◌==◌, ◌&&◌, List, [], ◌∷◌, not}
+use Rattle.std.proofs.Common.{◌≡◌, true, false, refl, ap, ℕ, ◌==◌, List, [], ◌∷◌}
 use Rattle.std.specs.Ordering.{int_eq}
 use Rattle.std.specs.Prelude.{ℤ}
 use Rattle.std.proofs.lemmas.Bool.Decides.{Decides-int_eq}

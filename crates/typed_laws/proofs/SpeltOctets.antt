@@ -1,5 +1,5 @@
 -- A tree that octets spell has octets: X.690, section 8.1.
-use Rattle.std.proofs.Common.{◌≡◌, ℕ, zero, suc, List, [], ◌∷◌, ◌++◌, Bool, Option, Some, None, true, false, refl, subst}
+use Rattle.std.proofs.Common.{ℕ, zero, suc, List, [], ◌∷◌, ◌++◌, Bool, Option, Some, None, true, false, refl, subst}
 use Rattle.term_values.proofs.ReadingLaws.{octets_back, octets_front}
 use Rattle.term_values.specs.Ber.{Parts, Encloses, Spells, SpellsAll}
 use Rattle.term_values.specs.SpellingLaws.{AreOctets}

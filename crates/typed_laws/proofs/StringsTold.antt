@@ -1,9 +1,9 @@
 -- The strings that are read from a tree are those that it spells: X.690, sections 8.6, 8.7 and 8.23.
-use Rattle.std.proofs.Common.{◌≡◌, Bool, true, false, Option, Some, None, refl, ap, sym, ◌∙◌, ℕ, suc, zero, ◌==◌, ◌&&◌, ◌||◌, not, nat_lt, List, [], ◌∷◌, ◌++◌, ⊎_elim, subst}
-use Rattle.std.specs.Prelude.{option_map, option_and_then, if◌then◌else◌, ◌<◌}
-use Rattle.std.proofs.lemmas.Bool.{and_parts, eqb-true, eq-eqb, false≢true, cases_Bool, ltb-true, lt-ltb, and_from, or_right, or_left}
+use Rattle.std.proofs.Common.{◌≡◌, Bool, true, false, Some, refl, ap, sym, ◌∙◌, ℕ, ◌==◌, ◌&&◌, ◌||◌, not, nat_lt, List, [], ◌∷◌, ◌++◌, subst}
+use Rattle.std.specs.Prelude.{◌<◌}
+use Rattle.std.proofs.lemmas.Bool.{and_parts, eqb-true, eq-eqb, ltb-true, lt-ltb, and_from, or_right, or_left}
 use Rattle.std.proofs.lemmas.Option.{none-some, same_Some, some_pair_parts}
-use Rattle.term_values.specs.LeafReading.{octets_in, segments_in, bits_of, bits_in, bit_segments_in, no_trees, with_more}
+use Rattle.term_values.specs.LeafReading.{octets_in, segments_in, bits_of, bits_in, bit_segments_in}
 use Rattle.term_values.specs.Strings.{SpellsOctets, SegmentsSpell, BitContents, SpellsBits, BitSegmentsSpell, cleared}
 use Rattle.term_values.specs.Tag.{is_same_tag}
 use Rattle.term_values.specs.Times.{is_nothing}
@@ -12,7 +12,7 @@ use Rattle.term_values.specs.Tree.TreeValue.{Primitive, Constructed}
 use Rattle.term_values.specs.Tree.TreeValues.{Nothing, Then}
 use Rattle.term_values.specs.TreeTags.{tag_of}
 use Rattle.term_values.specs.UniversalTags.{octet_string, bit_string}
-use Rattle.typed_laws.proofs.Choosing.{map_some, then_some, if_some, same_tag, same_itself}
+use Rattle.typed_laws.proofs.Choosing.{map_some, then_some, if_some, same_tag}
 
 -- ---- strings of octets
 

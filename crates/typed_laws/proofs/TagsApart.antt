@@ -1,9 +1,8 @@
 -- Which tags a value begins with, and that tags tell syntaxes apart: X.680, sections 8.6, 24.5, 26.3 and 28.3.
-use Rattle.std.proofs.Common.{◌≡◌, Bool, true, false, Option, Some, None, refl, ap, sym, ◌∙◌, subst, ℕ, suc, zero, ◌&&◌, ◌||◌, not, List, [], ◌∷◌, ◌++◌, ⊎_elim}
-use Rattle.std.specs.Prelude.{is_some}
-use Rattle.std.proofs.lemmas.Bool.{and_parts, or_left, or_right, or_from, cases_Bool, false_from_ne_true, true≢false}
-use Rattle.term_values.specs.Beginnings.{first_tags, parts_tags, either_tags, is_one_of, has_tag, begins}
-use Rattle.term_values.specs.Soundness.{no_tag_of, are_apart, is_apart_from_all, is_apart_from_next, may_be_absent}
+use Rattle.std.proofs.Common.{◌≡◌, Bool, true, false, Option, Some, None, refl, sym, subst, ℕ, ◌&&◌, ◌||◌, not, List, [], ◌∷◌, ◌++◌}
+use Rattle.std.proofs.lemmas.Bool.{and_parts, or_left, or_right, or_from, true≢false}
+use Rattle.term_values.specs.Beginnings.{first_tags, either_tags, is_one_of, has_tag}
+use Rattle.term_values.specs.Soundness.{no_tag_of, are_apart, is_apart_from_all, is_apart_from_next}
 use Rattle.term_values.specs.Syntaxes.{TypeSyntax, TypeParts}
 use Rattle.term_values.specs.Tag.{is_same_tag}
 use Rattle.term_values.specs.declared.tag.Tag.{Tag}

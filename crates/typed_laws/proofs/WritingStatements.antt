@@ -1,8 +1,8 @@
 -- The laws of specs/WritingLaws, proved.
-use Rattle.std.proofs.Common.{◌≡◌, true, Option, Some, None, sym, ◌∙◌, refl, ap, subst, ℕ, suc, zero, ◌+◌, ◌≤◌, ◌<◌, List, [], ◌∷◌, ◌++◌, length, arith, All, append_assoc, Bool, false}
+use Rattle.std.proofs.Common.{◌≡◌, true, Some, None, sym, ◌∙◌, refl, ap, subst, ℕ, suc, zero, ◌≤◌, List, [], ◌++◌, length, arith, append_assoc, false}
 use Rattle.std.specs.Prelude.{max}
-use Rattle.std.proofs.lemmas.List.{append-nil, append_cancel_left}
-use Rattle.std.proofs.lemmas.Option.{none-some, same_Some, some_pair_parts}
+use Rattle.std.proofs.lemmas.List.{append_cancel_left}
+use Rattle.std.proofs.lemmas.Option.{same_Some}
 use Rattle.term_values.proofs.ReadingLaws.{octets_back, octets_front}
 use Rattle.term_values.proofs.Statements.{one_tree_holds, reading_spells_holds, written_is_read_holds, written_spells_holds}
 use Rattle.term_values.specs.Ber.{most_depth, Spells}
@@ -10,16 +10,14 @@ use Rattle.term_values.specs.BerReading.{tree_at}
 use Rattle.term_values.specs.Decoding.{value_in}
 use Rattle.term_values.specs.Der.{written, written_all, identifier_octets, length_octets}
 use Rattle.term_values.specs.SpellingLaws.{AreOctets}
-use Rattle.term_values.specs.Syntaxes.{TypeSyntax}
 use Rattle.term_values.specs.Tree.{TreeValue, TreeValues}
 use Rattle.term_values.specs.Tree.TreeValue.{Primitive, Constructed}
 use Rattle.term_values.specs.Tree.TreeValues.{Nothing, Then}
-use Rattle.term_values.specs.Typed.{TypedValue}
 use Rattle.term_values.specs.Writable.{IsWritable, AreWritable}
 use Rattle.term_values.specs.Written.{der}
 use Rattle.typed_laws.specs.Nesting.{nesting, nesting_inside}
 use Rattle.typed_laws.specs.TreeOctets.{HasOctets, HaveOctets}
-use Rattle.typed_laws.specs.WritingLaws.{CanBeWritten, IsReadAgain, WrittenIsReadAgain, WrittenDenotes, WrittenIsReadBack, OneValueWritten}
+use Rattle.typed_laws.specs.WritingLaws.{WrittenIsReadAgain, WrittenDenotes, WrittenIsReadBack, OneValueWritten}
 use Rattle.typed_laws.proofs.DenotesTold.{told}
 use Rattle.typed_laws.proofs.ReadAgain.{again}
 use Rattle.typed_laws.proofs.WritableLaws.{writable_deeper, all_deeper}

@@ -7,7 +7,7 @@ use Rattle.term_values.specs.Syntaxes.TypeSyntax.{Sequence, SetType, SequenceOf,
 use Rattle.term_values.specs.Syntaxes.TypeParts.{NoParts, Part}
 use Rattle.term_values.specs.Typed.{TypedValue, TypedSlots, TypedValues}
 use Rattle.term_values.specs.Typed.TypedValue.{Parts, Many, Pick}
-use Rattle.term_values.specs.Typed.TypedSlots.{NoSlots, Filled, Empty}
+use Rattle.term_values.specs.Typed.TypedSlots.{Filled, Empty}
 use Rattle.term_values.specs.Typed.TypedValues.{Nothing, Then}
 use Rattle.term_values.specs.Written.{der}
 
