@@ -34,7 +34,7 @@ use Rattle.term_values.specs.Written.{der}
 use Rattle.term_values.specs.declared.tag.Tag.{Tag}
 use Rattle.typed_laws.specs.Distinct.{IsDistinct, AreDistinct, PickDistinct}
 use Rattle.typed_laws.proofs.Choosing.{under_is}
-use Rattle.typed_laws.proofs.IntegerLaws.{whole_read}
+use Rattle.term_values.proofs.IntegerLaws.{whole_read}
 use Rattle.typed_laws.proofs.ListsTold.{rising_counts, rearranged_counts}
 use Rattle.typed_laws.proofs.PartsRead.{PartsRead, PickRead, parts_read}
 use Rattle.typed_laws.proofs.AnyOrderRead.{Each, each_rearranged, unordered_read, picked_read}
@@ -231,7 +231,8 @@ mutual
         read = Parts r.0;
         found = under_is tag sequence (within (λ inside. option_map Parts (parts_in parts inside))) tree (Parts r.0)
             (ap tag_of d.2)
-            (inside_found (due tag sequence) (λ inside. option_map Parts (parts_in parts inside)) tree d.0 (Parts r.0) d.2
+            (inside_found (due tag sequence) (λ inside. option_map Parts (parts_in parts inside)) tree d.0 (Parts r.0)
+            d.2
             (ap (option_map Parts) (parts_read parts d.0 r.0 p.0 r.1)));
         same = λ h. ap Parts (r.2 (subst (IsDistinct (Sequence parts)) d.4 h)) ∙ sym d.4;
       }
@@ -242,7 +243,8 @@ mutual
         read = Parts r.0;
         found = under_is tag set (within (λ inside. option_map Parts (unordered_in parts inside))) tree (Parts r.0)
             (ap tag_of d.3)
-            (inside_found (due tag set) (λ inside. option_map Parts (unordered_in parts inside)) tree d.0 (Parts r.0) d.3
+            (inside_found (due tag set) (λ inside. option_map Parts (unordered_in parts inside)) tree d.0 (Parts r.0)
+            d.3
             (ap (option_map Parts) (unordered_read parts d.0 d.1 r.0 p.0 d.4 r.1)));
         same = λ h. ap Parts (r.2 (subst (IsDistinct (SetType parts)) d.6 h)) ∙ sym d.6;
       }
@@ -267,7 +269,8 @@ mutual
       record {
         read = Many m;
         found = under_is tag set (within (λ inside. option_and_then (sized_members sizes)
-            (option_map (rising_by (der member)) (members_in (denoted false member) inside)))) tree (Many m) (ap tag_of d.3)
+            (option_map (rising_by (der member)) (members_in (denoted false member) inside)))) tree (Many m)
+            (ap tag_of d.3)
             (inside_found (due tag set) (λ inside. option_and_then (sized_members sizes)
             (option_map (rising_by (der member)) (members_in (denoted false member) inside))) tree d.0 (Many m) d.3
             (rw r.found (sized_found sizes m (length d.2) size d.7)));

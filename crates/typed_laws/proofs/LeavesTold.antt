@@ -24,7 +24,7 @@ use Rattle.term_values.specs.declared.charset.Charset.{Charset}
 use Rattle.term_values.specs.declared.tag.Tag.{Tag}
 use Rattle.typed_laws.specs.TreeOctets.{HasOctets}
 use Rattle.typed_laws.proofs.Choosing.{map_some, then_some, if_some}
-use Rattle.typed_laws.proofs.IntegerLaws.{contents_of_value, number_below_sign}
+use Rattle.term_values.proofs.IntegerLaws.{contents_of_value, number_below_sign}
 use Rattle.typed_laws.proofs.StringsTold.{octets_spelt, bits_spelt}
 
 -- a primitive value with these contents and this tag

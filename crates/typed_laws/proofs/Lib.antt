@@ -3,7 +3,6 @@ pub mod Choosing
 pub mod DenotesFound
 pub mod DenotesTold
 pub mod FilterChoice
-pub mod IntegerLaws
 pub mod LeavesTold
 pub mod ListsTold
 pub mod PartsRead

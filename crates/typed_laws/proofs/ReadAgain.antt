@@ -40,7 +40,8 @@ use Rattle.typed_laws.specs.SyntaxTags.{HasTags, HaveTags}
 use Rattle.typed_laws.proofs.AnyOrderRead.{each_rearranged, unordered_read, picked_read}
 use Rattle.typed_laws.proofs.Choosing.{under_is}
 use Rattle.typed_laws.proofs.DenotesFound.{where_holds, filter_begins, begins_by_tag}
-use Rattle.typed_laws.proofs.IntegerLaws.{whole_read}
+use Rattle.term_values.proofs.IntegerLaws.{whole_read}
+use Rattle.term_values.proofs.LengthCounts.{length_rising}
 use Rattle.typed_laws.proofs.PartsRead.{PartsRead, PickRead, parts_read}
 use Rattle.typed_laws.proofs.SameIs.{same_is}
 use Rattle.typed_laws.proofs.StringsTold.{bits_contents_read}
@@ -206,28 +207,6 @@ pub record PickAgain (parts : TypeParts) (index : ℕ) (value : TypedValue) : Ty
   pub whole : pick_encoding parts index value ≡ written tree
   pub read : PickRead parts index tree value
   pub begun : has_tag (parts_tags parts) (tag_of tree) ≡ true
-
--- encodings in rising order are as long as in any other
-length_inserted : (x : List ℕ) (ys : List (List ℕ))
-    → length (joined (inserted x ys)) ≡ length x + length (joined ys)
-length_inserted x [] = length-append x []
-length_inserted x (y ∷ ys) = either (may_precede x y) (length_inserted x ys)
-  where
-    either : (c : Bool) → length (joined (inserted x ys)) ≡ length x + length (joined ys)
-        → length (joined (cond c (x ∷ (y ∷ ys)) (y ∷ inserted x ys))) ≡ length x + length (y ++ joined ys)
-    either true later = length-append x (y ++ joined ys)
-    either false later =
-        let e = length-append y (joined (inserted x ys)) in
-        let f = length-append y (joined ys) in
-        omega arith
-
-length_rising : (xs : List (List ℕ)) → length (joined (rising xs)) ≡ length (joined xs)
-length_rising [] = refl
-length_rising (x ∷ xs) =
-    let e = length_inserted x (rising xs) in
-    let f = length_rising xs in
-    let g = length-append x (joined xs) in
-    omega arith
 
 joined_rising_within : (xs : List (List ℕ)) (most : ℕ) → length (joined (rising xs)) < most
     → length (joined xs) < most
