@@ -11,7 +11,9 @@ pub mod ReadingStatements
 pub mod RisingOnce
 pub mod SameIs
 pub mod SpeltOctets
+mod StandardFacts
 pub mod StringsTold
 pub mod TagsApart
 pub mod WritableLaws
 pub mod WritingStatements
+pub mod TagsCan

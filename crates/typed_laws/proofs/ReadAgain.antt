@@ -1,5 +1,5 @@
 -- What is written for a value that fits its syntax is read again: X.690, sections 8, 10 and 11.
-use Rattle.std.proofs.Common.{◌≡◌, Bool, true, false, cond, Option, Some, None, refl, ap, sym, ◌∙◌, subst, ℕ, suc, zero, ◌+◌, ◌<◌, List, [], ◌∷◌, ◌++◌, length, map, arith, inl, inr, length-append}
+use Rattle.std.proofs.Common.{◌≡◌, Bool, true, false, cond, Option, Some, None, refl, ap, sym, ◌∙◌, subst, ℕ, suc, zero, ◌+◌, ◌<◌, List, [], ◌∷◌, length, map, arith, inl, inr}
 use Rattle.std.specs.Prelude.{option_map, option_and_then, is_some}
 use Rattle.std.proofs.lemmas.Bool.{and_parts, and_from}
 use Rattle.std.proofs.lemmas.List.{append-nil}
@@ -13,7 +13,7 @@ use Rattle.term_values.specs.Fits.{Fits, AllFit, PartsFit, PickFits, count}
 use Rattle.term_values.specs.LeafReading.{truth_in, null_in, whole_in, named_in, bit_string_in, octet_string_in, identifier_in, text_in, time_in}
 use Rattle.term_values.specs.Octets.{integer_contents}
 use Rattle.term_values.specs.Oid.{oid_contents}
-use Rattle.term_values.specs.Rearranged.{IsRising, joined, inserted, rising, may_precede}
+use Rattle.term_values.specs.Rearranged.{IsRising, joined, rising}
 use Rattle.term_values.specs.SameValue.{same_value}
 use Rattle.term_values.specs.Soundness.{has_clear_tags, have_clear_tags, are_all_apart, are_runs_apart, has_own_tag}
 use Rattle.term_values.specs.Syntaxes.{Bounds, TypeSyntax, TypeParts}
@@ -36,7 +36,7 @@ use Rattle.term_values.specs.ValueContents.{member_encodings}
 use Rattle.term_values.specs.Writable.{IsTag, IsWritable, AreWritable}
 use Rattle.term_values.specs.Written.{der, der_as, part_encodings, pick_encoding, unless_default}
 use Rattle.term_values.specs.declared.tag.Tag.{Tag}
-use Rattle.typed_laws.specs.SyntaxTags.{HasTags, HaveTags}
+use Rattle.typed_laws.proofs.TagsCan.{HasTags, HaveTags}
 use Rattle.typed_laws.proofs.AnyOrderRead.{each_rearranged, unordered_read, picked_read}
 use Rattle.typed_laws.proofs.Choosing.{under_is}
 use Rattle.typed_laws.proofs.DenotesFound.{where_holds, filter_begins, begins_by_tag}

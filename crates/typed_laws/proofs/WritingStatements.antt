@@ -20,6 +20,7 @@ use Rattle.typed_laws.specs.TreeOctets.{HasOctets, HaveOctets}
 use Rattle.typed_laws.specs.WritingLaws.{WrittenIsReadAgain, WrittenDenotes, WrittenIsReadBack, OneValueWritten}
 use Rattle.typed_laws.proofs.DenotesTold.{told}
 use Rattle.typed_laws.proofs.ReadAgain.{again}
+use Rattle.typed_laws.proofs.TagsCan.{tags_can}
 use Rattle.typed_laws.proofs.WritableLaws.{writable_deeper, all_deeper}
 
 at_most_left : (a b : ℕ) → a ≤ max a b
@@ -45,7 +46,7 @@ mutual
 
 pub written_is_read_again_holds : WrittenIsReadAgain
 written_is_read_again_holds syntax value can =
-    let a = again syntax None value can.clear (λ e. absurd (cc)) tt can.tags can.fits can.short in
+    let a = again syntax None value can.clear (λ e. absurd (cc)) tt (tags_can syntax can.tags) can.fits can.short in
     (a.tree, record { writable = writable_nesting a.depth a.tree a.writable; whole = a.whole; read = a.read })
 
 -- ---- the octets of a tree

@@ -14,12 +14,12 @@ use Rattle.term_values.specs.Typed.{TypedValue}
 use Rattle.term_values.specs.Writable.{IsWritable}
 use Rattle.term_values.specs.Written.{der}
 use Rattle.typed_laws.specs.Nesting.{nesting}
-use Rattle.typed_laws.specs.SyntaxTags.{HasTags}
+use Rattle.typed_laws.specs.SyntaxTags.{has_tags}
 
 -- a value that fits a syntax whose tags are clear and can be written, and that is written in fewer than 2 ^ 32 octets
 pub record CanBeWritten (syntax : TypeSyntax) (value : TypedValue) : Type 0 where
   pub clear : has_clear_tags syntax ≡ true
-  pub tags : HasTags syntax
+  pub tags : has_tags syntax ≡ true
   pub fits : Fits syntax value
   pub short : length (der syntax value) < 2 ^ 32
 
