@@ -65,8 +65,8 @@ end_of_contents : has_tags (Tagged (universal 0) false (Integer [] [])) ≡ fals
 end_of_contents = refl
 
 -- 30 05 30 03 02 01 05: an INTEGER in a SEQUENCE in a SEQUENCE
-two_deep : nesting (Constructed sequence (Then (Constructed sequence (Then (Primitive integer (5 ∷ [])) Nothing)) Nothing))
-    ≡ 2
+two_deep :
+    nesting (Constructed sequence (Then (Constructed sequence (Then (Primitive integer (5 ∷ [])) Nothing)) Nothing)) ≡ 2
 two_deep = refl
 
 -- 30 03 02 01 05 has five octets
