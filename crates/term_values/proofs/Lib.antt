@@ -15,3 +15,7 @@ mod StandardFactsTimes
 mod StandardFactsValues
 pub mod RisingLaws
 pub mod SameLaws
+pub mod ComponentLaws
+pub mod IntegerLaws
+pub mod LengthCounts
+pub mod LengthSigns

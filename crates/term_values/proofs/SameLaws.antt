@@ -1,7 +1,6 @@
 -- Equality of values, as a test, is equality; lists of unequal length are unequal.
-use Rattle.std.proofs.Common.{◌≡◌, ◌≢◌, ℕ, Bool, true, false, List, [], ◌∷◌, length, refl, ap, ◌∙◌, arith}
+use Rattle.std.proofs.Common.{◌≡◌, ◌≢◌, Bool, true, false, List, [], ◌∷◌, length, refl, arith}
 use Rattle.std.specs.Prelude.{◌&&◌}
-use Rattle.term_values.specs.SameParts.{same_slot}
 use Rattle.term_values.specs.SameValue.{same_value, same_slots, same_values}
 use Rattle.term_values.specs.SlotsView.{slots_listed}
 use Rattle.term_values.specs.Typed.{TypedValue, listed}

@@ -4,6 +4,7 @@ pub mod Ber
 pub mod BerReading
 pub mod Bounded
 pub mod CmipTypes
+pub mod Components
 pub mod Decoding
 pub mod Denotes
 pub mod Der
@@ -11,6 +12,7 @@ pub mod FilterTrees
 pub mod FirstFault
 pub mod Fits
 pub mod LeafReading
+pub mod Lengths
 pub mod Octets
 pub mod Oid
 pub mod PartsView

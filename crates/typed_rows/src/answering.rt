@@ -5,7 +5,7 @@ use ber_tree::tree_reading::read_front_tree;
 use ber_values::{DecodeRefusal, decode, encode_into};
 use std::alloc::{AllocError, Global};
 use std::fmt::Write;
-use term_values::{Syntax, Tree};
+use term_values::{Syntax, Tree, der_len};
 
 /// Appends octets in hexadecimal digits.
 fn show(octets: &[u8], out: &mut String) -> Result<(), AllocError> {
@@ -15,7 +15,7 @@ fn show(octets: &[u8], out: &mut String) -> Result<(), AllocError> {
     Ok(())
 }
 
-/// Appends the one form of the value that the tree denotes, or that it denotes none.
+/// Appends the one form of the value that the tree denotes and how many octets it has, or that the tree denotes none.
 fn answer_tree(
     alloc: Global,
     syntax: &Syntax,
@@ -26,7 +26,9 @@ fn answer_tree(
         Ok(value) => {
             let mut octets = Vec::new(alloc);
             encode_into(alloc, syntax, &value, &mut octets)?;
-            show(&octets, out)
+            show(&octets, out)?;
+            write!(out, " {}", der_len(syntax, &value))?;
+            Ok(())
         }
         Err(DecodeRefusal::Misfit) => out.push_str("misfit"),
         Err(DecodeRefusal::Memory) => Err(AllocError),

@@ -57,10 +57,20 @@ fn two_parts(alloc: Global, optional: bool, default: Option<Value>) -> Result<Pa
     }
 }
 
-/// [3] over INTEGER.
-fn tagged(alloc: Global, explicit: bool) -> Result<Syntax, AllocError> {
-    let inner = Box::new(alloc, whole(alloc))?;
+/// [3] over a syntax.
+fn tagged(alloc: Global, explicit: bool, syntax: Syntax) -> Result<Syntax, AllocError> {
+    let inner = Box::new(alloc, syntax)?;
     Ok(plain(SyntaxForm::Tagged(Tag::context(3), explicit, inner)))
+}
+
+/// IA5String with 1 or 2 characters.
+fn short_text(alloc: Global) -> Result<Syntax, AllocError> {
+    Ok(plain(SyntaxForm::Text(Charset::Ia5, range(alloc, 1, 2)?)))
+}
+
+/// BIT STRING with 4 or 5 bits.
+fn few_bits(alloc: Global) -> Result<Syntax, AllocError> {
+    Ok(plain(SyntaxForm::Bits(Names::new(alloc), range(alloc, 4, 5)?)))
 }
 
 fn member(alloc: Global) -> Result<Box<Syntax>, AllocError> {
@@ -75,16 +85,16 @@ fn structured(alloc: Global, name: &str) -> Result<Option<Syntax>, AllocError> {
         "list" => plain(SyntaxForm::ListOf(member(alloc)?, range(alloc, 0, 2)?)),
         "set" => plain(SyntaxForm::SetOf(member(alloc)?, Ranges::new(alloc))),
         "choice" => plain(SyntaxForm::Choice(two_parts(alloc, false, None)?)),
-        "implicit" => tagged(alloc, false)?,
-        "explicit" => tagged(alloc, true)?,
+        "short_text" => short_text(alloc)?,
+        "few_bits" => few_bits(alloc)?,
         "any" => plain(SyntaxForm::Any),
         "filter" => plain(SyntaxForm::Filter),
         _ => return Ok(None),
     }))
 }
 
-/// The syntax of this name.
-pub fn syntax_named(alloc: Global, name: &str) -> Result<Option<Syntax>, AllocError> {
+/// The syntax of this name, without a tag.
+fn untagged(alloc: Global, name: &str) -> Result<Option<Syntax>, AllocError> {
     Ok(Some(match name {
         "boolean" => plain(SyntaxForm::Bool),
         "integer" => whole(alloc),
@@ -103,4 +113,17 @@ pub fn syntax_named(alloc: Global, name: &str) -> Result<Option<Syntax>, AllocEr
         "time" => plain(SyntaxForm::Time),
         _ => return structured(alloc, name),
     }))
+}
+
+/// The syntax of this name, behind `implicit:` or `explicit:` with the tag [3].
+pub fn syntax_named(alloc: Global, name: &str) -> Result<Option<Syntax>, AllocError> {
+    let (tag, own) = name.split_once(':').unwrap_or(("", name));
+    match untagged(alloc, own)? {
+        None => Ok(None),
+        Some(syntax) => match tag {
+            "implicit" => Ok(Some(tagged(alloc, false, syntax)?)),
+            "explicit" => Ok(Some(tagged(alloc, true, syntax)?)),
+            _ => Ok(Some(syntax)),
+        },
+    }
 }

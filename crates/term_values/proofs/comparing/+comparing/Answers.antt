@@ -1,6 +1,5 @@
-use Rattle.std.proofs.Common.{rules, ◌≡◌, ◌≢◌, length, false, sym, ◌∙◌}
+use Rattle.std.proofs.Common.{rules, ◌≡◌, ◌≢◌, length, sym}
 use Rattle.term_values.proofs.SameLaws.{unequal_slots, unequal_values}
-use Rattle.term_values.specs.SameValue.{same_slots, same_values}
 use Rattle.term_values.specs.SlotsView.{slots_listed}
 use Rattle.term_values.specs.Typed.{listed}
 use Rattle.term_values.proofs.comparing.+comparing.Goals as goal

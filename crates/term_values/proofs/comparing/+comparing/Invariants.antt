@@ -1,4 +1,4 @@
-use Rattle.std.proofs.Common.{◌≡◌, drop, length}
+use Rattle.std.proofs.Common.{◌≡◌, drop}
 use Rattle.term_values.specs.SameValue.{same_slots, same_values}
 use Rattle.term_values.specs.SlotsView.{slots_listed}
 use Rattle.term_values.specs.Typed.{listed}

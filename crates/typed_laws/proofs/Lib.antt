@@ -1,0 +1,19 @@
+pub mod AnyOrderRead
+pub mod Choosing
+pub mod DenotesFound
+pub mod DenotesTold
+pub mod FilterChoice
+pub mod LeavesTold
+pub mod ListsTold
+pub mod PartsRead
+pub mod ReadAgain
+pub mod ReadingStatements
+pub mod RisingOnce
+pub mod SameIs
+pub mod SpeltOctets
+mod StandardFacts
+pub mod StringsTold
+pub mod TagsApart
+pub mod WritableLaws
+pub mod WritingStatements
+pub mod TagsCan
