@@ -10,3 +10,6 @@ pub mod OneValue
 pub mod OneTree
 pub mod Blind
 pub mod BlindTable
+pub mod ReadingLaws
+pub mod BeginningLaws
+pub mod StandardFacts

@@ -7,4 +7,5 @@ pub mod Lookahead
 pub mod NumberTrees
 pub mod ValueTrees
 pub mod Agreement
+pub mod Readings
 pub mod Keywords

@@ -3,6 +3,7 @@
 #![tactic(auto)]
 
 pub mod arcs;
+pub mod braces_law;
 pub mod keyword_law;
 pub mod numbers;
 pub mod value;
