@@ -4,3 +4,5 @@ pub mod PlainTrees
 pub mod PresenceTree
 pub mod TypeTrees
 pub mod ModuleTrees
+pub mod TypeAgreement
+pub mod ModuleAgreement

@@ -7,6 +7,7 @@ pub mod module;
 pub mod named_number;
 pub mod plain_type;
 pub mod presence;
+pub mod syntax_laws;
 pub mod tag;
 pub mod type_text;
 
