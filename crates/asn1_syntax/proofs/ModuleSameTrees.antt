@@ -1,5 +1,5 @@
 -- Modules that agree have one tree.
-use Rattle.std.proofs.Common.{◌≡◌, refl, ap}
+use Rattle.std.proofs.Common.{refl, ap}
 use Rattle.token_grammar.specs.Form.{Tree, Bare, Leaf, Pair, First, Second, Empty, Numbered}
 use Rattle.token_grammar.specs.Parts.{object_identifier_tree, optional_tree, vector_tree}
 use Rattle.token_grammar.specs.PartLaws.{IdentifiersAgree, OneTreeBy, OptionsAgree}
@@ -7,7 +7,7 @@ use Rattle.token_grammar.proofs.Values.{identifiers_alike, lists_alike, options_
 use Rattle.asn1_values_syntax.proofs.OneTree.{values_alike}
 use Rattle.asn1_syntax.specs.declared.module.Assigned.TheVariants.{OfType, OfValue}
 use Rattle.asn1_syntax.specs.ModuleTrees.{assigned_tree, assignment_tree, exports_tree, imports_tree, module_tree, symbols_tree, tag_default_tree}
-use Rattle.asn1_syntax.specs.TypeAgreement.{VectorsAgree, VectorsEqual}
+use Rattle.asn1_syntax.specs.TypeAgreement.{VectorsEqual}
 use Rattle.asn1_syntax.specs.ModuleAgreement.{AssignedAgree, AssignmentsAgree, ExportsAgree, ImportsAgree, ModulesAgree, SymbolsAgree}
 use Rattle.asn1_syntax.proofs.TypeSameTrees.{types_alike, vectors_equal}
 

@@ -1,6 +1,5 @@
 -- No two modules have one tree.
-use Rattle.std.proofs.Common.{◌≡◌}
-use Rattle.token_grammar.specs.Form.{Tree, Leaf}
+use Rattle.token_grammar.specs.Form.{Leaf}
 use Rattle.token_grammar.specs.Parts.{object_identifier_tree, vector_tree}
 use Rattle.token_grammar.specs.PartLaws.{IdentifiersAgree, OneValue, OneValueBy}
 use Rattle.token_grammar.proofs.Values.{first_not_second, first_same, leaf_same, lists_agree, numbered_same, one_list, one_object_identifier, one_option, one_token, options_agree, pair_same, second_not_first, second_same}

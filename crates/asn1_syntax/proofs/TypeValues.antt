@@ -1,7 +1,7 @@
 -- No two types have one tree.
 use Rattle.std.proofs.Common.{◌≡◌, ℕ, ◌+◌, suc, ◌∙◌, ap, arith}
-use Rattle.token_grammar.specs.Form.{Tree, Bare, Leaf, Pair, Empty, After}
-use Rattle.token_grammar.specs.Parts.{optional_tree, vector_tree}
+use Rattle.token_grammar.specs.Form.{Tree, Leaf, Pair, Empty, After}
+use Rattle.token_grammar.specs.Parts.{optional_tree}
 use Rattle.token_grammar.specs.PartLaws.{OneValueBy, OptionsAgree}
 use Rattle.token_grammar.proofs.Values.{absent_not_present, after_same, first_not_second, first_same, leaf_same, lists_agree, numbered_same, one_option, one_token, options_agree, pair_same, parts_of, present_not_absent, present_same, second_not_first, second_same}
 use Rattle.asn1_values_syntax.proofs.OneValue.{values_agree}
@@ -10,7 +10,7 @@ use Rattle.asn1_syntax.specs.declared.type_text.TypeText.{TypeText, Row_of-Alter
 use Rattle.asn1_syntax.specs.declared.type_text.TypeText.TheVariants.{Tagged', Structured, Choice', Plain}
 use Rattle.asn1_syntax.specs.declared.type_text.StructureText.{StructureText, Row_of-Component, end_of-Component, more_of-Component, Held-StructureText-Components-0, None', Some'}
 use Rattle.asn1_syntax.specs.declared.type_text.StructureText.TheVariants.{Components', ListOf'}
-use Rattle.asn1_syntax.specs.ConstraintTrees.{constraint_tree, list_size_tree}
+use Rattle.asn1_values_syntax.specs.ConstraintTrees.{constraint_tree, list_size_tree}
 use Rattle.asn1_syntax.specs.PresenceTree.{boxed_presence_tree, presence_tree}
 use Rattle.asn1_syntax.specs.TypeTrees.{alternative_tree, alternatives_row, component_parts, component_tree, components_held, components_row, constraints_tree, structure_tree, type_tree}
 use Rattle.asn1_syntax.specs.TypeAgreement.{AlternativeRowsAgree, AlternativesAgree, BoxedPresencesAgree, ComponentRowsAgree, ComponentsAgree, ConstraintsAgree, HeldAgree, PresencesAgree, StructuresAgree, TypesAgree, VectorsAgree, VectorsEqual}

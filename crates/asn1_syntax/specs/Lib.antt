@@ -1,5 +1,4 @@
 -- The definitions that the contracts of this crate cite.
-pub mod ConstraintTrees
 pub mod PlainTrees
 pub mod PresenceTree
 pub mod TypeTrees

@@ -7,8 +7,8 @@ use Rattle.std.specs.declared.vec.Vec.{Vec}
 use Rattle.token_grammar.specs.declared.token.Token.{Token}
 use Rattle.token_grammar.specs.PartLaws.{ListsAgree, OptionsAgree}
 use Rattle.asn1_values_syntax.specs.Agreement.{ValuesAgree}
-use Rattle.asn1_syntax.specs.declared.constraint.Constraint.{Constraint}
-use Rattle.asn1_syntax.specs.declared.constraint.Constraint.TheVariants.{Size, Values}
+use Rattle.asn1_values_syntax.specs.declared.constraint.Constraint.{Constraint}
+use Rattle.asn1_values_syntax.specs.declared.constraint.Constraint.TheVariants.{Size, Values}
 use Rattle.asn1_syntax.specs.declared.plain_type.IntegerType.{IntegerType}
 use Rattle.asn1_syntax.specs.declared.plain_type.EnumeratedType.{EnumeratedType}
 use Rattle.asn1_syntax.specs.declared.plain_type.BitStringType.{BitStringType}

@@ -1,9 +1,10 @@
 //! What holds of each type, each module and its tree (X.680, sections 13 to 51).
 
 ghost use Rattle.token_grammar.specs.PartLaws.{OneTreeBy, OneValue, OneValueBy};
-ghost use Rattle.asn1_syntax.specs.ConstraintTrees.{constraint_tree, range_tree};
+ghost use Rattle.asn1_values_syntax.specs.ConstraintTrees.{constraint_tree, range_tree};
 ghost use Rattle.asn1_syntax.specs.ModuleTrees.{assignment_tree, module_tree};
-ghost use Rattle.asn1_syntax.specs.PlainTrees.{named_bit_tree, named_integer_tree, plain_type_tree, tag_tree};
+ghost use Rattle.asn1_values_syntax.specs.NamedNumberTrees.{named_bit_tree, named_integer_tree, tag_tree};
+ghost use Rattle.asn1_syntax.specs.PlainTrees.{plain_type_tree};
 ghost use Rattle.asn1_syntax.specs.PresenceTree.{presence_tree};
 ghost use Rattle.asn1_syntax.specs.TypeTrees.{alternative_tree, component_tree, type_tree};
 ghost use Rattle.asn1_syntax.specs.ModuleAgreement.{AssignmentsAgree, ModulesAgree};

@@ -2,6 +2,7 @@
 pub mod Quiet
 pub mod FirstTokens
 pub mod Cases
+pub mod BoundsApart
 pub mod Rows
 pub mod Values
 pub mod Braces
