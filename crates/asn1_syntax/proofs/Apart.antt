@@ -1,31 +1,16 @@
 -- Which parts are apart from the tokens with which the parts before them go on.
 use Rattle.std.proofs.Common.{◌≡◌, ℕ, Bool, true, false, ◌||◌, List, [], ◌∷◌, refl, slice_get, codes}
 use Rattle.token_grammar.specs.declared.token.Token.{Token}
-use Rattle.token_grammar.specs.Form.{Keep, Or, Then}
+use Rattle.token_grammar.specs.Form.{Or}
 use Rattle.token_grammar.specs.Spelling.{At, passes}
-use Rattle.token_grammar.specs.Parts.{either, sign}
+use Rattle.token_grammar.specs.Parts.{either}
 use Rattle.token_grammar.proofs.Heads.{at_wider, or_left, or_right, skips, starts}
 use Rattle.token_grammar.proofs.Known.{at_one_of}
-use Rattle.token_grammar.proofs.Sequences.{Apart, apart_by}
-use Rattle.token_grammar.proofs.Parts.{apart_either}
 use Rattle.asn1_values_syntax.specs.Asn1.{asn1}
-use Rattle.asn1_values_syntax.specs.TypeEnds.{is_plain_end, is_ranges_end}
-use Rattle.asn1_values_syntax.specs.TypeForms.{any_type, bit_string_type, brace, defined, enumerated_type, integer_type, is_class, is_number_or_name, is_simple_type, object_identifier_type, octet_string_type, point, type_name}
-use Rattle.asn1_values_syntax.proofs.FirstTokens.{firsts, firsts_lead, quiet_when, sign_apart}
+use Rattle.asn1_values_syntax.specs.TypeEnds.{is_plain_end}
+use Rattle.asn1_values_syntax.specs.TypeForms.{any_type, bit_string_type, brace, defined, enumerated_type, integer_type, is_simple_type, object_identifier_type, octet_string_type, point, type_name}
+use Rattle.asn1_values_syntax.proofs.FirstTokens.{firsts, quiet_when}
 use Rattle.asn1_values_syntax.proofs.Quiet.{Quiet}
-
--- a parenthesis ends ranges
-pub ranges_apart : {tokens : List Token} → Apart tokens asn1 is_ranges_end (sign (codes ")"))
-ranges_apart = apart_either (sign_apart (codes "|") (sign (codes ")")) refl (λ at. refl))
-    (sign_apart (codes "..") (sign (codes ")")) refl (λ at. refl))
-
--- a class is no number and no name
-pub class_apart : {tokens : List Token} → Apart tokens asn1 is_class
-    (Then (Keep is_number_or_name) (sign (codes "]")))
-class_apart = apart_by firsts firsts_lead (Then (Keep is_number_or_name) (sign (codes "]"))) refl
-    (at_one_of (codes "UNIVERSAL" ∷ codes "APPLICATION" ∷ codes "PRIVATE" ∷ []) false
-    (starts firsts (Then (Keep is_number_or_name) (sign (codes "]"))))
-    ((λ at. refl), ((λ at. refl), ((λ at. refl), tt))))
 
 -- what may go on with a brace, a point or DEFINED
 pub brace_plain : {tokens : List Token} (m : ℕ) → At tokens m brace → At tokens m is_plain_end

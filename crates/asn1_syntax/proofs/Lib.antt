@@ -3,3 +3,8 @@ pub mod Apart
 pub mod TypeApart
 pub mod ModuleApart
 pub mod Rows
+pub mod PlainValues
+pub mod TypeValues
+pub mod ModuleValues
+pub mod TypeSameTrees
+pub mod ModuleSameTrees

@@ -8,12 +8,12 @@ use Rattle.token_grammar.specs.Parts.{object_identifier, sign, words}
 use Rattle.token_grammar.proofs.Heads.{at_wider, or_left, or_right, starts}
 use Rattle.token_grammar.proofs.Known.{at_any_word, at_name, at_one_of, at_sign, at_word}
 use Rattle.token_grammar.proofs.Sequences.{Apart, apart_by}
-use Rattle.asn1_values_syntax.specs.Asn1.{asn1, assignment, symbols, tag_default}
+use Rattle.asn1_values_syntax.specs.Asn1.{asn1, assignment, imports, symbols, tag_default}
 use Rattle.asn1_values_syntax.specs.TypeEnds.{is_assignment_end, is_assignments_end, is_exports_end, is_imports_end, is_type_end}
 use Rattle.asn1_values_syntax.specs.TypeForms.{brace, is_tag_mode}
 use Rattle.asn1_values_syntax.specs.ValueForms.{colon, comma, values}
 use Rattle.asn1_values_syntax.proofs.Cases.{either_case}
-use Rattle.asn1_values_syntax.proofs.FirstTokens.{firsts, firsts_lead, sign_apart}
+use Rattle.asn1_values_syntax.proofs.FirstTokens.{firsts, firsts_lead, sign_apart, word_apart}
 use Rattle.asn1_values_syntax.proofs.Values.{flip}
 use Rattle.asn1_syntax.proofs.TypeApart.{type_end_case}
 
@@ -28,6 +28,17 @@ pub default_apart : {tokens : List Token} → Apart tokens asn1 is_tag_mode
 default_apart = apart_by firsts firsts_lead (Then (sign (codes "::=")) (Marks (words (codes "BEGIN" ∷ [])))) refl
     (at_one_of (codes "IMPLICIT" ∷ codes "EXPLICIT" ∷ []) false (starts firsts
     (Then (sign (codes "::=")) (Marks (words (codes "BEGIN" ∷ []))))) ((λ at. refl), ((λ at. refl), tt)))
+
+-- what stands behind exports and imports that may be missing
+pub imports_away : {tokens : List Token} → Apart tokens asn1 (is_word_of (codes "EXPORTS")) (Then (Maybe imports)
+    (Then (Many Empty assignment) (Marks (words (codes "END" ∷ [])))))
+imports_away = word_apart (codes "EXPORTS") (Then (Maybe imports)
+    (Then (Many Empty assignment) (Marks (words (codes "END" ∷ []))))) refl (λ at. refl)
+
+pub assignments_away : {tokens : List Token} → Apart tokens asn1 (is_word_of (codes "IMPORTS"))
+    (Then (Many Empty assignment) (Marks (words (codes "END" ∷ []))))
+assignments_away = word_apart (codes "IMPORTS") (Then (Many Empty assignment) (Marks (words (codes "END" ∷ [])))) refl
+    (λ at. refl)
 
 -- exports
 pub exports_apart : {tokens : List Token} → Apart tokens asn1 is_exports_end (sign (codes ";"))

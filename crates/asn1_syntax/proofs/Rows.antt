@@ -5,7 +5,7 @@ use Rattle.std.specs.declared.vec.Vec.{Vec}
 use Rattle.token_grammar.specs.declared.token.Token.{Token}
 use Rattle.token_grammar.specs.Form.{Tree, Bare, Leaf, Pair, First, Second, Present, Empty, After, Numbered}
 use Rattle.token_grammar.specs.Parts.{list_tree, optional_tree, vector_tree}
-use Rattle.asn1_syntax.specs.declared.constraint.Constraint.{Constraint}
+use Rattle.asn1_values_syntax.specs.declared.constraint.Constraint.{Constraint}
 use Rattle.asn1_syntax.specs.declared.type_text.TypeText.{Row_of-Alternative, end_of-Alternative, more_of-Alternative, items-the_row-Alternative, items_hidden-the_row-Alternative-1}
 use Rattle.asn1_syntax.specs.declared.type_text.TypeText.TheVariants.{Choice}
 use Rattle.asn1_syntax.specs.declared.type_text.StructureText.{Row_of-Component, end_of-Component, more_of-Component, items-the_row-Component, items_hidden-the_row-Component-0, back-StructureText-Components-0}

@@ -1,6 +1,7 @@
 -- The definitions that the contracts of this crate cite.
-pub mod ConstraintTrees
 pub mod PlainTrees
 pub mod PresenceTree
 pub mod TypeTrees
 pub mod ModuleTrees
+pub mod TypeAgreement
+pub mod ModuleAgreement

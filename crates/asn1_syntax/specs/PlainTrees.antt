@@ -1,13 +1,8 @@
--- PlainTrees: what tags and types that hold no others say (X.680, sections 14 to 41; X.208, section 27).
-use Rattle.std.specs.declared.alloc.Global.{Global}
-use Rattle.std.specs.declared.vec.Vec.{Vec}
+-- PlainTrees: what types that hold no others say (X.680, sections 14 to 41; X.208, section 27).
 use Rattle.token_grammar.specs.declared.token.Token.{Token}
 use Rattle.token_grammar.specs.Form.{Tree, Bare, Leaf, Pair, First, Second}
-use Rattle.token_grammar.specs.Parts.{optional_tree, vector_tree}
-use Rattle.asn1_values_syntax.specs.NumberTrees.{bound_tree}
-use Rattle.asn1_syntax.specs.declared.named_number.NamedInteger.{NamedInteger}
-use Rattle.asn1_syntax.specs.declared.named_number.NamedBit.{NamedBit}
-use Rattle.asn1_syntax.specs.declared.tag.Tag.{Tag}
+use Rattle.token_grammar.specs.Parts.{optional_tree}
+use Rattle.asn1_values_syntax.specs.NamedNumberTrees.{named_bits_tree, named_integers_tree}
 use Rattle.asn1_syntax.specs.declared.plain_type.IntegerType.{IntegerType}
 use Rattle.asn1_syntax.specs.declared.plain_type.EnumeratedType.{EnumeratedType}
 use Rattle.asn1_syntax.specs.declared.plain_type.BitStringType.{BitStringType}
@@ -15,21 +10,6 @@ use Rattle.asn1_syntax.specs.declared.plain_type.AnyType.{AnyType}
 use Rattle.asn1_syntax.specs.declared.plain_type.TypeName.{TypeName}
 use Rattle.asn1_syntax.specs.declared.plain_type.PlainType.{PlainType}
 use Rattle.asn1_syntax.specs.declared.plain_type.PlainType.TheVariants.{Simple, Integer, Enumerated, BitString, OctetString, ObjectIdentifier, Any, Named}
-
-abbrev pub named_integer_tree : NamedInteger → Tree
-named_integer_tree x = Pair (Leaf x.name) (Pair Bare (Pair (bound_tree x.number) Bare))
-
-abbrev pub named_integers_tree : Vec NamedInteger Global → Tree
-named_integers_tree xs = Pair Bare (Pair (vector_tree named_integer_tree xs) Bare)
-
-abbrev pub named_bit_tree : NamedBit → Tree
-named_bit_tree x = Pair (Leaf x.name) (Pair Bare (Pair (Leaf x.number) Bare))
-
-abbrev pub named_bits_tree : Vec NamedBit Global → Tree
-named_bits_tree xs = Pair Bare (Pair (vector_tree named_bit_tree xs) Bare)
-
-abbrev pub tag_tree : Tag → Tree
-tag_tree x = Pair (Leaf x.bracket) (Pair (optional_tree Leaf x.class) (Pair (Leaf x.number) Bare))
 
 abbrev pub integer_tree : IntegerType → Tree
 integer_tree x = Pair (Leaf x.word) (optional_tree named_integers_tree x.numbers)

@@ -6,7 +6,7 @@ use Rattle.std.specs.declared.vec.Vec.{Vec}
 use Rattle.token_grammar.specs.declared.token.Token.{Token}
 use Rattle.token_grammar.specs.Form.{Tree, Bare, Leaf, Pair, First, Second, Absent, Present, Empty, After, Numbered}
 use Rattle.token_grammar.specs.Parts.{optional_tree, vector_tree}
-use Rattle.asn1_syntax.specs.declared.constraint.Constraint.{Constraint}
+use Rattle.asn1_values_syntax.specs.declared.constraint.Constraint.{Constraint}
 use Rattle.asn1_syntax.specs.declared.presence.Presence.{Presence}
 use Rattle.asn1_syntax.specs.declared.type_text.TypeText.{TypeText, Row_of-Alternative, end_of-Alternative, more_of-Alternative}
 use Rattle.asn1_syntax.specs.declared.type_text.TypeText.TheVariants.{Tagged', Structured, Choice', Plain}
@@ -14,8 +14,9 @@ use Rattle.asn1_syntax.specs.declared.type_text.StructureText.{StructureText, Ro
 use Rattle.asn1_syntax.specs.declared.type_text.StructureText.TheVariants.{Components', ListOf'}
 use Rattle.asn1_syntax.specs.declared.type_text.Component.{Component}
 use Rattle.asn1_syntax.specs.declared.type_text.Alternative.{Alternative}
-use Rattle.asn1_syntax.specs.ConstraintTrees.{constraint_tree, list_size_tree}
-use Rattle.asn1_syntax.specs.PlainTrees.{plain_type_tree, tag_tree}
+use Rattle.asn1_values_syntax.specs.ConstraintTrees.{constraint_tree, list_size_tree}
+use Rattle.asn1_values_syntax.specs.NamedNumberTrees.{tag_tree}
+use Rattle.asn1_syntax.specs.PlainTrees.{plain_type_tree}
 use Rattle.asn1_syntax.specs.PresenceTree.{boxed_presence_tree}
 
 abbrev pub constraints_tree : Vec Constraint Global → Tree

@@ -2,12 +2,10 @@
 //! X.208).
 #![tactic(auto)]
 
-pub mod constraint;
 pub mod module;
-pub mod named_number;
 pub mod plain_type;
 pub mod presence;
-pub mod tag;
+pub mod syntax_laws;
 pub mod type_text;
 
 pub use asn1_values_syntax::ValueText;

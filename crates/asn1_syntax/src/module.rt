@@ -1,15 +1,17 @@
 //! Modules: the head, what they export and import, and their assignments (X.680, sections 13 to 16).
 
-ghost use Rattle.std.specs.Prelude.{◌≡◌, [], ◌∷◌, codes};
+ghost use Rattle.std.specs.Prelude.{◌≡◌, [], ◌∷◌, codes, false, slice_get, true};
 ghost use Rattle.token_grammar.specs.Form.{Form, Bare, Empty, Keep, Leaf, Listed, Many, Marks, Maybe, Named, Or, Pair, Then};
 ghost use Rattle.token_grammar.specs.Outcome.{Reads, Skips, closed};
 ghost use Rattle.token_grammar.specs.Parts.{object_identifier, object_identifier_tree, optional_tree, sign, vector_tree, words};
-ghost use Rattle.token_grammar.specs.TokenTests.{is_name, is_word, is_word_of};
+ghost use Rattle.token_grammar.specs.Spelling.{passes};
+ghost use Rattle.token_grammar.specs.TokenTests.{is_name, is_sign_of, is_word, is_word_of};
 ghost use Rattle.asn1_values_syntax.specs.Asn1.{asn1, assignment, exports, imports, module_head, symbols, tag_default, type_assignment, value_assignment};
 ghost use Rattle.asn1_values_syntax.specs.TypeEnds.{is_assignment_end, is_assignments_end, is_exports_end, is_imports_end};
 ghost use Rattle.asn1_values_syntax.specs.TypeForms.{brace, is_tag_mode};
-ghost use Rattle.asn1_values_syntax.specs.ValueForms.{comma, modules};
-ghost use Rattle.asn1_syntax.specs.ModuleTrees.{assigned_tree, assignment_tree, exports_tree, head_tree, imports_tree, module_tree, symbols_tree, tag_default_tree};
+ghost use Rattle.asn1_values_syntax.specs.ValueForms.{colon, comma, modules, values};
+ghost use Rattle.asn1_values_syntax.specs.ValueTrees.{value_tree};
+ghost use Rattle.asn1_syntax.specs.ModuleTrees.{assigned_tree, assignment_tree, body_tree, definitions_tree, exports_tree, head_tree, imports_tree, module_tree, symbols_tree, tag_default_tree};
 
 use super::type_text::{TypeText, read_type};
 use asn1_values_syntax::value::{ValueText, read_value};
@@ -51,6 +53,17 @@ pub struct ModuleHead {
     pub identifier: Option<ObjectIdentifier>,
     /// EXPLICIT or IMPLICIT.
     pub tag_default: Option<Token>,
+}
+
+/// The body of a module.
+#[derive(Drop)]
+pub struct ModuleBody {
+    /// What the module exports.
+    pub exports: Option<Exports>,
+    /// What it imports.
+    pub imports: Option<Imports>,
+    /// Its assignments.
+    pub assignments: Vec<Assignment>,
 }
 
 /// What a module exports. It isn't looked up.
@@ -144,6 +157,22 @@ fn skip_begin(tokens: &[Token], at: usize) -> Result<usize, SyntaxRefusal>
     Ok(next)
 }
 
+/// Reads what stands in a module's head behind its identifier.
+fn read_definitions(
+    alloc: Global,
+    tokens: &[Token],
+    at: usize,
+) -> Result<(Option<Token>, usize), SyntaxRefusal>
+    ensures { Reads tokens.now asn1 closed (Then (Marks (words (codes "DEFINITIONS" ∷ [])))
+        (Then (Maybe tag_default) (Then (sign (codes "::=")) (Marks (words (codes "BEGIN" ∷ []))))))
+        at definitions_tree result }
+{
+    let next = skip_word(tokens, at, "DEFINITIONS")?;
+    let (tag_default, next) = read_tag_default(alloc, tokens, next)?;
+    let next = skip_begin(tokens, next)?;
+    Ok((tag_default, next))
+}
+
 /// Reads the head of a module.
 fn read_head(
     alloc: Global,
@@ -154,9 +183,7 @@ fn read_head(
 {
     let (name, next) = read_name(alloc, tokens, at)?;
     let (identifier, next) = read_identifier(alloc, tokens, next)?;
-    let next = skip_word(tokens, next, "DEFINITIONS")?;
-    let (tag_default, next) = read_tag_default(alloc, tokens, next)?;
-    let next = skip_begin(tokens, next)?;
+    let (tag_default, next) = read_definitions(alloc, tokens, next)?;
     Ok((
         ModuleHead {
             name,
@@ -300,6 +327,48 @@ fn read_imports(
     Ok((Some(Imports { first, others }), next))
 }
 
+/// Reads `::=` and the type behind it, where `::=` stands.
+fn read_assigned_type(
+    alloc: Global,
+    tokens: &[Token],
+    at: usize,
+) -> Result<(Assigned, usize), SyntaxRefusal>
+    ensures { passes (is_sign_of (codes "::=")) (slice_get tokens.now at) ≡ true →
+        Reads tokens.now asn1 is_assignment_end (Or type_assignment value_assignment) at assigned_tree result }
+{
+    let next = skip_sign(tokens, at, "::=")?;
+    let (of, next) = read_type(alloc, tokens, next)?;
+    Ok((Assigned::OfType(of), next))
+}
+
+/// Reads `::=` and the value behind it.
+fn read_given_value(
+    alloc: Global,
+    tokens: &[Token],
+    at: usize,
+) -> Result<(ValueText, usize), SyntaxRefusal>
+    ensures { Reads tokens.now asn1 colon (Then (sign (codes "::=")) (Named values)) at
+        (λ value. Pair Bare (value_tree value)) result }
+{
+    let next = skip_sign(tokens, at, "::=")?;
+    let (value, next) = read_value(alloc, tokens, next)?;
+    Ok((value, next))
+}
+
+/// Reads a type and its value, where no `::=` stands.
+fn read_assigned_value(
+    alloc: Global,
+    tokens: &[Token],
+    at: usize,
+) -> Result<(Assigned, usize), SyntaxRefusal>
+    ensures { passes (is_sign_of (codes "::=")) (slice_get tokens.now at) ≡ false →
+        Reads tokens.now asn1 is_assignment_end (Or type_assignment value_assignment) at assigned_tree result }
+{
+    let (of, next) = read_type(alloc, tokens, at)?;
+    let (value, next) = read_given_value(alloc, tokens, next)?;
+    Ok((Assigned::OfValue { of, value }, next))
+}
+
 /// Reads what a name stands for: a type behind `::=`, or a type and its value.
 fn read_assigned(
     alloc: Global,
@@ -309,14 +378,9 @@ fn read_assigned(
     ensures { Reads tokens.now asn1 is_assignment_end (Or type_assignment value_assignment) at assigned_tree result }
 {
     if is_sign_at(tokens, at, "::=") {
-        let next = skip_sign(tokens, at, "::=")?;
-        let (of, next) = read_type(alloc, tokens, next)?;
-        return Ok((Assigned::OfType(of), next));
+        return read_assigned_type(alloc, tokens, at);
     }
-    let (of, next) = read_type(alloc, tokens, at)?;
-    let next = skip_sign(tokens, next, "::=")?;
-    let (value, next) = read_value(alloc, tokens, next)?;
-    Ok((Assigned::OfValue { of, value }, next))
+    read_assigned_value(alloc, tokens, at)
 }
 
 /// Reads an assignment.
@@ -350,6 +414,42 @@ fn read_assignments(
     Ok((list, next))
 }
 
+/// Reads assignments, as many as come, and END.
+fn read_assignments_end(
+    alloc: Global,
+    tokens: &[Token],
+    at: usize,
+) -> Result<(Vec<Assignment>, usize), SyntaxRefusal>
+    ensures { Reads tokens.now asn1 closed (Then (Many Empty assignment) (Marks (words (codes "END" ∷ [])))) at
+        (λ list. Pair (vector_tree assignment_tree list) Bare) result }
+{
+    let (assignments, next) = read_assignments(alloc, tokens, at)?;
+    let next = skip_word(tokens, next, "END")?;
+    Ok((assignments, next))
+}
+
+/// Reads the body of a module and END.
+fn read_body(
+    alloc: Global,
+    tokens: &[Token],
+    at: usize,
+) -> Result<(ModuleBody, usize), SyntaxRefusal>
+    ensures { Reads tokens.now asn1 closed (Then (Maybe exports) (Then (Maybe imports)
+        (Then (Many Empty assignment) (Marks (words (codes "END" ∷ [])))))) at body_tree result }
+{
+    let (exports, next) = read_exports(alloc, tokens, at)?;
+    let (imports, next) = read_imports(alloc, tokens, next)?;
+    let (assignments, next) = read_assignments_end(alloc, tokens, next)?;
+    Ok((
+        ModuleBody {
+            exports,
+            imports,
+            assignments,
+        },
+        next,
+    ))
+}
+
 /// Reads a module from the place `at` of the tokens on. It has the document number 0.
 ///
 /// The answer is the module and the place behind its END. `Syntax` has the place of the first token with which
@@ -363,19 +463,16 @@ pub fn read_module(
     ensures { Reads tokens.now asn1 closed (Named modules) at module_tree result }
 {
     let (head, next) = read_head(alloc, tokens, at)?;
-    let (exports, next) = read_exports(alloc, tokens, next)?;
-    let (imports, next) = read_imports(alloc, tokens, next)?;
-    let (assignments, next) = read_assignments(alloc, tokens, next)?;
-    let next = skip_word(tokens, next, "END")?;
+    let (body, next) = read_body(alloc, tokens, next)?;
     Ok((
         Module {
             document: 0,
             name: head.name,
             identifier: head.identifier,
             tag_default: head.tag_default,
-            exports,
-            imports,
-            assignments,
+            exports: body.exports,
+            imports: body.imports,
+            assignments: body.assignments,
         },
         next,
     ))

@@ -12,7 +12,7 @@ ghost use Rattle.asn1_values_syntax.specs.TypeEnds.{is_plain_end};
 ghost use Rattle.asn1_values_syntax.specs.TypeForms.{any_type, bit_string_type, brace, defined, enumerated_type, integer_type, is_simple_type, object_identifier_type, octet_string_type, plain_type, point, type_name};
 ghost use Rattle.asn1_syntax.specs.PlainTrees.{any_type_tree, behind_tree, bit_string_tree, enumerated_tree, integer_tree, plain_type_tree, type_name_tree, words_tree};
 
-use super::named_number::{
+use asn1_values_syntax::named_number::{
     NamedBit, NamedInteger, read_named_integers, read_optional_bits, read_optional_integers,
 };
 use std::alloc::Global;

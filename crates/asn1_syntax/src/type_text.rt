@@ -12,10 +12,10 @@ ghost use Rattle.asn1_values_syntax.specs.TypeForms.{alternative, brace, compone
 ghost use Rattle.asn1_values_syntax.specs.ValueForms.{comma, types};
 ghost use Rattle.asn1_syntax.specs.TypeTrees.{alternative_tree, component_tree, structure_tree, type_tree};
 
-use super::constraint::{Constraint, Range, read_constraints, read_list_size};
 use super::plain_type::{PlainType, read_plain_type};
 use super::presence::{Presence, read_presence};
-use super::tag::{Tag, read_boxed_tag, read_tag_mode};
+use asn1_values_syntax::constraint::{Constraint, Range, read_constraints, read_list_size};
+use asn1_values_syntax::tag::{Tag, read_boxed_tag, read_tag_mode};
 use std::alloc::Global;
 use token_grammar::token_reading::{place_behind, read_name, read_one_of, skip_sign, skip_word};
 use token_grammar::token_tests::{is_name_at, is_one_of_at, is_sign_at, is_word_at};

@@ -59,12 +59,13 @@ relisted_begins other B.no_tokens = B.no_tokens
 relisted_begins other (B.item b) = B.item b
 relisted_begins other (B.more {a = a} sp here b) = B.more sp here (relisted_begins (After other a) b)
 
-repeated : {tokens : List Token} {grammar : ℕ → Form} {f : Form} {s b : Tree} {i k : ℕ} (other : Tree) → Spells tokens
+pub repeated : {tokens : List Token} {grammar : ℕ → Form} {f : Form} {s b : Tree} {i k : ℕ} (other : Tree) → Spells
+    tokens
     grammar (Many s f) i k b → (c : Tree) × Spells tokens grammar (Many other f) i k c
 repeated other S.no_more = (other, S.no_more)
 repeated other (S.another {a = a} sp r) = let q = repeated (After other a) r in (q.0, S.another sp q.1)
 
-repeated_begins : {tokens : List Token} {grammar : ℕ → Form} {f : Form} {s : Tree} {i k : ℕ} (other : Tree) → Begins
+pub repeated_begins : {tokens : List Token} {grammar : ℕ → Form} {f : Form} {s : Tree} {i k : ℕ} (other : Tree) → Begins
     tokens grammar (Many s f) i k → Begins tokens grammar (Many other f) i k
 repeated_begins other B.no_tokens = B.no_tokens
 repeated_begins other (B.one b) = B.one b

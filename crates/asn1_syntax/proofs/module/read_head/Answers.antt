@@ -1,5 +1,5 @@
 -- The parts, one after the other.
-use Rattle.asn1_syntax.proofs.ModuleApart.{default_apart, head_apart}
+use Rattle.asn1_syntax.proofs.ModuleApart.{head_apart}
 use Rattle.asn1_values_syntax.specs.Asn1.{asn1}
 use Rattle.token_grammar.proofs.Exits.{exit_reads}
 use Rattle.token_grammar.proofs.Sequences.{apart_closed, fails_front, fails_rest, spelt_then}
@@ -14,24 +14,11 @@ returns-in_err-identifier c = exit_reads _ c.from_residual-in_err-identifier.res
     c.from_residual-in_err-identifier.ensures.1 (fails_rest (c.in_ok-name.ensures asn1) apart_closed
     (fails_front head_apart c.in_err-identifier.ensures))
 
-pub returns-in_err-next : goal.returns-in_err-next
-returns-in_err-next c = exit_reads _ c.from_residual-in_err-next.result c.from_residual-in_err-next.ensures.1
-    (fails_rest (c.in_ok-name.ensures asn1) apart_closed (fails_rest c.in_ok-identifier.ensures head_apart
-    (fails_front apart_closed (c.in_err-next.ensures asn1))))
-
 pub returns-in_err-tag_default : goal.returns-in_err-tag_default
 returns-in_err-tag_default c = exit_reads _ c.from_residual-in_err-tag_default.result
     c.from_residual-in_err-tag_default.ensures.1 (fails_rest (c.in_ok-name.ensures asn1) apart_closed
-    (fails_rest c.in_ok-identifier.ensures head_apart (fails_rest (c.in_ok-next.ensures asn1) apart_closed
-    (fails_front default_apart c.in_err-tag_default.ensures))))
-
-pub returns-in_err-next-2 : goal.returns-in_err-next-2
-returns-in_err-next-2 c = exit_reads _ c.from_residual-in_err-next-2.result c.from_residual-in_err-next-2.ensures.1
-    (fails_rest (c.in_ok-name.ensures asn1) apart_closed (fails_rest c.in_ok-identifier.ensures head_apart
-    (fails_rest (c.in_ok-next.ensures asn1) apart_closed (fails_rest c.in_ok-tag_default.ensures default_apart
-    c.in_err-next-2.ensures))))
+    (fails_rest c.in_ok-identifier.ensures head_apart c.in_err-tag_default.ensures))
 
 pub returns : goal.returns
-returns c = (spelt_then (c.in_ok-name.ensures asn1) apart_closed (spelt_then c.in_ok-identifier.ensures head_apart
-    (spelt_then (c.in_ok-next.ensures asn1) apart_closed (spelt_then c.in_ok-tag_default.ensures default_apart
-    c.in_ok-next-2.ensures))))
+returns c = spelt_then (c.in_ok-name.ensures asn1) apart_closed (spelt_then c.in_ok-identifier.ensures head_apart
+    c.in_ok-tag_default.ensures)

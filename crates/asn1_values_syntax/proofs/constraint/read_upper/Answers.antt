@@ -1,0 +1,29 @@
+-- The parts, one after the other.
+use Rattle.asn1_values_syntax.proofs.FirstTokens.{quiet_unless}
+use Rattle.asn1_values_syntax.specs.Asn1.{asn1}
+use Rattle.asn1_values_syntax.specs.TypeForms.{dots}
+use Rattle.asn1_values_syntax.specs.ValueForms.{bound}
+use Rattle.std.proofs.Common.{arith, codes, refl, sym, ◌∙◌}
+use Rattle.token_grammar.proofs.Exits.{exit_reads}
+use Rattle.token_grammar.proofs.Sequences.{apart_closed, fails_front, fails_present, fails_rest, fails_wider, spelt_absent, spelt_present, spelt_then, spelt_wider}
+use Rattle.token_grammar.specs.Form.{Then}
+use Rattle.token_grammar.specs.Parts.{sign}
+use Rattle.asn1_values_syntax.proofs.constraint.read_upper.Goals as goal
+
+pub returns-in_err-next : goal.returns-in_err-next
+returns-in_err-next c = exit_reads _ c.from_residual.result c.from_residual.ensures.1
+    (fails_present (record { passed = sym c.is_sign_at.ensures ∙ c.if-not-is_sign_at.false })
+    (fails_front apart_closed (c.in_err-next.ensures asn1)))
+
+pub returns-in_err-upper : goal.returns-in_err-upper
+returns-in_err-upper c = exit_reads _ c.from_residual-in_err-upper.result c.from_residual-in_err-upper.ensures.1
+    (fails_present (record { passed = sym c.is_sign_at.ensures ∙ c.if-not-is_sign_at.false })
+    (fails_rest (c.in_ok-next.ensures asn1) apart_closed (fails_wider dots c.in_err-upper.ensures)))
+
+pub returns : goal.returns
+returns c = spelt_present (record { passed = sym c.is_sign_at.ensures ∙ c.if-not-is_sign_at.false })
+    (spelt_then (c.in_ok-next.ensures asn1) apart_closed (spelt_wider dots c.in_ok-upper.ensures))
+
+pub returns-then-not-is_sign_at : goal.returns-then-not-is_sign_at
+returns-then-not-is_sign_at c = spelt_absent ((quiet_unless dots (Then (sign (codes "..")) bound) refl (λ t e. e)
+    (sym c.is_sign_at.ensures ∙ c.if-not-is_sign_at.true)).stops _ (omega arith))
