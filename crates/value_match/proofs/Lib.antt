@@ -1,0 +1,6 @@
+pub mod ArcLaws
+pub mod CommonLaws
+pub mod MemberLaws
+pub mod OrderLaws
+pub mod PieceLaws
+pub mod SameIs
