@@ -4,3 +4,4 @@ pub mod MemberLaws
 pub mod OrderLaws
 pub mod PieceLaws
 pub mod SameIs
+mod StandardFacts
