@@ -1,6 +1,6 @@
 //! Answers calls of matching rules: each line of standard input names a call, the rules that an attribute has and its
-//! syntax, and has the octets of an asserted and of a held value; what the call answers is printed. Lines that are empty
-//! or begin with `#` are printed as they are.
+//! syntax, and has the octets of an asserted and of a held value; what the call answers is printed. Lines that are
+//! empty or begin with `#` are printed as they are.
 #![tactic(auto)]
 
 mod answering;

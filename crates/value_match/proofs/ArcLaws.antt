@@ -17,7 +17,8 @@ places_before i xs ys p q h k e f less =
     let us = map arc_place (drop (i + 1) xs) in
     let vs = map arc_place (drop (i + 1) ys) in
     subst (λ zs. StandsBefore zs (map arc_place (drop i ys))) (ap (λ n. n ∷ us) e ∙ sym (places_front i xs h))
-    (subst (λ zs. StandsBefore (p ∷ us) zs) (ap (λ n. n ∷ vs) f ∙ sym (places_front i ys k)) (before_first p q us vs less))
+    (subst (λ zs. StandsBefore (p ∷ us) zs) (ap (λ n. n ∷ vs) f ∙ sym (places_front i ys k))
+    (before_first p q us vs less))
 
 pub places_same : (told : MemberOrder) (i : ℕ) (xs ys : List ℕ) (p q : ℕ) → i < length xs → i < length ys
     → p ≡ arc_place (get_or xs i 0) → q ≡ arc_place (get_or ys i 0) → p ≡ q

@@ -124,7 +124,8 @@ equal_same xs ys e = slice_cmp-IsAntisymmetric nat_cmp-IsAntisymmetric xs ys e
 
 -- ---- the order of the kit
 
-falls : (common ns ms : List ℕ) (n m : ℕ) → n < m → slice_cmp nat_cmp (common ++ (m ∷ ms)) (common ++ (n ∷ ns)) ≡ Greater
+falls : (common ns ms : List ℕ) (n m : ℕ) → n < m
+    → slice_cmp nat_cmp (common ++ (m ∷ ms)) (common ++ (n ∷ ns)) ≡ Greater
 falls [] ns ms n m less = ap (λ r. ordering_then r (slice_cmp nat_cmp ms ns)) (sym (nat_cmp_is m n Greater less))
 falls (x ∷ xs) ns ms n m less =
     ap (λ r. ordering_then r (slice_cmp nat_cmp (xs ++ (m ∷ ms)) (xs ++ (n ∷ ns)))) (sym (nat_cmp_is x x

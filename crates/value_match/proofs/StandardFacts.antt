@@ -103,8 +103,8 @@ not_within : ¬ Matches Comparison (Many (Then (Int (pos 1)) Nothing)) (Many Not
 not_within all = all (Int (pos 1)) (inl refl)
 
 -- 2 is the common member of 1, 2 and 2, 3; the empty set has none with any
-common : Matches Intersection (Many (Then (Int (pos 1)) (Then (Int (pos 2)) Nothing))) (Many (Then (Int (pos 2)) (Then (Int
-    (pos 3)) Nothing)))
+common : Matches Intersection (Many (Then (Int (pos 1)) (Then (Int (pos 2)) Nothing)))
+    (Many (Then (Int (pos 2)) (Then (Int (pos 3)) Nothing)))
 common = (Int (pos 2), inr (inl refl), inl refl)
 
 no_common : ¬ Matches Intersection (Many Nothing) (Many (Then (Int (pos 1)) Nothing))

@@ -38,9 +38,9 @@ AreHeld asserted held = (member : TypedValue) → Have asserted member → Have 
 abbrev pub HaveCommon : TypedValues → TypedValues → Type 0
 HaveCommon asserted held = (member : TypedValue) × Have asserted member × Have held member
 
--- the asserted value and the held one match by the rule. ORDERING: the asserted one is at most the held one. SUBSTRINGS:
--- the asserted pieces stand in the held value. SET-COMPARISON: each asserted member is held. SET-INTERSECTION: some
--- asserted member is held.
+-- the asserted value and the held one match by the rule. ORDERING: the asserted one is at most the held one.
+-- SUBSTRINGS: the asserted pieces stand in the held value. SET-COMPARISON: each asserted member is held.
+-- SET-INTERSECTION: some asserted member is held.
 abbrev pub Matches : MatchingRule → TypedValue → TypedValue → Type 0
 Matches Equality asserted held = asserted ≡ held
 Matches Ordering asserted held = is_at_most asserted held ≡ true

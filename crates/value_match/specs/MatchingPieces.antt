@@ -23,8 +23,9 @@ Ends kind octets text from end =
     (place : ℕ) × (from ≤ place) × StandAt text place octets × IsPlaced kind place end (length text)
     × (end ≡ place + length octets)
 
--- There are places at which the pieces stand in the text, in their order and without overlap: the first one at `from` or
--- behind it, and each other one at the end of the one before it or behind that. Pieces and text are values of one form.
+-- There are places at which the pieces stand in the text, in their order and without overlap: the first one at `from`
+-- or behind it, and each other one at the end of the one before it or behind that. Pieces and text are values of one
+-- form.
 abbrev pub StandFrom : (List ℕ → TypedValue) → List ℕ → ℕ → TypedValues → Type 0
 StandFrom form text from Nothing = Unit {0}
 StandFrom form text from (Then value values) =

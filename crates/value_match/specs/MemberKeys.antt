@@ -1,6 +1,6 @@
--- Numbers by which the members of a SET OF are compared without writing them. Where the members fit their syntax, the order
--- of these numbers is that of the encodings (X.690, section 11.6): of values of one type the shorter one stands first, and
--- among equally long ones the first octet that differs decides.
+-- Numbers by which the members of a SET OF are compared without writing them. Where the members fit their syntax, the
+-- order of these numbers is that of the encodings (X.690, section 11.6): of values of one type the shorter one stands
+-- first, and among equally long ones the first octet that differs decides.
 use Rattle.std.specs.Prelude.{ℕ, ◌+◌, ◌-◌, ◌*◌, ◌/◌, ◌%◌, ℤ, pos, negsuc, List, [], ◌∷◌, map, nat_lt, length, if◌then◌else◌}
 use Rattle.term_values.specs.Octets.{count_signed}
 use Rattle.term_values.specs.Syntaxes.{TypeSyntax}
@@ -13,14 +13,19 @@ arc_size n =
     if nat_lt n 128 then 1
     else (if nat_lt n 16384 then 2 else (if nat_lt n 2097152 then 3 else (if nat_lt n 268435456 then 4 else 5)))
 
--- its octets, as many more that are zero as make five, as one number
+-- five octets as one number
+abbrev pub five : ℕ → ℕ → ℕ → ℕ → ℕ → ℕ
+five a b c d e = a * 4294967296 + b * 16777216 + c * 65536 + d * 256 + e
+
+-- its octets, and as many more that are zero as make five
 abbrev pub arc_place : ℕ → ℕ
 arc_place n =
-    if nat_lt n 128 then n * 4294967296
-    else (if nat_lt n 16384 then (128 + n / 128) * 4294967296 + n % 128 * 16777216
-    else (if nat_lt n 2097152 then (128 + n / 16384) * 4294967296 + (128 + n / 128 % 128) * 16777216 + n % 128 * 65536
-    else (if nat_lt n 268435456 then (128 + n / 2097152) * 4294967296 + (128 + n / 16384 % 128) * 16777216 + (128 + n / 128 % 128) * 65536 + n % 128 * 256
-    else (128 + n / 268435456) * 4294967296 + (128 + n / 2097152 % 128) * 16777216 + (128 + n / 16384 % 128) * 65536 + (128 + n / 128 % 128) * 256 + n % 128)))
+    if nat_lt n 128 then five n 0 0 0 0
+    else (if nat_lt n 16384 then five (128 + n / 128) (n % 128) 0 0 0
+    else (if nat_lt n 2097152 then five (128 + n / 16384) (128 + n / 128 % 128) (n % 128) 0 0
+    else (if nat_lt n 268435456
+    then five (128 + n / 2097152) (128 + n / 16384 % 128) (128 + n / 128 % 128) (n % 128) 0
+    else five (128 + n / 268435456) (128 + n / 2097152 % 128) (128 + n / 16384 % 128) (128 + n / 128 % 128) (n % 128))))
 
 -- the numbers of the subidentifiers: X.690, section 8.19.4
 abbrev pub subidentifiers : List ℕ → List ℕ

@@ -2,7 +2,7 @@
 
 ghost use Rattle.std.specs.Prelude.{◌≡◌, ◌<◌, ◌≤◌, ◌∷◌, [], map};
 ghost use Rattle.term_values.specs.Typed.TypedValue.{Identifier};
-ghost use Rattle.value_match.specs.MemberKeys.{arc_place, arc_size, arcs_size, leaf_key};
+ghost use Rattle.value_match.specs.MemberKeys.{arc_place, arc_size, arcs_size, five, leaf_key};
 ghost use Rattle.value_match.specs.MemberOrder.{TellsOrder};
 
 use crate::told::{MemberOrder, order_of_numbers, order_then};
@@ -22,30 +22,37 @@ fn arc_size(arc: u64) -> u64
     }
 }
 
-/// The octets of a subidentifier and as many zeros as make five, as one number.
+/// Five octets as one number.
+fn five(a: u64, b: u64, c: u64, d: u64, e: u64) -> u64
+    requires a { a < 256 }
+    requires b { b < 256 }
+    requires c { c < 256 }
+    requires d { d < 256 }
+    requires e { e < 256 }
+    ensures { result ≡ five a b c d e }
+{
+    a * 4_294_967_296 + b * 16_777_216 + c * 65_536 + d * 256 + e
+}
+
+/// The octets of a subidentifier, and as many zeros as make five.
 fn arc_place(arc: u64) -> u64
     requires { arc < 8589934592 }
     ensures { result ≡ arc_place arc }
 {
+    let last = arc % 128;
+    let fourth = 128 + arc / 128 % 128;
+    let third = 128 + arc / 16_384 % 128;
+    let second = 128 + arc / 2_097_152 % 128;
     if arc < 128 {
-        arc * 4_294_967_296
+        five(arc, 0, 0, 0, 0)
     } else if arc < 16_384 {
-        (128 + arc / 128) * 4_294_967_296 + arc % 128 * 16_777_216
+        five(128 + arc / 128, last, 0, 0, 0)
     } else if arc < 2_097_152 {
-        (128 + arc / 16_384) * 4_294_967_296
-            + (128 + arc / 128 % 128) * 16_777_216
-            + arc % 128 * 65_536
+        five(128 + arc / 16_384, fourth, last, 0, 0)
     } else if arc < 268_435_456 {
-        (128 + arc / 2_097_152) * 4_294_967_296
-            + (128 + arc / 16_384 % 128) * 16_777_216
-            + (128 + arc / 128 % 128) * 65_536
-            + arc % 128 * 256
+        five(128 + arc / 2_097_152, third, fourth, last, 0)
     } else {
-        (128 + arc / 268_435_456) * 4_294_967_296
-            + (128 + arc / 2_097_152 % 128) * 16_777_216
-            + (128 + arc / 16_384 % 128) * 65_536
-            + (128 + arc / 128 % 128) * 256
-            + arc % 128
+        five(128 + arc / 268_435_456, second, third, fourth, last)
     }
 }
 

@@ -15,7 +15,8 @@ returns-in-None c =
     let front : drop i xs ≡ x ∷ drop (i + 1) xs = drop_more xs i x (omega arith)
     ∙ ap (λ z. z ∷ drop (i + 1) xs) (search rules) in (
       λ e. absurd (false≢true e),
-      λ stand. absurd (taken_never Octets c.args.octets.now c.loop-piece.from x (listed (drop (i + 1) xs)) c.in-None.ensures
+      λ stand. absurd (taken_never Octets c.args.octets.now c.loop-piece.from x (listed (drop (i + 1) xs))
+          c.in-None.ensures
           (subst (λ zs. StandFrom Octets c.args.octets.now c.loop-piece.from (listed zs)) front
           (c.loop-piece.invariant.0 stand))),
     )

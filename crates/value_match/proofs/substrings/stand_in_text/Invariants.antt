@@ -6,6 +6,8 @@ use Rattle.value_match.proofs.substrings.stand_in_text.Given as goal
 
 abbrev pub invariant-loop-piece : goal.invariant-loop-piece
 invariant-loop-piece l =
-    (StandFrom Text l.text 0 (listed l.pieces) → StandFrom Text l.text l.from (listed (drop l.piece-index l.pieces)))
-    × (StandFrom Text l.text l.from (listed (drop l.piece-index l.pieces)) → StandFrom Text l.text 0 (listed l.pieces))
+    (StandFrom Text l.text 0 (listed l.pieces)
+    → StandFrom Text l.text l.from (listed (drop l.piece-index l.pieces)))
+    × (StandFrom Text l.text l.from (listed (drop l.piece-index l.pieces))
+    → StandFrom Text l.text 0 (listed l.pieces))
     × (l.from ≤ length l.text)
