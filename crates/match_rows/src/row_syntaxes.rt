@@ -1,0 +1,146 @@
+//! The syntaxes that rows name.
+
+use std::alloc::{AllocError, Global};
+use std::boxed::Box;
+use term_values::{Bytes, Charset, Names, Part, Parts, Ranges, Syntax, SyntaxForm, Tag};
+
+fn whole(alloc: Global) -> Syntax {
+    Syntax::integer(alloc)
+}
+
+fn plain(form: SyntaxForm) -> Syntax {
+    Syntax { form }
+}
+
+/// red 0, green 1 and blue 2.
+fn colours(alloc: Global) -> Result<Names, AllocError> {
+    let mut names = Names::new(alloc);
+    names.items.push((Bytes::from_slice(alloc, b"red")?, 0))?;
+    names.items.push((Bytes::from_slice(alloc, b"green")?, 1))?;
+    names.items.push((Bytes::from_slice(alloc, b"blue")?, 2))?;
+    Ok(names)
+}
+
+fn text(alloc: Global, charset: Charset) -> Syntax {
+    plain(SyntaxForm::Text(charset, Ranges::new(alloc)))
+}
+
+fn part(alloc: Global, name: &[u8], syntax: Syntax, optional: bool) -> Result<Part, AllocError> {
+    Ok(Part {
+        name: Bytes::from_slice(alloc, name)?,
+        syntax,
+        optional,
+        default: None,
+    })
+}
+
+/// a INTEGER and b BOOLEAN, which may be OPTIONAL.
+fn two_parts(alloc: Global, optional: bool) -> Result<Parts, AllocError> {
+    let mut items = Vec::new(alloc);
+    items.push(part(alloc, b"a", whole(alloc), false)?)?;
+    items.push(part(alloc, b"b", plain(SyntaxForm::Bool), optional)?)?;
+    match Parts::from_items(items) {
+        Some(parts) => Ok(parts),
+        None => Err(AllocError),
+    }
+}
+
+/// The syntax under a context-specific tag.
+fn tagged(
+    alloc: Global,
+    number: u32,
+    explicit: bool,
+    syntax: Syntax,
+) -> Result<Syntax, AllocError> {
+    let inner = Box::new(alloc, syntax)?;
+    Ok(plain(SyntaxForm::Tagged(Tag::context(number), explicit, inner)))
+}
+
+/// Initial, any and final pieces of a syntax: [0], [1] and [2].
+pub fn pieces_of(alloc: Global, syntax: &Syntax) -> Result<Syntax, AllocError> {
+    let mut items = Vec::new(alloc);
+    items.push(part(
+        alloc,
+        b"initial",
+        tagged(alloc, 0, false, syntax.copy(alloc)?)?,
+        false,
+    )?)?;
+    items.push(part(
+        alloc,
+        b"any",
+        tagged(alloc, 1, false, syntax.copy(alloc)?)?,
+        false,
+    )?)?;
+    items.push(part(
+        alloc,
+        b"final",
+        tagged(alloc, 2, false, syntax.copy(alloc)?)?,
+        false,
+    )?)?;
+    match Parts::from_items(items) {
+        Some(parts) => {
+            let piece = Box::new(alloc, plain(SyntaxForm::Choice(parts)))?;
+            Ok(plain(SyntaxForm::ListOf(piece, Ranges::new(alloc))))
+        }
+        None => Err(AllocError),
+    }
+}
+
+/// Structured syntaxes.
+fn structured(alloc: Global, name: &str) -> Result<Option<Syntax>, AllocError> {
+    Ok(Some(match name {
+        "pair" => plain(SyntaxForm::Seq(two_parts(alloc, true)?)),
+        "unordered" => plain(SyntaxForm::Unordered(two_parts(alloc, false)?)),
+        "list" => plain(SyntaxForm::ListOf(Box::new(alloc, whole(alloc))?, Ranges::new(alloc))),
+        "set" => plain(SyntaxForm::SetOf(Box::new(alloc, whole(alloc))?, Ranges::new(alloc))),
+        "choice" => plain(SyntaxForm::Choice(two_parts(alloc, false)?)),
+        "any" => plain(SyntaxForm::Any),
+        "filter" => plain(SyntaxForm::Filter),
+        _ => return Ok(None),
+    }))
+}
+
+/// The syntax of this name, of no tag and no set.
+fn base_named(alloc: Global, name: &str) -> Result<Option<Syntax>, AllocError> {
+    Ok(Some(match name {
+        "boolean" => plain(SyntaxForm::Bool),
+        "integer" => whole(alloc),
+        "colour" => plain(SyntaxForm::Enumerated(colours(alloc)?)),
+        "bits" => plain(SyntaxForm::Bits(Names::new(alloc), Ranges::new(alloc))),
+        "octets" => plain(SyntaxForm::Octets(Ranges::new(alloc))),
+        "null" => plain(SyntaxForm::Null),
+        "identifier" => plain(SyntaxForm::Oid),
+        "numeric" => text(alloc, Charset::Numeric),
+        "printable" => text(alloc, Charset::Printable),
+        "ia5" => text(alloc, Charset::Ia5),
+        "visible" => text(alloc, Charset::Visible),
+        "graphic" => text(alloc, Charset::Graphic),
+        "time" => plain(SyntaxForm::Time),
+        _ => return structured(alloc, name),
+    }))
+}
+
+/// The syntax of this name, or SET OF it.
+fn set_named(alloc: Global, name: &str) -> Result<Option<Syntax>, AllocError> {
+    match name.strip_prefix("set:") {
+        None => base_named(alloc, name),
+        Some(member) => match base_named(alloc, member)? {
+            None => Ok(None),
+            Some(syntax) => Ok(Some(plain(SyntaxForm::SetOf(
+                Box::new(alloc, syntax)?,
+                Ranges::new(alloc),
+            )))),
+        },
+    }
+}
+
+/// The syntax of this name, or [3] EXPLICIT [4] EXPLICIT of it.
+pub fn syntax_named(alloc: Global, name: &str) -> Result<Option<Syntax>, AllocError> {
+    match name.strip_prefix("tagged:") {
+        None => set_named(alloc, name),
+        Some(inner) => match set_named(alloc, inner)? {
+            None => Ok(None),
+            Some(syntax) => Ok(Some(tagged(alloc, 3, true, tagged(alloc, 4, true, syntax)?)?)),
+        },
+    }
+}

@@ -1,0 +1,7 @@
+pub mod ArcLaws
+pub mod CommonLaws
+pub mod MemberLaws
+pub mod OrderLaws
+pub mod PieceLaws
+pub mod SameIs
+mod StandardFacts

@@ -1,0 +1,62 @@
+use Rattle.std.proofs.Common.{rules, ◌≡◌, ◌+◌, ◌∷◌, [], ◌++◌, drop, take, length, sym, ap, ◌∙◌, subst, arith}
+use Rattle.std.proofs.lemmas.List.{drop_more, take_more, take_all}
+use Rattle.term_values.specs.Typed.{listed}
+use Rattle.value_match.specs.Matching.{Have}
+use Rattle.value_match.specs.MemberKeys.{member_key}
+use Rattle.value_match.specs.RisingMembers.{AllBefore}
+use Rattle.value_match.proofs.MemberLaws.{have_here}
+use Rattle.value_match.proofs.OrderLaws.{before_is, all_before_last, passed_none, passed_all}
+use Rattle.value_match.proofs.SameIs.{are_equal}
+use Rattle.value_match.proofs.sets.reach.Goals as goal
+
+pub returns-then-is_same : goal.returns-then-is_same
+returns-then-is_same c =
+    let xs = c.args.held.now in
+    let i = c.loop-at.at in
+    let x = c.index-held-at-in-Alike.result in
+    let front : drop i xs ≡ x ∷ drop (i + 1) xs = drop_more xs i x (omega arith)
+    ∙ ap (λ z. z ∷ drop (i + 1) xs) (search rules) in
+    subst (λ z. Have (listed xs) z) (are_equal x c.args.value.now (sym c.is_same.ensures ∙ c.if-is_same.true))
+    (have_here i xs (drop (i + 1) xs) x front)
+
+pub returns-in-After : goal.returns-in-After
+returns-in-After c =
+    let xs = c.args.held.now in
+    let i = c.loop-at.at in
+    let x = c.index-held-at.result in
+    let v = c.args.value.now in
+    let key = member_key c.args.syntax.now in
+    let front : drop i xs ≡ x ∷ drop (i + 1) xs = drop_more xs i x (omega arith)
+    ∙ ap (λ z. z ∷ drop (i + 1) xs) (search rules) in (
+      passed_none key i xs (drop (i + 1) xs) x v c.requires.rising c.loop-at.invariant.0 front
+          (before_is (key v) (key x) c.in-After.ensures),
+      c.loop-at.invariant.0,
+      c.loop-at.invariant.1,
+    )
+
+pub loop-at-preserved : goal.loop-at-preserved
+loop-at-preserved c =
+    let xs = c.args.held.now in
+    let i = c.loop-at.at in
+    let x = c.index-held-at.result in
+    let v = c.args.value.now in
+    let key = member_key c.args.syntax.now in
+    let more : take (i + 1) xs ≡ take i xs ++ (x ∷ []) = take_more xs i x (omega arith)
+    ∙ ap (λ z. take i xs ++ (z ∷ [])) (search rules) in (
+      subst (λ zs. AllBefore key zs (key v)) (sym more) (all_before_last key (take i xs) x (key v) c.loop-at.invariant.0
+          (before_is (key x) (key v) c.in-Before.ensures)),
+      omega arith,
+    )
+
+pub returns : goal.returns
+returns c =
+    let xs = c.args.held.now in
+    let i = c.loop-at.at in
+    let v = c.args.value.now in
+    let key = member_key c.args.syntax.now in
+    let all : AllBefore key xs (key v) = subst (λ zs. AllBefore key zs (key v)) (take_all i xs (omega arith))
+    c.loop-at.invariant.0 in (
+      passed_all key xs v all,
+      subst (λ zs. AllBefore key zs (key v)) (sym (take_all (length xs) xs (omega arith))) all,
+      omega arith,
+    )

@@ -1,0 +1,12 @@
+use Rattle.std.proofs.Common.{◌≤◌, length, drop}
+use Rattle.term_values.specs.Typed.{listed}
+use Rattle.value_match.specs.Matching.{HaveCommon}
+use Rattle.value_match.specs.MemberKeys.{member_key}
+use Rattle.value_match.specs.RisingMembers.{FrontBefore}
+use Rattle.value_match.proofs.sets.share_rising.Given as goal
+
+abbrev pub invariant-loop-member : goal.invariant-loop-member
+invariant-loop-member l =
+    (HaveCommon (listed l.asserted) (listed l.held)
+    → HaveCommon (listed (drop l.member-index l.asserted)) (listed l.held))
+    × FrontBefore (member_key l.syntax) l.held l.from (drop l.member-index l.asserted) × (l.from ≤ length l.held)
