@@ -1,5 +1,5 @@
-//! Answers rows: each line of standard input is a call of the crate that reads the sections RULES and INSTANCES, with its
-//! arguments, and its answer is a line of standard output (README.md lists the calls).
+//! Answers rows: each line of standard input is a call of the crate that reads the sections RULES and INSTANCES, with
+//! its arguments, and its answer is a line of standard output (README.md lists the calls).
 #![tactic(auto)]
 
 mod parts;

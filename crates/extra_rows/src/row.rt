@@ -13,7 +13,12 @@ pub fn answer(alloc: Global, line: &str) -> Result<String, AllocError> {
     match call {
         "read" => place_behind_one(alloc, arguments),
         "section" => whole(alloc, arguments),
-        "step" => whole_between(alloc, "RULES ON element ACTION reset DO ", arguments, "; END"),
+        "step" => whole_between(
+            alloc,
+            "RULES ON element ACTION reset DO ",
+            arguments,
+            "; END",
+        ),
         "instance" => whole_between(alloc, "INSTANCES ", arguments, " END"),
         "parts" => parts(alloc, arguments),
         "tokens" => count(alloc, arguments),

@@ -4,7 +4,7 @@ use Rattle.token_grammar.specs.declared.token.Token.{Token}
 use Rattle.token_grammar.specs.Form.{Maybe, Named, Then}
 use Rattle.token_grammar.specs.Spelling.{At, passes}
 use Rattle.token_grammar.specs.TokenTests.{is_label, is_name, is_sign_of, is_word_of}
-use Rattle.token_grammar.specs.Parts.{either, sign}
+use Rattle.token_grammar.specs.Parts.{sign}
 use Rattle.token_grammar.proofs.Heads.{at_wider, or_left, or_right, starts}
 use Rattle.token_grammar.proofs.Known.{at_name, at_number, at_one_of, at_sign, token_of}
 use Rattle.token_grammar.proofs.Parts.{apart_either, separates_by}
@@ -26,7 +26,13 @@ step_end_sign : (text : List ℕ) → ((at : ℕ) → is_sign_of text (token_of 
     text t ≡ false
 step_end_sign text colons minuses braces = either_case {p = colon} {q = is_value_start} false (is_sign_of text)
     (at_sign (codes ":") false (is_sign_of text) colons)
-    (value_case false (is_sign_of text) (literal_case false (is_sign_of text) ((λ at. refl), ((λ at. refl), ((λ at. refl), tt)))
+    (value_case false (is_sign_of text) (literal_case false (is_sign_of text) (
+      (λ at. refl),
+      (
+        (λ at. refl),
+        ((λ at. refl), tt),
+      ),
+    )
     (λ at other. refl) (λ at other. refl) (λ at other. refl)) minuses
     (at_number false (is_sign_of text) (λ at other. refl)) (at_name false (is_sign_of text) (λ at other. refl)) braces)
 
@@ -62,7 +68,8 @@ start_not_reserved = value_case false is_reserved_label
 
 pub reserved_quiet : {tokens : List Token} {on : Token → Bool} {i : ℕ} → passes is_reserved_label (slice_get tokens i) ≡
     true → Quiet tokens asn1 on (Named values) i
-reserved_quiet here = quiet_when (Named values) here (λ t e. no_start t (flip is_value_start is_reserved_label start_not_reserved t e))
+reserved_quiet here = quiet_when (Named values) here (λ t e. no_start t
+    (flip is_value_start is_reserved_label start_not_reserved t e))
   where
     no_start : (t : Token) → is_value_start t ≡ false → (is_value_start t || false) ≡ false
     no_start t e = go (is_value_start t) e

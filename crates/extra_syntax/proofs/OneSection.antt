@@ -1,8 +1,8 @@
 -- No two sections have one tree.
-use Rattle.std.proofs.Common.{◌≡◌, ap}
+use Rattle.std.proofs.Common.{ap}
 use Rattle.token_grammar.specs.Form.{Tree, Leaf}
-use Rattle.token_grammar.specs.Parts.{optional_tree, vector_tree}
-use Rattle.token_grammar.specs.PartLaws.{OneValue, OneValueBy, OptionsAgree}
+use Rattle.token_grammar.specs.Parts.{vector_tree}
+use Rattle.token_grammar.specs.PartLaws.{OneValue, OneValueBy}
 use Rattle.token_grammar.proofs.Values.{first_not_second, first_same, leaf_same, lists_agree, numbered_same, one_list, one_token, options_agree, pair_same, second_not_first, second_same}
 use Rattle.asn1_values_syntax.specs.Agreement.{ValuesAgree}
 use Rattle.asn1_values_syntax.specs.ValueTrees.{value_tree}
@@ -58,7 +58,8 @@ steps_agree (Emit x) (SReply y) e = absurd (first_not_second (second_same (secon
 steps_agree (SReply x) (SSet y) e = absurd (second_not_first e)
 steps_agree (SReply x) (Add y) e = absurd (second_not_first (second_same e))
 steps_agree (SReply x) (Emit y) e = absurd (second_not_first (second_same (second_same e)))
-steps_agree (SReply x) (SReply y) e = two_replies (replies_agree x y (pair_same (second_same (second_same (second_same e)))).1)
+steps_agree (SReply x) (SReply y) e = two_replies (replies_agree x y (pair_same (second_same (second_same
+    (second_same e)))).1)
 
 -- rules
 pub rules_agree : OneValueBy RulesAgree rule_tree

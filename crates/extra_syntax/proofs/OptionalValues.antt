@@ -1,9 +1,8 @@
 -- A value that may be missing: its own reader tells, which has its fault at once where none begins.
-use Rattle.std.proofs.Common.{◌≡◌, ◌≢◌, ℕ, ◌≤◌, ◌<◌, false, List, ◌⊎◌, inl, inr, refl, arith}
+use Rattle.std.proofs.Common.{◌≡◌, ◌≢◌, ℕ, List, inl, inr, arith}
 use Rattle.token_grammar.specs.declared.token.Token.{Token}
 use Rattle.token_grammar.specs.Form.{Tree, Maybe, Named, Absent, Present}
 use Rattle.token_grammar.specs.Spelling.{At}
-use Rattle.token_grammar.specs.Beginning.{Begins}
 use Rattle.token_grammar.specs.Outcome.{IsFault, IsSpelt}
 use Rattle.token_grammar.proofs.Heads.{BeginsFirst, SpellsFirst, begins_first, spells_first}
 use Rattle.token_grammar.proofs.Sequences.{fault_present, spelt_absent, spelt_on, spelt_present}

@@ -1,8 +1,8 @@
 -- Sections that agree have one tree.
 use Rattle.std.proofs.Common.{◌≡◌, refl, ap}
 use Rattle.token_grammar.specs.Form.{Tree, Bare, Leaf, Pair, First, Second, Empty, Numbered}
-use Rattle.token_grammar.specs.Parts.{list_tree, optional_tree, vector_tree}
-use Rattle.token_grammar.specs.PartLaws.{OneTreeBy, OptionsAgree}
+use Rattle.token_grammar.specs.Parts.{list_tree, vector_tree}
+use Rattle.token_grammar.specs.PartLaws.{OneTreeBy}
 use Rattle.token_grammar.proofs.Values.{lists_alike, options_alike}
 use Rattle.asn1_values_syntax.specs.Agreement.{ValuesAgree}
 use Rattle.asn1_values_syntax.specs.ValueTrees.{value_tree}

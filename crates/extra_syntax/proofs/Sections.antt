@@ -1,5 +1,5 @@
 -- Which of the two sections comes: the first word tells.
-use Rattle.std.proofs.Common.{◌≡◌, ℕ, ◌≤◌, Bool, true, false, ◌||◌, List, refl, slice_get, codes}
+use Rattle.std.proofs.Common.{◌≡◌, ℕ, ◌≤◌, true, false, ◌||◌, List, refl, slice_get, codes}
 use Rattle.token_grammar.specs.declared.token.Token.{Token}
 use Rattle.token_grammar.specs.Form.{Named}
 use Rattle.token_grammar.specs.Spelling.{passes}
@@ -18,7 +18,8 @@ instances_stop here order = stops_named instance_sections
     (stops_by unknown heads_unknown instances_form order (record { passed = here })
     (at_word (codes "RULES") false (λ t. starts unknown instances_form t || skips unknown instances_form) (λ at. refl)))
 
-pub rules_stop : {tokens : List Token} {i k : ℕ} → passes (is_word_of (codes "RULES")) (slice_get tokens i) ≡ false → i ≤
+pub rules_stop : {tokens : List Token} {i k : ℕ} → passes (is_word_of (codes "RULES"))
+    (slice_get tokens i) ≡ false → i ≤
     k → Stops tokens sections closed (Named rule_sections) i k
 rules_stop {tokens} {i} {k} fails order = stops_named rule_sections
     (stops_unless unknown heads_unknown (is_word_of (codes "RULES")) rules_form i k order refl

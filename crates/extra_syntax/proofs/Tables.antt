@@ -1,15 +1,14 @@
 -- A form that names no section has the same readings by the table of sections and by that of ASN.1.
-use Rattle.std.proofs.Common.{◌≡◌, ℕ, zero, suc, ◌≤◌, Bool, true, false, ◌&&◌, ◌⊎◌, inl, inr, List, [], ◌∷◌, refl, sym, subst}
+use Rattle.std.proofs.Common.{◌≡◌, ℕ, zero, suc, Bool, true, false, ◌&&◌, List, refl, sym, subst}
 use Rattle.token_grammar.specs.declared.token.Token.{Token}
 use Rattle.token_grammar.specs.declared.syntax_refusal.SyntaxRefusal.{SyntaxRefusal}
 use Rattle.token_grammar.specs.Form.{Form, Tree, Marks, Keep, Then, Or, Maybe, Listed, Many, AnyOrder, Named}
 use Rattle.token_grammar.specs.Spelling as S
-use Rattle.token_grammar.specs.Spelling.{At, Spells}
+use Rattle.token_grammar.specs.Spelling.{Spells}
 use Rattle.token_grammar.specs.Beginning as B
 use Rattle.token_grammar.specs.Beginning.{Begins}
-use Rattle.token_grammar.specs.Outcome.{Stops, IsFault, IsSpelt, Fails}
+use Rattle.token_grammar.specs.Outcome.{Stops, IsSpelt, Fails}
 use Rattle.token_grammar.proofs.Known.{first_so, second_so}
-use Rattle.token_grammar.proofs.Sequences.{fails_by}
 use Rattle.asn1_values_syntax.specs.Asn1.{asn1}
 use Rattle.extra_syntax.specs.SectionForms.{sections}
 

@@ -1,6 +1,6 @@
 //! What a rule does, step by step: SET, ADD, EMIT and REPLY (docs/PROFILE.md, section 9).
 
-ghost use Rattle.std.specs.Prelude.{◌≡◌, ◌&&◌, not, slice_get};
+ghost use Rattle.std.specs.Prelude.{◌≡◌, slice_get};
 ghost use Rattle.token_grammar.specs.Form.{Maybe, Named};
 ghost use Rattle.token_grammar.specs.Outcome.{Reads, closed};
 ghost use Rattle.token_grammar.specs.Parts.{optional_tree};

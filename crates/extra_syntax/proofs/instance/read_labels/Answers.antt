@@ -25,7 +25,8 @@ pub turns-preserved : goal.turns-preserved
 turns-preserved c =
     let one = part_kept c.args.tokens.now _ _ _ c.turns.next c.read_label.result c.turns.list.items
     c.keep_part.new.list.items _ (c.read_label.ensures asn1) c.in_ok-behind.ensures in
-    list_push Leaf Empty c.turns.list.items c.keep_part.new.list.items separates_closed c.turns.invariant one.spelt one.items
+    list_push Leaf Empty c.turns.list.items c.keep_part.new.list.items separates_closed c.turns.invariant one.spelt
+    one.items
     (record { passed = c.in-Some.ensures.0 }) c.in-Some.ensures.1
 
 pub turns-smaller : goal.turns-smaller
@@ -39,5 +40,6 @@ pub returns-in_default : goal.returns-in_default
 returns-in_default c =
     let one = part_kept c.args.tokens.now _ _ _ c.turns.next c.read_label.result c.turns.list.items
     c.keep_part.new.list.items _ (c.read_label.ensures asn1) c.in_ok-behind.ensures in
-    spelt_led c.turns.invariant (list_last Leaf Empty c.turns.list.items c.keep_part.new.list.items separates_closed one.spelt
+    spelt_led c.turns.invariant (list_last Leaf Empty c.turns.list.items c.keep_part.new.list.items separates_closed
+    one.spelt
     one.items c.in_default.ensures)

@@ -19,7 +19,8 @@ turns-init c = many_start instance_tree c.new-list.result.items c.new-list.ensur
 
 pub returns-in_err-next : goal.returns-in_err-next
 returns-in_err-next c = exit_reads _ c.from_residual.result c.from_residual.ensures.1
-    (fails_by (λ k r. fault_led c.turns.invariant (many_fault (record { passed = sym c.is_one_of_at.ensures ∙ c.turns-test.true })
+    (fails_by (λ k r. fault_led c.turns.invariant (many_fault
+    (record { passed = sym c.is_one_of_at.ensures ∙ c.turns-test.true })
     (λ m here. not_closed here) apart_closed r))
     (part_fails c.args.tokens.now _ _ _ c.turns.next c.read_instance.result c.turns.list.items
     c.keep_part.new.list.items _ c.read_instance.ensures c.in_err-next.ensures))
@@ -39,5 +40,6 @@ turns-smaller c =
     c.turns.next is_instance_start (sym c.is_one_of_at.ensures ∙ c.turns-test.true) in omega arith
 
 pub returns : goal.returns
-returns c = spelt_led c.turns.invariant (many_ends (stops_unless firsts firsts_lead is_instance_start instance c.turns.next
+returns c = spelt_led c.turns.invariant (many_ends (stops_unless firsts firsts_lead is_instance_start instance
+    c.turns.next
     c.turns.next (omega arith) refl instance_starts (sym c.is_one_of_at.ensures ∙ c.turns-test.false)))

@@ -18,7 +18,8 @@ turns-init c = many_start rule_tree c.new-list.result.items c.new-list.ensures.i
 
 pub returns-in_err-next : goal.returns-in_err-next
 returns-in_err-next c = exit_reads _ c.from_residual.result c.from_residual.ensures.1
-    (fails_by (λ k r. fault_led c.turns.invariant (many_fault (record { passed = sym c.is_word_at.ensures ∙ c.turns-test.true })
+    (fails_by (λ k r. fault_led c.turns.invariant (many_fault
+    (record { passed = sym c.is_word_at.ensures ∙ c.turns-test.true })
     (λ m here. not_closed here) apart_closed r))
     (part_fails c.args.tokens.now _ _ _ c.turns.next c.read_rule.result c.turns.list.items
     c.keep_part.new.list.items _ c.read_rule.ensures c.in_err-next.ensures))

@@ -17,7 +17,8 @@ returns-in_err-label c = exit_reads _ c.from_residual.result c.from_residual.ens
     (fails_wider colon (c.in_err-label.ensures asn1 is_reserved_label c.is_reserved_label_at-is_reserved.ensures)))
 
 pub returns-then-is_reserved : goal.returns-then-is_reserved
-returns-then-is_reserved c = take_second (reserved_quiet (sym c.is_reserved_label_at-is_reserved.ensures ∙ c.if-is_reserved.true))
+returns-then-is_reserved c = take_second (reserved_quiet (sym c.is_reserved_label_at-is_reserved.ensures ∙
+    c.if-is_reserved.true))
     (spelt_wider colon (c.in_ok-label.ensures asn1 is_reserved_label c.is_reserved_label_at-is_reserved.ensures))
 
 pub returns-in_err-value : goal.returns-in_err-value
