@@ -1,0 +1,19 @@
+//! Answers rows: each line of standard input is a call of the crate that reads the sections RULES and INSTANCES, with
+//! its arguments, and its answer is a line of standard output (README.md lists the calls).
+#![tactic(auto)]
+
+mod parts;
+mod reading;
+mod row;
+mod texts;
+mod values;
+
+use std::io;
+
+fn main(rt: HostRuntime) -> io::Result<()> {
+    for line in rt.lines(rt.alloc()) {
+        let answer = row::answer(rt.alloc(), line?.as_str())?;
+        println!(rt; "{answer}")?;
+    }
+    Ok(())
+}

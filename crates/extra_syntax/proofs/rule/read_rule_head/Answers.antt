@@ -1,0 +1,34 @@
+-- The parts, one after the other.
+use Rattle.asn1_values_syntax.specs.Asn1.{asn1}
+use Rattle.token_grammar.proofs.Exits.{exit_reads}
+use Rattle.token_grammar.proofs.Sequences.{apart_closed, fails_front, fails_rest, spelt_then}
+use Rattle.extra_syntax.proofs.rule.read_rule_head.Goals as goal
+
+pub returns-in_err-next : goal.returns-in_err-next
+returns-in_err-next c = exit_reads _ c.from_residual.result c.from_residual.ensures.1 (fails_front apart_closed
+    (c.in_err-next.ensures asn1))
+
+pub returns-in_err-class : goal.returns-in_err-class
+returns-in_err-class c = exit_reads _ c.from_residual-in_err-class.result c.from_residual-in_err-class.ensures.1
+    (fails_rest (c.in_ok-next.ensures asn1) apart_closed (fails_front apart_closed (c.in_err-class.ensures asn1)))
+
+pub returns-in_err-next-2 : goal.returns-in_err-next-2
+returns-in_err-next-2 c = exit_reads _ c.from_residual-in_err-next-2.result c.from_residual-in_err-next-2.ensures.1
+    (fails_rest (c.in_ok-next.ensures asn1) apart_closed (fails_rest (c.in_ok-class.ensures asn1) apart_closed
+    (fails_front apart_closed (c.in_err-next-2.ensures asn1))))
+
+pub returns-in_err-action : goal.returns-in_err-action
+returns-in_err-action c = exit_reads _ c.from_residual-in_err-action.result c.from_residual-in_err-action.ensures.1
+    (fails_rest (c.in_ok-next.ensures asn1) apart_closed (fails_rest (c.in_ok-class.ensures asn1) apart_closed
+    (fails_rest (c.in_ok-next-2.ensures asn1) apart_closed (fails_front apart_closed (c.in_err-action.ensures asn1)))))
+
+pub returns-in_err-next-3 : goal.returns-in_err-next-3
+returns-in_err-next-3 c = exit_reads _ c.from_residual-in_err-next-3.result c.from_residual-in_err-next-3.ensures.1
+    (fails_rest (c.in_ok-next.ensures asn1) apart_closed (fails_rest (c.in_ok-class.ensures asn1) apart_closed
+    (fails_rest (c.in_ok-next-2.ensures asn1) apart_closed (fails_rest (c.in_ok-action.ensures asn1) apart_closed
+    (c.in_err-next-3.ensures asn1)))))
+
+pub returns : goal.returns
+returns c = spelt_then (c.in_ok-next.ensures asn1) apart_closed (spelt_then (c.in_ok-class.ensures asn1) apart_closed
+    (spelt_then (c.in_ok-next-2.ensures asn1) apart_closed (spelt_then (c.in_ok-action.ensures asn1) apart_closed
+    (c.in_ok-next-3.ensures asn1))))
