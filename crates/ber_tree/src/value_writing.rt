@@ -55,11 +55,7 @@ fn integer_contents_backwards(number: i64, into: &mut Vec<u8>) -> Result<(), All
 }
 
 /// Appends an INTEGER or an ENUMERATED under this tag, the last octet first.
-pub fn write_integer_backwards(
-    tag: Tag,
-    number: i64,
-    into: &mut Vec<u8>,
-) -> Result<(), AllocError>
+pub fn write_integer_backwards(tag: Tag, number: i64, into: &mut Vec<u8>) -> Result<(), AllocError>
     ensures written { OnOk result
         (into.new.items ≡ into.old.items ++ reverse (encoded false tag (integer_contents number))) }
     ensures begun { Extends into.old.items into.new.items }

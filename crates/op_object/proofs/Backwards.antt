@@ -1,7 +1,25 @@
 -- What is written with its last octet first: a part that follows stands before it, a header is closed over what it heads,
 -- and the whole is turned round at the end.
-use Rattle.std.proofs.Common.{◌≡◌, ℕ, ◌-◌, List, [], ◌∷◌, ◌++◌, true, length, reverse, take, drop,
-    append_assoc, refl, sym, ap, ◌∙◌, arith}
+use Rattle.std.proofs.Common.{
+  ◌≡◌,
+  ℕ,
+  ◌-◌,
+  List,
+  [],
+  ◌∷◌,
+  ◌++◌,
+  true,
+  length,
+  reverse,
+  take,
+  drop,
+  append_assoc,
+  refl,
+  sym,
+  ap,
+  ◌∙◌,
+  arith,
+}
 use Rattle.std.proofs.Math.Seq.{drop-append_seam, take-append_seam}
 use Rattle.std.proofs.lemmas.List.{length-append, length-reverse, reverse-append}
 use Rattle.term_values.specs.declared.tag.Tag.{Tag}

@@ -110,11 +110,7 @@ pub fn attribute_set(
 }
 
 /// The octets of each attribute that a Get without a list gives.
-fn readable_members(
-    alloc: Global,
-    schema: &Set,
-    object: &Object,
-) -> Result<Vec<Bytes>, AllocError>
+fn readable_members(alloc: Global, schema: &Set, object: &Object) -> Result<Vec<Bytes>, AllocError>
     ensures { IfOk result (λ members. members.items
         ≡ map (attribute_octets schema.now.attributes) (readable schema.now object.now)) }
 {
