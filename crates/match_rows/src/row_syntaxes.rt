@@ -2,7 +2,9 @@
 
 use std::alloc::{AllocError, Global};
 use std::boxed::Box;
-use term_values::{Bytes, Charset, Names, Part, Parts, Ranges, Syntax, SyntaxForm, Tag};
+use term_values::{
+    Bytes, Charset, Names, Part, Parts, Ranges, Syntax, SyntaxForm, Tag, Value, ValueForm,
+};
 
 fn whole(alloc: Global) -> Syntax {
     Syntax::integer(alloc)
@@ -39,6 +41,25 @@ fn two_parts(alloc: Global, optional: bool) -> Result<Parts, AllocError> {
     let mut items = Vec::new(alloc);
     items.push(part(alloc, b"a", whole(alloc), false)?)?;
     items.push(part(alloc, b"b", plain(SyntaxForm::Bool), optional)?)?;
+    match Parts::from_items(items) {
+        Some(parts) => Ok(parts),
+        None => Err(AllocError),
+    }
+}
+
+/// a INTEGER DEFAULT 5, b BOOLEAN OPTIONAL and c [0] INTEGER OPTIONAL.
+fn parts_with_default(alloc: Global) -> Result<Parts, AllocError> {
+    let mut items = Vec::new(alloc);
+    items.push(Part {
+        name: Bytes::from_slice(alloc, b"a")?,
+        syntax: whole(alloc),
+        optional: false,
+        default: Some(Value {
+            form: ValueForm::Int(5),
+        }),
+    })?;
+    items.push(part(alloc, b"b", plain(SyntaxForm::Bool), true)?)?;
+    items.push(part(alloc, b"c", tagged(alloc, 0, false, whole(alloc))?, true)?)?;
     match Parts::from_items(items) {
         Some(parts) => Ok(parts),
         None => Err(AllocError),
@@ -94,6 +115,13 @@ fn structured(alloc: Global, name: &str) -> Result<Option<Syntax>, AllocError> {
         "list" => plain(SyntaxForm::ListOf(Box::new(alloc, whole(alloc))?, Ranges::new(alloc))),
         "set" => plain(SyntaxForm::SetOf(Box::new(alloc, whole(alloc))?, Ranges::new(alloc))),
         "choice" => plain(SyntaxForm::Choice(two_parts(alloc, false)?)),
+        "wrapped" => tagged(
+            alloc,
+            5,
+            true,
+            plain(SyntaxForm::Choice(two_parts(alloc, false)?)),
+        )?,
+        "defaulted" => plain(SyntaxForm::Seq(parts_with_default(alloc)?)),
         "any" => plain(SyntaxForm::Any),
         "filter" => plain(SyntaxForm::Filter),
         _ => return Ok(None),

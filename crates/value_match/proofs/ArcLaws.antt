@@ -1,7 +1,7 @@
 -- The order of arcs, place by place.
 use Rattle.std.proofs.Common.{◌≡◌, ◌<◌, ◌≤◌, ◌+◌, ℕ, List, ◌∷◌, drop, length, get_or, map, sym, ap, ◌∙◌, subst}
 use Rattle.std.proofs.lemmas.List.{drop_more, drop_all}
-use Rattle.value_match.specs.MemberKeys.{arc_place}
+use Rattle.value_match.specs.LeafKeys.{arc_place}
 use Rattle.value_match.specs.MemberOrder.{StandsBefore, TellsOrder}
 use Rattle.value_match.specs.declared.told.MemberOrder.{MemberOrder}
 use Rattle.value_match.proofs.OrderLaws.{before_first, tells_behind, tells_lists}

@@ -1,5 +1,6 @@
 pub mod ArcLaws
 pub mod CommonLaws
+pub mod KeyLaws
 pub mod MemberLaws
 pub mod OrderLaws
 pub mod PieceLaws

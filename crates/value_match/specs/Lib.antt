@@ -1,5 +1,7 @@
 -- The definitions that the contracts of this crate cite.
 pub mod FirstEnd
+pub mod LeafKeys
+pub mod Marks
 pub mod Matching
 pub mod MatchingKinds
 pub mod MatchingPieces
@@ -7,3 +9,4 @@ pub mod MemberKeys
 pub mod MemberOrder
 pub mod MemberPlaces
 pub mod RisingMembers
+pub mod SlotKeys

@@ -1,65 +1,59 @@
 -- Numbers by which the members of a SET OF are compared without writing them. Where the members fit their syntax, the
--- order of these numbers is that of the encodings (X.690, section 11.6): of values of one type the shorter one stands
--- first, and among equally long ones the first octet that differs decides.
-use Rattle.std.specs.Prelude.{ℕ, ◌+◌, ◌-◌, ◌*◌, ◌/◌, ◌%◌, ℤ, pos, negsuc, List, [], ◌∷◌, map, nat_lt, length, if◌then◌else◌}
-use Rattle.term_values.specs.Octets.{count_signed}
-use Rattle.term_values.specs.Syntaxes.{TypeSyntax}
-use Rattle.term_values.specs.Typed.{TypedValue}
-use Rattle.term_values.specs.Typed.TypedValue.{Truth, Int, Bits, Octets, Identifier, Text, Time, Raw}
+-- order of these numbers is that of the encodings, but for a SET, whose components are written by rising encodings, and
+-- for an ANY or a filter that is an alternative or may be left out, whose tags count as one: X.690, section 11.6. A
+-- value that holds others has its size in front of theirs; a component has the octets of its tag in front, and one that
+-- isn't written has no numbers.
+use Rattle.std.specs.Prelude.{ℕ, zero, suc, List, [], ◌∷◌, ◌++◌, Bool, true, false, not, Option, None, Some, if◌then◌else◌}
+use Rattle.term_values.specs.Lengths.{octet_count}
+use Rattle.term_values.specs.SameValue.{same_value}
+use Rattle.term_values.specs.Syntaxes.{TypeSyntax, TypeParts}
+use Rattle.term_values.specs.Syntaxes.TypeSyntax.{Sequence, SequenceOf, SetOf, Choice, Tagged}
+use Rattle.term_values.specs.Syntaxes.TypeParts.{NoParts, Part}
+use Rattle.term_values.specs.Typed.{TypedValue, TypedSlots, TypedValues}
+use Rattle.term_values.specs.Typed.TypedValue.{Parts, Many, Pick}
+use Rattle.term_values.specs.Typed.TypedSlots.{Filled, Empty}
+use Rattle.term_values.specs.Typed.TypedValues.{Nothing, Then}
+use Rattle.term_values.specs.Written.{der}
+use Rattle.value_match.specs.LeafKeys.{leaf_key}
+use Rattle.value_match.specs.Marks.{mark_as}
 
--- how many octets a subidentifier has
-abbrev pub arc_size : ℕ → ℕ
-arc_size n =
-    if nat_lt n 128 then 1
-    else (if nat_lt n 16384 then 2 else (if nat_lt n 2097152 then 3 else (if nat_lt n 268435456 then 4 else 5)))
+-- how many octets the encoding has, or 2 ^ 64 - 1 where it has more
+abbrev pub member_size : TypeSyntax → TypedValue → ℕ
+member_size syntax value = octet_count (der syntax value)
 
--- five octets as one number
-abbrev pub five : ℕ → ℕ → ℕ → ℕ → ℕ → ℕ
-five a b c d e = a * 4294967296 + b * 16777216 + c * 65536 + d * 256 + e
+-- a component that equals its DEFAULT isn't written: X.690, section 11.5
+abbrev pub is_written : Option TypedValue → TypedValue → Bool
+is_written None value = true
+is_written (Some default) value = not (same_value value default)
 
--- its octets, and as many more that are zero as make five
-abbrev pub arc_place : ℕ → ℕ
-arc_place n =
-    if nat_lt n 128 then five n 0 0 0 0
-    else (if nat_lt n 16384 then five (128 + n / 128) (n % 128) 0 0 0
-    else (if nat_lt n 2097152 then five (128 + n / 16384) (128 + n / 128 % 128) (n % 128) 0 0
-    else (if nat_lt n 268435456
-    then five (128 + n / 2097152) (128 + n / 16384 % 128) (128 + n / 128 % 128) (n % 128) 0
-    else five (128 + n / 268435456) (128 + n / 2097152 % 128) (128 + n / 16384 % 128) (128 + n / 128 % 128) (n % 128))))
+-- of members, one behind the other
+abbrev pub values_key : (TypedValue → List ℕ) → TypedValues → List ℕ
+values_key key Nothing = []
+values_key key (Then x xs) = key x ++ values_key key xs
 
--- the numbers of the subidentifiers: X.690, section 8.19.4
-abbrev pub subidentifiers : List ℕ → List ℕ
-subidentifiers (first ∷ (second ∷ others)) = (first * 40 + second) ∷ others
-subidentifiers arcs = []
+abbrev mutual
+  -- of a member of this syntax
+  pub member_key : TypeSyntax → TypedValue → List ℕ
+  member_key (Sequence parts) (Parts slots) = member_size (Sequence parts) (Parts slots) ∷ slots_key parts slots
+  member_key (SequenceOf member sizes) (Many values) =
+      member_size (SequenceOf member sizes) (Many values) ∷ values_key (member_key member) values
+  member_key (SetOf member sizes) (Many values) =
+      member_size (SetOf member sizes) (Many values) ∷ values_key (member_key member) values
+  member_key (Choice parts) (Pick index value) = pick_key parts index value
+  member_key (Tagged tag true of) value = member_size of value ∷ member_key of value
+  member_key (Tagged tag false of) value = member_key of value
+  member_key syntax value = leaf_key value
 
-abbrev pub arcs_size : List ℕ → ℕ
-arcs_size [] = 0
-arcs_size (arc ∷ arcs) = arc_size arc + arcs_size arcs
+  -- of components
+  pub slots_key : TypeParts → TypedSlots → List ℕ
+  slots_key (Part name syntax optional default rest) (Filled value slots) =
+      (if is_written default value then mark_as None syntax value ∷ member_key syntax value else [])
+      ++ slots_key rest slots
+  slots_key (Part name syntax optional default rest) (Empty slots) = slots_key rest slots
+  slots_key _ _ = []
 
--- two's complement of 64 bits, so of whole numbers with as many octets one below zero stands behind the others
-abbrev pub whole_place : ℤ → ℕ
-whole_place (pos n) = n
-whole_place (negsuc n) = 18446744073709551615 - n
-
-abbrev pub magnitude : ℤ → ℕ
-magnitude (pos n) = n
-magnitude (negsuc n) = n
-
-abbrev pub whole_key : ℤ → List ℕ
-whole_key n = count_signed (magnitude n) ∷ (whole_place n ∷ [])
-
--- the numbers of a value that holds no others. Those of other forms have none.
-abbrev pub leaf_key : TypedValue → List ℕ
-leaf_key (Truth holds) = (if holds then 1 else 0) ∷ []
-leaf_key (Int n) = whole_key n
-leaf_key (Bits octets unused) = length octets ∷ (unused ∷ octets)
-leaf_key (Octets octets) = length octets ∷ octets
-leaf_key (Identifier arcs) = arcs_size (subidentifiers arcs) ∷ map arc_place (subidentifiers arcs)
-leaf_key (Text octets) = length octets ∷ octets
-leaf_key (Time octets) = length octets ∷ octets
-leaf_key (Raw octets) = octets
-leaf_key _ = []
-
--- the numbers of a member of this syntax
-abbrev pub member_key : TypeSyntax → TypedValue → List ℕ
-member_key syntax value = leaf_key value
+  -- of a value of the alternative with this index
+  pub pick_key : TypeParts → ℕ → TypedValue → List ℕ
+  pick_key NoParts index value = []
+  pick_key (Part name syntax optional default rest) zero value = mark_as None syntax value ∷ member_key syntax value
+  pick_key (Part name syntax optional default rest) (suc index) value = pick_key rest index value

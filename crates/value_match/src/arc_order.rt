@@ -2,7 +2,7 @@
 
 ghost use Rattle.std.specs.Prelude.{◌≡◌, ◌<◌, ◌≤◌, ◌∷◌, [], map};
 ghost use Rattle.term_values.specs.Typed.TypedValue.{Identifier};
-ghost use Rattle.value_match.specs.MemberKeys.{arc_place, arc_size, arcs_size, five, leaf_key};
+ghost use Rattle.value_match.specs.LeafKeys.{arc_place, arc_size, arcs_size, five, leaf_key};
 ghost use Rattle.value_match.specs.MemberOrder.{TellsOrder};
 
 use crate::told::{MemberOrder, order_of_numbers, order_then};
@@ -29,15 +29,17 @@ fn five(a: u64, b: u64, c: u64, d: u64, e: u64) -> u64
     requires c { c < 256 }
     requires d { d < 256 }
     requires e { e < 256 }
-    ensures { result ≡ five a b c d e }
+    ensures exact { result ≡ five a b c d e }
+    ensures within { result < 1099511627776 }
 {
     a * 4_294_967_296 + b * 16_777_216 + c * 65_536 + d * 256 + e
 }
 
 /// The octets of a subidentifier, and as many zeros as make five.
-fn arc_place(arc: u64) -> u64
+pub fn arc_place(arc: u64) -> u64
     requires { arc < 8589934592 }
-    ensures { result ≡ arc_place arc }
+    ensures exact { result ≡ arc_place arc }
+    ensures within { result < 1099511627776 }
 {
     let last = arc % 128;
     let fourth = 128 + arc / 128 % 128;

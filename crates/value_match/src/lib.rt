@@ -4,6 +4,8 @@
 pub mod arc_order;
 pub mod equality;
 pub mod kinds;
+pub mod leaf_order;
+pub mod marks;
 pub mod member_order;
 pub mod not_matched;
 pub mod sets;

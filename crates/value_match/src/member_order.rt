@@ -1,158 +1,260 @@
 //! The order in which the members of a SET OF stand, told without writing them: X.690, section 11.6.
 
-ghost use Rattle.std.specs.Prelude.{◌≡◌, ◌∷◌, [], length};
-ghost use Rattle.term_values.specs.Octets.{count_signed};
-ghost use Rattle.value_match.specs.MemberKeys.{leaf_key, magnitude, member_key, whole_key, whole_place};
+ghost use Rattle.std.specs.Prelude.{◌≡◌, ◌∷◌, [], IfSome, None, drop};
+ghost use Rattle.term_values.specs.PartsView.{parts_listed};
+ghost use Rattle.term_values.specs.SlotsView.{slots_listed};
+ghost use Rattle.value_match.specs.Marks.{mark_as};
+ghost use Rattle.value_match.specs.MemberKeys.{is_written, member_key, member_size, pick_key, slots_key, values_key};
 ghost use Rattle.value_match.specs.MemberOrder.{TellsOrder};
+ghost use Rattle.value_match.specs.SlotKeys.{BeginsWith, slot_key, value_key};
 
-use crate::arc_order::order_of_identifiers;
+use crate::leaf_order::order_of_leaves;
+use crate::marks::mark_of;
 use crate::told::{MemberOrder, order_of_numbers, order_then};
-use std::cmp::Ordering;
-use term_values::{Bytes, Syntax, Value, ValueForm};
+use term_values::{
+    Part, Parts, Slot, Slots, Syntax, SyntaxForm, Value, ValueForm, Values, der_len,
+};
 
-/// The order of two lengths.
-fn order_of_lengths(size: usize, other: usize) -> MemberOrder
-    ensures { TellsOrder result (size ∷ []) (other ∷ []) }
+/// The order of the sizes of two members.
+fn order_of_sizes(member: &Syntax, value: &Value, other: &Value) -> MemberOrder
+    ensures { TellsOrder result (member_size member.now value.now ∷ []) (member_size member.now other.now ∷ []) }
 {
-    if size < other {
-        MemberOrder::Before
-    } else if other < size {
-        MemberOrder::After
+    let size = der_len(member, value);
+    let other_size = der_len(member, other);
+    order_of_numbers(size, other_size)
+}
+
+/// A component that equals its DEFAULT isn't written.
+fn is_written(part: &Part, value: &Value) -> bool
+    ensures { result ≡ is_written part.now.default value.now }
+{
+    match &part.default {
+        None => true,
+        Some(default) => !value.is_same(default),
+    }
+}
+
+/// The octets of the tag of the first component from `from` on that is written, or none.
+fn next_mark(items: &[Part], slots: &[Slot], from: usize) -> Option<u64>
+    ensures { IfSome result (λ mark. BeginsWith mark
+        (slots_key (parts_listed (drop from items.now)) (slots_listed (drop from slots.now)))) }
+{
+    let count = items.len().min(slots.len());
+    for i in from..count {
+        let part = &items[i];
+        match &slots[i] {
+            Slot::Absent => {}
+            Slot::Present(value) => {
+                if is_written(part, value) {
+                    return Some(mark_of(None, &part.syntax, value));
+                }
+            }
+        }
+    }
+    None
+}
+
+/// The order of components from `from` on, of which one is written on one side alone: that of the tags that come next.
+fn order_of_next(items: &[Part], slots: &[Slot], others: &[Slot], from: usize) -> MemberOrder
+    ensures { TellsOrder result
+        (slots_key (parts_listed (drop from items.now)) (slots_listed (drop from slots.now)))
+        (slots_key (parts_listed (drop from items.now)) (slots_listed (drop from others.now))) }
+{
+    match next_mark(items, slots, from) {
+        None => MemberOrder::Untold,
+        Some(mark) => match next_mark(items, others, from) {
+            None => MemberOrder::Untold,
+            Some(other) => order_then(order_of_numbers(mark, other), MemberOrder::Untold),
+        },
+    }
+}
+
+/// The order of two members of a SET OF.
+#[cycle(members)]
+pub fn order_of_members(member: &Syntax, value: &Value, other: &Value) -> MemberOrder
+    ensures { TellsOrder result (member_key member.now value.now) (member_key member.now other.now) }
+{
+    match &member.form {
+        SyntaxForm::Tagged(_, explicit, of) => {
+            if *explicit {
+                order_of_sized(of, value, other)
+            } else {
+                order_of_members(of, value, other)
+            }
+        }
+        SyntaxForm::Seq(parts) => match (&value.form, &other.form) {
+            (ValueForm::Parts(slots), ValueForm::Parts(others)) => order_then(
+                order_of_sizes(member, value, other),
+                order_of_slots(parts, slots, others),
+            ),
+            _ => MemberOrder::Untold,
+        },
+        SyntaxForm::ListOf(of, _) => match (&value.form, &other.form) {
+            (ValueForm::Many(values), ValueForm::Many(others)) => order_then(
+                order_of_sizes(member, value, other),
+                order_of_values(of, values, others),
+            ),
+            _ => MemberOrder::Untold,
+        },
+        SyntaxForm::SetOf(of, _) => match (&value.form, &other.form) {
+            (ValueForm::Many(values), ValueForm::Many(others)) => order_then(
+                order_of_sizes(member, value, other),
+                order_of_values(of, values, others),
+            ),
+            _ => MemberOrder::Untold,
+        },
+        SyntaxForm::Choice(parts) => match (&value.form, &other.form) {
+            (ValueForm::Pick(m, picked), ValueForm::Pick(n, other_picked)) => {
+                order_of_picks(parts, *m, picked, *n, other_picked)
+            }
+            _ => MemberOrder::Untold,
+        },
+        _ => order_of_leaves(value, other),
+    }
+}
+
+/// The order of two members behind their sizes.
+#[cycle(members)]
+fn order_of_sized(member: &Syntax, value: &Value, other: &Value) -> MemberOrder
+    ensures { TellsOrder result (member_size member.now value.now ∷ member_key member.now value.now)
+        (member_size member.now other.now ∷ member_key member.now other.now) }
+{
+    order_then(
+        order_of_sizes(member, value, other),
+        order_of_members(member, value, other),
+    )
+}
+
+/// The order of values of an alternative each.
+#[cycle(members)]
+fn order_of_picks(
+    parts: &Parts,
+    index: u32,
+    value: &Value,
+    other_index: u32,
+    other: &Value,
+) -> MemberOrder
+    ensures { TellsOrder result (pick_key parts.now index value.now) (pick_key parts.now other_index other.now) }
+{
+    let items = parts.items.as_slice();
+    let first = index as usize;
+    let second = other_index as usize;
+    if first >= items.len() || second >= items.len() {
+        return MemberOrder::Untold;
+    }
+    let part = &items[first];
+    if first == second {
+        return order_of_marked(&part.syntax, value, other);
+    }
+    let other_part = &items[second];
+    let mark = mark_of(None, &part.syntax, value);
+    let other_mark = mark_of(None, &other_part.syntax, other);
+    order_then(order_of_numbers(mark, other_mark), MemberOrder::Untold)
+}
+
+/// The order of values of one syntax with the octets of their tags in front.
+#[cycle(members)]
+fn order_of_marked(syntax: &Syntax, value: &Value, other: &Value) -> MemberOrder
+    ensures { TellsOrder result (mark_as None syntax.now value.now ∷ member_key syntax.now value.now)
+        (mark_as None syntax.now other.now ∷ member_key syntax.now other.now) }
+{
+    let mark = mark_of(None, syntax, value);
+    let other_mark = mark_of(None, syntax, other);
+    order_then(
+        order_of_numbers(mark, other_mark),
+        order_of_members(syntax, value, other),
+    )
+}
+
+/// The order of lists of members.
+#[cycle(members)]
+fn order_of_values(member: &Syntax, values: &Values, others: &Values) -> MemberOrder
+    ensures { TellsOrder result (values_key (member_key member.now) values.now)
+        (values_key (member_key member.now) others.now) }
+{
+    let items = values.items.as_slice();
+    let other_items = others.items.as_slice();
+    for i in 0..items.len().min(other_items.len()) {
+        match order_of_members(member, &items[i], &other_items[i]) {
+            MemberOrder::Before => return MemberOrder::Before,
+            MemberOrder::Alike => {}
+            MemberOrder::After => return MemberOrder::After,
+            MemberOrder::Untold => return MemberOrder::Untold,
+        }
+    }
+    if items.len() == other_items.len() {
+        MemberOrder::Alike
+    } else {
+        MemberOrder::Untold
+    }
+}
+
+/// The order of values of one component that are both there.
+#[cycle(members)]
+fn order_of_both(part: &Part, value: &Value, other: &Value) -> MemberOrder
+    ensures { TellsOrder result (value_key part.now value.now) (value_key part.now other.now) }
+{
+    if is_written(part, value) {
+        if is_written(part, other) {
+            order_of_marked(&part.syntax, value, other)
+        } else {
+            MemberOrder::Untold
+        }
+    } else if is_written(part, other) {
+        MemberOrder::Untold
     } else {
         MemberOrder::Alike
     }
 }
 
-/// The order of as many octets of both.
-fn order_of_fronts(octets: &[u8], others: &[u8]) -> MemberOrder
-    requires { length octets.now ≡ length others.now }
-    ensures { TellsOrder result octets.now others.now }
+/// The order of one component of two values. Where it is written in one of them alone, nothing is told.
+#[cycle(members)]
+fn order_of_slot(part: &Part, slot: &Slot, other: &Slot) -> MemberOrder
+    ensures { TellsOrder result (slot_key part.now slot.now) (slot_key part.now other.now) }
 {
-    match octets.cmp(others) {
-        Ordering::Less => MemberOrder::Before,
-        Ordering::Equal => MemberOrder::Alike,
-        Ordering::Greater => MemberOrder::After,
+    match slot {
+        Slot::Absent => match other {
+            Slot::Absent => MemberOrder::Alike,
+            Slot::Present(held) => {
+                if is_written(part, held) {
+                    MemberOrder::Untold
+                } else {
+                    MemberOrder::Alike
+                }
+            }
+        },
+        Slot::Present(value) => match other {
+            Slot::Absent => {
+                if is_written(part, value) {
+                    MemberOrder::Untold
+                } else {
+                    MemberOrder::Alike
+                }
+            }
+            Slot::Present(held) => order_of_both(part, value, held),
+        },
     }
 }
 
-/// The order of octets that stand alone. Where one begins the other, nothing is told.
-fn order_of_raw(octets: &Bytes, others: &Bytes) -> MemberOrder
-    ensures { TellsOrder result octets.now others.now }
+/// The order of components.
+#[cycle(members)]
+fn order_of_slots(parts: &Parts, slots: &Slots, others: &Slots) -> MemberOrder
+    ensures { TellsOrder result (slots_key parts.now slots.now) (slots_key parts.now others.now) }
 {
-    let first = octets.as_slice();
-    let second = others.as_slice();
-    if first.len() == second.len() {
-        return order_of_fronts(first, second);
+    let items = parts.items.as_slice();
+    let present = slots.items.as_slice();
+    let other_present = others.items.as_slice();
+    let count = items.len().min(present.len());
+    if present.len() != other_present.len() {
+        return MemberOrder::Untold;
     }
-    let count = first.len().min(second.len());
-    match order_of_fronts(&first[..count], &second[..count]) {
-        MemberOrder::Before => MemberOrder::Before,
-        MemberOrder::After => MemberOrder::After,
-        _ => MemberOrder::Untold,
-    }
-}
-
-/// The order of octets behind their length.
-fn order_of_octets(octets: &Bytes, others: &Bytes) -> MemberOrder
-    ensures { TellsOrder result (length octets.now ∷ octets.now) (length others.now ∷ others.now) }
-{
-    let first = octets.as_slice();
-    let second = others.as_slice();
-    if first.len() < second.len() {
-        MemberOrder::Before
-    } else if second.len() < first.len() {
-        MemberOrder::After
-    } else {
-        order_of_fronts(first, second)
-    }
-}
-
-/// A number, or of one below zero the number of those between it and zero.
-fn magnitude(number: i64) -> u64
-    ensures { result ≡ magnitude number }
-{
-    if number < 0 {
-        (-(number + 1)) as u64
-    } else {
-        number as u64
-    }
-}
-
-/// Two's complement of 64 bits.
-fn whole_place(number: i64) -> u64
-    ensures { result ≡ whole_place number }
-{
-    if number < 0 {
-        18_446_744_073_709_551_615 - (-(number + 1)) as u64
-    } else {
-        number as u64
-    }
-}
-
-/// How many octets leave the first bit zero.
-fn signed_octets(number: u64) -> u64
-    ensures { result ≡ count_signed number }
-{
-    match number {
-        0..=0x7F => 1,
-        0x80..=0x7FFF => 2,
-        0x8000..=0x7F_FFFF => 3,
-        0x80_0000..=0x7FFF_FFFF => 4,
-        0x8000_0000..=0x7F_FFFF_FFFF => 5,
-        0x80_0000_0000..=0x7FFF_FFFF_FFFF => 6,
-        0x8000_0000_0000..=0x7F_FFFF_FFFF_FFFF => 7,
-        _ => 8,
-    }
-}
-
-/// The order of whole numbers.
-fn order_of_wholes(number: i64, other: i64) -> MemberOrder
-    ensures { TellsOrder result (whole_key number) (whole_key other) }
-{
-    let size = signed_octets(magnitude(number));
-    let other_size = signed_octets(magnitude(other));
-    order_then(
-        order_of_numbers(size, other_size),
-        order_of_numbers(whole_place(number), whole_place(other)),
-    )
-}
-
-/// The order of strings of bits.
-fn order_of_bits(octets: &Bytes, unused: u8, others: &Bytes, other: u8) -> MemberOrder
-    ensures { TellsOrder result (length octets.now ∷ (unused ∷ octets.now)) (length others.now ∷ (other ∷ others.now)) }
-{
-    order_then(
-        order_of_lengths(octets.as_slice().len(), others.as_slice().len()),
-        order_then(
-            order_of_numbers(unused as u64, other as u64),
-            order_of_raw(octets, others),
-        ),
-    )
-}
-
-/// The order of values that hold no others.
-fn order_of_leaves(value: &Value, other: &Value) -> MemberOrder
-    ensures { TellsOrder result (leaf_key value.now) (leaf_key other.now) }
-{
-    match (&value.form, &other.form) {
-        (ValueForm::Bool(a), ValueForm::Bool(b)) => {
-            order_of_numbers(if *a { 1 } else { 0 }, if *b { 1 } else { 0 })
+    for i in 0..count {
+        match order_of_slot(&items[i], &present[i], &other_present[i]) {
+            MemberOrder::Before => return MemberOrder::Before,
+            MemberOrder::Alike => {}
+            MemberOrder::After => return MemberOrder::After,
+            MemberOrder::Untold => return order_of_next(items, present, other_present, i),
         }
-        (ValueForm::Int(a), ValueForm::Int(b)) => order_of_wholes(*a, *b),
-        (ValueForm::Bits(a, n), ValueForm::Bits(b, m)) => order_of_bits(a, *n, b, *m),
-        (ValueForm::Octets(a), ValueForm::Octets(b)) => order_of_octets(a, b),
-        (ValueForm::Null, ValueForm::Null) => MemberOrder::Alike,
-        (ValueForm::Oid(a), ValueForm::Oid(b)) => order_of_identifiers(a, b),
-        (ValueForm::Text(a), ValueForm::Text(b)) => order_of_octets(a, b),
-        (ValueForm::Time(a), ValueForm::Time(b)) => order_of_octets(a, b),
-        (ValueForm::Raw(a), ValueForm::Raw(b)) => order_of_raw(a, b),
-        _ => MemberOrder::Untold,
     }
-}
-
-/// The order of two members of a SET OF.
-pub fn order_of_members(_member: &Syntax, value: &Value, other: &Value) -> MemberOrder
-    ensures { TellsOrder result (member_key _member.now value.now) (member_key _member.now other.now) }
-{
-    order_of_leaves(value, other)
+    MemberOrder::Alike
 }

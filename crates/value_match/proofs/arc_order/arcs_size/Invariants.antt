@@ -1,5 +1,5 @@
 use Rattle.std.proofs.Common.{◌≡◌, ◌≤◌, ◌+◌, ◌*◌, drop}
-use Rattle.value_match.specs.MemberKeys.{arcs_size}
+use Rattle.value_match.specs.LeafKeys.{arcs_size}
 use Rattle.value_match.proofs.arc_order.arcs_size.Given as goal
 
 abbrev pub invariant-loop-i : goal.invariant-loop-i

@@ -1,5 +1,5 @@
 use Rattle.std.proofs.Common.{◌≡◌, ◌+◌, [], ◌∷◌, map}
-use Rattle.value_match.specs.MemberKeys.{arc_place, arc_size, arcs_size}
+use Rattle.value_match.specs.LeafKeys.{arc_place, arc_size, arcs_size}
 use Rattle.value_match.proofs.OrderLaws.{tells_as}
 use Rattle.value_match.proofs.arc_order.order_behind.Goals as goal
 
@@ -19,4 +19,4 @@ returns c =
     (c.arc_size-2.result + c.arcs_size-2.result) (arc_size m + arcs_size ys) size other_size c.order_of_sizes.ensures)
     (c.order_then.ensures (arc_place n ∷ []) (arc_place m ∷ []) (map arc_place xs) (map arc_place ys)
     (tells_as c.order_of_numbers.result c.arc_place.result (arc_place n) c.arc_place-2.result (arc_place m)
-    c.arc_place.ensures c.arc_place-2.ensures c.order_of_numbers.ensures) c.order_of_arcs.ensures)
+    c.arc_place.ensures.exact c.arc_place-2.ensures.exact c.order_of_numbers.ensures) c.order_of_arcs.ensures)

@@ -7,19 +7,22 @@ pub returns-then-place-other : goal.returns-then-place-other
 returns-then-place-other c =
     let less : c.arc_place-place.result < c.arc_place-other.result = omega arith in
     c.loop-i.invariant Before (places_before c.loop-i.i c.args.arcs.now c.args.others.now c.arc_place-place.result
-    c.arc_place-other.result (omega arith) (omega arith) c.arc_place-place.ensures c.arc_place-other.ensures less)
+    c.arc_place-other.result (omega arith) (omega arith) c.arc_place-place.ensures.exact
+    c.arc_place-other.ensures.exact less)
 
 pub returns-then-other-place : goal.returns-then-other-place
 returns-then-other-place c =
     let less : c.arc_place-other.result < c.arc_place-place.result = omega arith in
     c.loop-i.invariant After (places_before c.loop-i.i c.args.others.now c.args.arcs.now c.arc_place-other.result
-    c.arc_place-place.result (omega arith) (omega arith) c.arc_place-other.ensures c.arc_place-place.ensures less)
+    c.arc_place-place.result (omega arith) (omega arith) c.arc_place-other.ensures.exact
+    c.arc_place-place.ensures.exact less)
 
 pub loop-i-preserved : goal.loop-i-preserved
 loop-i-preserved c told t =
     let same : c.arc_place-place.result ≡ c.arc_place-other.result = omega arith in
     c.loop-i.invariant told (places_same told c.loop-i.i c.args.arcs.now c.args.others.now c.arc_place-place.result
-    c.arc_place-other.result (omega arith) (omega arith) c.arc_place-place.ensures c.arc_place-other.ensures same t)
+    c.arc_place-other.result (omega arith) (omega arith) c.arc_place-place.ensures.exact
+    c.arc_place-other.ensures.exact same t)
 
 pub returns-then-arcs-others : goal.returns-then-arcs-others
 returns-then-arcs-others c =

@@ -1,5 +1,5 @@
 use Rattle.std.proofs.Common.{drop, map}
-use Rattle.value_match.specs.MemberKeys.{arc_place}
+use Rattle.value_match.specs.LeafKeys.{arc_place}
 use Rattle.value_match.specs.MemberOrder.{TellsOrder}
 use Rattle.value_match.specs.declared.told.MemberOrder.{MemberOrder}
 use Rattle.value_match.proofs.arc_order.order_of_arcs.Given as goal

@@ -1,6 +1,6 @@
 use Rattle.std.proofs.Common.{arith}
 use Rattle.value_match.proofs.OrderLaws.{before_one}
-use Rattle.value_match.proofs.member_order.order_of_lengths.Goals as goal
+use Rattle.value_match.proofs.leaf_order.order_of_lengths.Goals as goal
 
 pub returns-then-size-other : goal.returns-then-size-other
 returns-then-size-other c = before_one c.args.size c.args.other (omega arith)

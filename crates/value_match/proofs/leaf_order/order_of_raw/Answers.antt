@@ -1,6 +1,6 @@
 use Rattle.value_match.specs.declared.told.MemberOrder.TheVariants.{Before, After}
 use Rattle.value_match.proofs.OrderLaws.{before_fronts, tells_lists}
-use Rattle.value_match.proofs.member_order.order_of_raw.Goals as goal
+use Rattle.value_match.proofs.leaf_order.order_of_raw.Goals as goal
 
 pub returns-in-Before : goal.returns-in-Before
 returns-in-Before c =

@@ -1,6 +1,6 @@
 use Rattle.std.proofs.Common.{◌≡◌, length, ap, arith}
 use Rattle.value_match.proofs.OrderLaws.{before_first, tells_behind, tells_lists}
-use Rattle.value_match.proofs.member_order.order_of_octets.Goals as goal
+use Rattle.value_match.proofs.leaf_order.order_of_octets.Goals as goal
 
 pub returns-then-first-second : goal.returns-then-first-second
 returns-then-first-second c =

@@ -1,9 +1,9 @@
 use Rattle.std.proofs.Common.{[], ◌∷◌, ap, ◌∙◌}
 use Rattle.std.proofs.Math.Facts.{to_z-of_z}
 use Rattle.term_values.specs.Octets.{count_signed}
-use Rattle.value_match.specs.MemberKeys.{magnitude, whole_place}
+use Rattle.value_match.specs.LeafKeys.{magnitude, whole_place}
 use Rattle.value_match.proofs.OrderLaws.{tells_as}
-use Rattle.value_match.proofs.member_order.order_of_wholes.Goals as goal
+use Rattle.value_match.proofs.leaf_order.order_of_wholes.Goals as goal
 
 pub returns : goal.returns
 returns c =

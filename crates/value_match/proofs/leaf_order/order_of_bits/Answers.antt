@@ -1,6 +1,6 @@
 use Rattle.std.proofs.Common.{[], ◌∷◌, length, ap}
 use Rattle.value_match.proofs.OrderLaws.{tells_as}
-use Rattle.value_match.proofs.member_order.order_of_bits.Goals as goal
+use Rattle.value_match.proofs.leaf_order.order_of_bits.Goals as goal
 
 pub returns : goal.returns
 returns c =
