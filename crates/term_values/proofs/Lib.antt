@@ -10,6 +10,7 @@ pub mod Statements
 pub mod TagLaws
 mod TreeFacts
 pub mod WrittenLaws
+mod StandardFactsMatching
 mod StandardFactsPdus
 mod StandardFactsTimes
 mod StandardFactsValues

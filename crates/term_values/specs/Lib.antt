@@ -13,6 +13,9 @@ pub mod FirstFault
 pub mod Fits
 pub mod LeafReading
 pub mod Lengths
+pub mod Matching
+pub mod MatchingKinds
+pub mod MatchingPieces
 pub mod Octets
 pub mod Oid
 pub mod PartsView

@@ -1,7 +1,7 @@
 -- A common member of two lists of members, looked for from the front of the first one.
 use Rattle.std.proofs.Common.{◌≡◌, ℕ, List, [], ◌∷◌, drop, sym, subst}
 use Rattle.term_values.specs.Typed.{TypedValue, TypedValues, listed}
-use Rattle.value_match.specs.Matching.{Have, HaveCommon}
+use Rattle.term_values.specs.Matching.{Have, HaveCommon}
 use Rattle.value_match.proofs.MemberLaws.{have_here, have_later, have_none}
 
 -- one asserted member isn't held

@@ -5,4 +5,3 @@ pub mod MemberLaws
 pub mod OrderLaws
 pub mod PieceLaws
 pub mod SameIs
-mod StandardFacts

@@ -1,7 +1,7 @@
 -- Members of values, by place.
 use Rattle.std.proofs.Common.{◌≡◌, ◌⊎◌, ◌≤◌, ◌+◌, ℕ, zero, suc, List, [], ◌∷◌, length, take, drop, Option, None, Some, refl, sym, subst, inl, inr, ⊎_elim, arith, length-drop, length-take}
 use Rattle.term_values.specs.Typed.{TypedValue, TypedValues, listed}
-use Rattle.value_match.specs.Matching.{Have, AreHeld}
+use Rattle.term_values.specs.Matching.{Have, AreHeld}
 use Rattle.value_match.specs.MemberPlaces.{IsPlaceOf}
 
 pub have_drop : (i : ℕ) (xs : List TypedValue) (v : TypedValue) → Have (listed (drop i xs)) v → Have (listed xs) v

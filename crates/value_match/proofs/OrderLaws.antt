@@ -10,7 +10,7 @@ use Rattle.std.proofs.lemmas.Bool.{false_from_ne_true}
 use Rattle.term_values.specs.Rearranged.{may_precede}
 use Rattle.term_values.specs.Typed.{TypedValue, listed}
 use Rattle.term_values.proofs.RisingLaws.{may_precede_itself, may_precede_back, may_precede_through}
-use Rattle.value_match.specs.Matching.{Have}
+use Rattle.term_values.specs.Matching.{Have}
 use Rattle.value_match.specs.MemberOrder.{StandsBefore, TellsOrder}
 use Rattle.value_match.specs.RisingMembers.{AreRising, AllBefore, FrontBefore}
 use Rattle.value_match.specs.declared.told.MemberOrder.{MemberOrder}

@@ -11,7 +11,7 @@ use Rattle.term_values.specs.Typed.{TypedValue, TypedValues}
 use Rattle.term_values.specs.Typed.TypedValue.{Text, Octets, Pick}
 use Rattle.term_values.specs.Typed.TypedValues.{Nothing, Then}
 use Rattle.value_match.specs.FirstEnd.{IsFirstEnd, EndsAs, IsFirstEndOf}
-use Rattle.value_match.specs.MatchingPieces.{StandAt, Ends, StandFrom}
+use Rattle.term_values.specs.MatchingPieces.{StandAt, Ends, StandFrom}
 
 -- ---- where octets stand
 

@@ -2,7 +2,7 @@
 use Rattle.std.specs.Prelude.{◌≡◌, ◌≤◌, ℕ, List, Option, length, MatchOption}
 use Rattle.term_values.specs.Typed.{TypedValue}
 use Rattle.term_values.specs.Typed.TypedValue.{Pick}
-use Rattle.value_match.specs.MatchingPieces.{Ends}
+use Rattle.term_values.specs.MatchingPieces.{Ends}
 
 -- the first end of a piece from `from` on, or none where it stands nowhere
 abbrev pub IsFirstEnd : ℕ → List ℕ → List ℕ → ℕ → Option ℕ → Type 0

@@ -2,9 +2,6 @@
 pub mod FirstEnd
 pub mod LeafKeys
 pub mod Marks
-pub mod Matching
-pub mod MatchingKinds
-pub mod MatchingPieces
 pub mod MemberKeys
 pub mod MemberOrder
 pub mod MemberPlaces

@@ -1,7 +1,7 @@
 -- Where a value stands among members.
 use Rattle.std.specs.Prelude.{◌<◌, ℕ, List, Option, length, MatchOption}
 use Rattle.term_values.specs.Typed.{TypedValue, listed}
-use Rattle.value_match.specs.Matching.{Have}
+use Rattle.term_values.specs.Matching.{Have}
 
 -- some place at which the value stands, or none where it isn't among the members
 abbrev pub IsPlaceOf : TypedValue → List TypedValue → Option ℕ → Type 0

@@ -3,7 +3,7 @@ use Rattle.std.specs.Prelude.{◌≡◌, ◌≤◌, ℕ, List, [], ◌∷◌, fa
 use Rattle.term_values.specs.Rearranged.{IsRising, may_precede}
 use Rattle.term_values.specs.Typed.{TypedValue, listed}
 use Rattle.term_values.specs.ValueContents.{member_encodings}
-use Rattle.value_match.specs.Matching.{Have}
+use Rattle.term_values.specs.Matching.{Have}
 use Rattle.value_match.specs.declared.sets.Reached.{Reached}
 use Rattle.value_match.specs.declared.sets.Reached.TheVariants.{Held, Passed, Untold}
 

@@ -1,9 +1,9 @@
 //! Equality and order of two values: X.722, section 8.7.
 
 ghost use Rattle.std.specs.Prelude.{◌≡◌, ◌↔◌, IfOk, IsErr, IsTrue, false};
-ghost use Rattle.value_match.specs.Matching.{Matches, is_at_most};
-ghost use Rattle.value_match.specs.MatchingKinds.{can_match};
-ghost use Rattle.value_match.specs.MatchingKinds.MatchingRule.{Equality, Ordering};
+ghost use Rattle.term_values.specs.Matching.{Matches, is_at_most};
+ghost use Rattle.term_values.specs.MatchingKinds.{can_match};
+ghost use Rattle.term_values.specs.MatchingKinds.MatchingRule.{Equality, Ordering};
 
 use crate::kinds::has_order;
 use crate::not_matched::NotMatched;

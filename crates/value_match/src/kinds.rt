@@ -1,7 +1,7 @@
 //! Which syntaxes are of a matching rule's kind: X.722, section 8.7.
 
 ghost use Rattle.std.specs.Prelude.{◌≡◌};
-ghost use Rattle.value_match.specs.MatchingKinds.{beneath_tags, has_order, has_pieces, is_set_of};
+ghost use Rattle.term_values.specs.MatchingKinds.{beneath_tags, has_order, has_pieces, is_set_of};
 
 use term_values::{Syntax, SyntaxForm};
 

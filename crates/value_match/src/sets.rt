@@ -2,9 +2,9 @@
 
 ghost use Rattle.std.specs.Prelude.{◌≡◌, ◌↔◌, ◌≤◌, IfOk, IfSome, IsErr, IsTrue, is_some, false, length, take};
 ghost use Rattle.term_values.specs.Typed.{listed};
-ghost use Rattle.value_match.specs.Matching.{AreHeld, HaveCommon, Matches};
-ghost use Rattle.value_match.specs.MatchingKinds.{beneath_tags, can_match, is_set_of};
-ghost use Rattle.value_match.specs.MatchingKinds.MatchingRule.{Comparison, Intersection};
+ghost use Rattle.term_values.specs.Matching.{AreHeld, HaveCommon, Matches};
+ghost use Rattle.term_values.specs.MatchingKinds.{beneath_tags, can_match, is_set_of};
+ghost use Rattle.term_values.specs.MatchingKinds.MatchingRule.{Comparison, Intersection};
 ghost use Rattle.value_match.specs.MemberKeys.{member_key};
 ghost use Rattle.value_match.specs.MemberPlaces.{IsPlaceOf};
 ghost use Rattle.value_match.specs.RisingMembers.{AllBefore, AreRising, IsReached};

@@ -4,10 +4,10 @@ ghost use Rattle.std.specs.Prelude.{◌≡◌, ◌↔◌, ◌≤◌, IfOk, IsErr
 ghost use Rattle.term_values.specs.Typed.{listed};
 ghost use Rattle.term_values.specs.Typed.TypedValue.{Text, Octets};
 ghost use Rattle.value_match.specs.FirstEnd.{IsFirstEnd, IsFirstEndOf};
-ghost use Rattle.value_match.specs.Matching.{Matches};
-ghost use Rattle.value_match.specs.MatchingKinds.{can_match};
-ghost use Rattle.value_match.specs.MatchingKinds.MatchingRule.{Substrings};
-ghost use Rattle.value_match.specs.MatchingPieces.{StandFrom};
+ghost use Rattle.term_values.specs.Matching.{Matches};
+ghost use Rattle.term_values.specs.MatchingKinds.{can_match};
+ghost use Rattle.term_values.specs.MatchingKinds.MatchingRule.{Substrings};
+ghost use Rattle.term_values.specs.MatchingPieces.{StandFrom};
 
 use crate::kinds::has_pieces;
 use crate::not_matched::NotMatched;

@@ -1,6 +1,6 @@
 use Rattle.std.proofs.Common.{◌≤◌, length, drop}
 use Rattle.term_values.specs.Typed.{listed}
-use Rattle.value_match.specs.Matching.{AreHeld}
+use Rattle.term_values.specs.Matching.{AreHeld}
 use Rattle.value_match.proofs.sets.are_held.Given as goal
 
 abbrev pub invariant-loop-member : goal.invariant-loop-member

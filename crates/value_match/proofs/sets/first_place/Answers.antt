@@ -1,7 +1,7 @@
 use Rattle.std.proofs.Common.{rules, ◌≡◌, ◌+◌, ◌∷◌, drop, sym, ap, ◌∙◌, subst, arith}
 use Rattle.std.proofs.lemmas.List.{drop_more}
 use Rattle.term_values.specs.Typed.{listed}
-use Rattle.value_match.specs.Matching.{Have}
+use Rattle.term_values.specs.Matching.{Have}
 use Rattle.value_match.proofs.MemberLaws.{have_here, have_later}
 use Rattle.value_match.proofs.SameIs.{are_equal, not_equal}
 use Rattle.value_match.proofs.sets.first_place.Goals as goal

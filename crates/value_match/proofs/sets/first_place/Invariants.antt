@@ -1,6 +1,6 @@
 use Rattle.std.proofs.Common.{drop}
 use Rattle.term_values.specs.Typed.{listed}
-use Rattle.value_match.specs.Matching.{Have}
+use Rattle.term_values.specs.Matching.{Have}
 use Rattle.value_match.proofs.sets.first_place.Given as goal
 
 abbrev pub invariant-loop-at : goal.invariant-loop-at

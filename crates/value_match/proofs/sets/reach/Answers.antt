@@ -1,7 +1,7 @@
 use Rattle.std.proofs.Common.{rules, ◌≡◌, ◌+◌, ◌∷◌, [], ◌++◌, drop, take, length, sym, ap, ◌∙◌, subst, arith}
 use Rattle.std.proofs.lemmas.List.{drop_more, take_more, take_all}
 use Rattle.term_values.specs.Typed.{listed}
-use Rattle.value_match.specs.Matching.{Have}
+use Rattle.term_values.specs.Matching.{Have}
 use Rattle.value_match.specs.MemberKeys.{member_key}
 use Rattle.value_match.specs.RisingMembers.{AllBefore}
 use Rattle.value_match.proofs.MemberLaws.{have_here}

@@ -1,6 +1,6 @@
 use Rattle.std.proofs.Common.{drop}
 use Rattle.term_values.specs.Typed.{listed}
-use Rattle.value_match.specs.Matching.{HaveCommon}
+use Rattle.term_values.specs.Matching.{HaveCommon}
 use Rattle.value_match.proofs.sets.share_any.Given as goal
 
 abbrev pub invariant-loop-member : goal.invariant-loop-member

@@ -1,6 +1,6 @@
 use Rattle.std.proofs.Common.{◌≤◌, length, drop}
 use Rattle.term_values.specs.Typed.{listed}
-use Rattle.value_match.specs.Matching.{HaveCommon}
+use Rattle.term_values.specs.Matching.{HaveCommon}
 use Rattle.value_match.specs.MemberKeys.{member_key}
 use Rattle.value_match.specs.RisingMembers.{FrontBefore}
 use Rattle.value_match.proofs.sets.share_rising.Given as goal

@@ -3,7 +3,7 @@ use Rattle.std.proofs.lemmas.Bool.{false≢true}
 use Rattle.std.proofs.lemmas.List.{drop_more}
 use Rattle.term_values.specs.Typed.{listed}
 use Rattle.term_values.specs.Typed.TypedValue.{Octets}
-use Rattle.value_match.specs.MatchingPieces.{StandFrom}
+use Rattle.term_values.specs.MatchingPieces.{StandFrom}
 use Rattle.value_match.proofs.PieceLaws.{taken_on, taken_back, taken_never}
 use Rattle.value_match.proofs.substrings.stand_in_octets.Goals as goal
 

@@ -1,7 +1,7 @@
 use Rattle.std.proofs.Common.{◌≤◌, length, drop}
 use Rattle.term_values.specs.Typed.{listed}
 use Rattle.term_values.specs.Typed.TypedValue.{Octets}
-use Rattle.value_match.specs.MatchingPieces.{StandFrom}
+use Rattle.term_values.specs.MatchingPieces.{StandFrom}
 use Rattle.value_match.proofs.substrings.stand_in_octets.Given as goal
 
 abbrev pub invariant-loop-piece : goal.invariant-loop-piece

@@ -8,10 +8,10 @@ use Rattle.term_values.specs.Typed.{TypedValue}
 use Rattle.term_values.specs.Typed.TypedValue.{Int, Octets, Identifier, Text, Time, Many, Pick}
 use Rattle.term_values.specs.Typed.TypedValues.{Nothing, Then}
 use Rattle.term_values.specs.declared.rules.Rules.{Rules}
-use Rattle.value_match.specs.Matching.{Matches, is_at_most}
-use Rattle.value_match.specs.MatchingKinds.{can_match}
-use Rattle.value_match.specs.MatchingKinds.MatchingRule.{Ordering, Comparison, Intersection}
-use Rattle.value_match.specs.MatchingPieces.{StandAt, StandIn}
+use Rattle.term_values.specs.Matching.{Matches, is_at_most}
+use Rattle.term_values.specs.MatchingKinds.{can_match}
+use Rattle.term_values.specs.MatchingKinds.MatchingRule.{Ordering, Comparison, Intersection}
+use Rattle.term_values.specs.MatchingPieces.{StandAt, StandIn}
 
 -- ORDERING and nothing else
 abbrev ordered : Rules

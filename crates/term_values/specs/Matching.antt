@@ -6,9 +6,9 @@ use Rattle.std.specs.Prelude.{◌≡◌, ◌⊎◌, ℕ, List, Bool, true, false
 use Rattle.term_values.specs.Typed.{TypedValue, TypedValues}
 use Rattle.term_values.specs.Typed.TypedValue.{Int, Octets, Identifier, Text, Time, Many}
 use Rattle.term_values.specs.Typed.TypedValues.{Nothing, Then}
-use Rattle.value_match.specs.MatchingKinds.{MatchingRule}
-use Rattle.value_match.specs.MatchingKinds.MatchingRule.{Equality, Ordering, Substrings, Comparison, Intersection}
-use Rattle.value_match.specs.MatchingPieces.{StandIn}
+use Rattle.term_values.specs.MatchingKinds.{MatchingRule}
+use Rattle.term_values.specs.MatchingKinds.MatchingRule.{Equality, Ordering, Substrings, Comparison, Intersection}
+use Rattle.term_values.specs.MatchingPieces.{StandIn}
 
 -- the numbers are those of the other list, or stand before it: at the first place at which they differ they have the
 -- lesser one, or they end there
