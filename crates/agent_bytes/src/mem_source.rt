@@ -1,5 +1,6 @@
 //! A source in memory, for tests.
-ghost use Rattle.std.specs.Prelude.{◌≡◌, ◌↔◌, ◌<◌, ◌≤◌, [], ◌++◌, Some, IfOk, OnErr, IsErr, Contains, length, take, drop, min};
+ghost use Rattle.std.specs.Prelude.{◌≡◌, ◌↔◌, ◌<◌, ◌≤◌, [], ◌++◌, Some, IfOk, OnErr, IsErr, Contains, length, take};
+ghost use Rattle.std.specs.Prelude.{drop, min};
 ghost use Rattle.agent_bytes.specs.Faults.{Rose, one_more};
 
 use crate::count::counted_up;

@@ -14,7 +14,8 @@ a_place e = let same : get_or (101 ∷ []) 0 0 ≡ 45 = e in omega (arith, same)
 no_place : IsPlace (codes "--help") → ⊥
 no_place place = place refl
 
-the_words : AreRunWords (codes "run" ∷ codes "element.gdmo" ∷ codes "element.gdmo" ∷ []) (codes "element.gdmo") (codes "element.gdmo")
+the_words : AreRunWords (codes "run" ∷ codes "element.gdmo" ∷ codes "element.gdmo" ∷ []) (codes "element.gdmo")
+    (codes "element.gdmo")
 the_words = record { spelt = refl; script_place = a_place; document_place = a_place }
 
 -- the quotation mark of an open string on the second line

@@ -6,7 +6,8 @@ use Rattle.agent_bytes.specs.Told.{GainsPart, gained}
 use Rattle.agent_run.specs.declared.refusal.Unbuilt.{Unbuilt}
 use Rattle.term_model.specs.declared.schema.Set.{Set}
 use Rattle.text_lex.specs.declared.lex_refusal.LexKind.{LexKind}
-use Rattle.agent_run.specs.Refusing.{HasFault, IsNamed, IsOutside, IsTooLarge, OfNamed, bad_document_line, file_line, not_built_line, too_large_line}
+use Rattle.agent_run.specs.Refusing.{HasFault, IsNamed, IsOutside, IsTooLarge, OfNamed, bad_document_line, file_line}
+use Rattle.agent_run.specs.Refusing.{not_built_line, too_large_line}
 use Rattle.agent_run.specs.Running.{AreRunWords, IsDocument, IsRunOf, IsScriptFor, Told, most_document, most_script}
 
 -- These bytes were written; or, where a call of the output failed, a part of them. The counts are those of the output's

@@ -3,7 +3,8 @@ use Rattle.std.specs.Prelude.{◌≡◌, ◌==◌, ◌+◌, ◌≤◌, ℕ, List
 use Rattle.agent_bytes.specs.Faults.{Rose}
 use Rattle.agent_bytes.specs.Told.{IsFile, IsLonger}
 use Rattle.agent_run.specs.declared.refusal.Refusal.{Refusal}
-use Rattle.agent_run.specs.declared.refusal.Refusal.TheVariants.{FileFault, FileTooLarge, BadDocument, NotBuilt, OutOfMemory}
+use Rattle.agent_run.specs.declared.refusal.Refusal.TheVariants.{FileFault, FileTooLarge, BadDocument, NotBuilt}
+use Rattle.agent_run.specs.declared.refusal.Refusal.TheVariants.{OutOfMemory}
 use Rattle.agent_run.specs.declared.refusal.Unbuilt.{Unbuilt}
 use Rattle.agent_run.specs.declared.refusal.Unbuilt.TheVariants.{Command, Document, Script}
 use Rattle.term_model.specs.declared.schema.Set.{Set}

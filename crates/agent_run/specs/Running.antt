@@ -40,11 +40,11 @@ abbrev pub Obeys : Set → List Entry → Type 0
 Obeys schema journal =
     (before after : List Entry) → journal ≡ before ++ after → IsWellFormedMib schema (agent_after schema before).objects
 
--- The text is the journal of the script, a line of two dashes, and what the one-manager agent places on that journal. The
--- association's frames stand in the journal in their order, and no others; each entry may stand where it stands; and every
--- object obeys its templates all along. At the end the association is closed, all that was placed for it was taken, and none of
--- its operations is outstanding. Each entry is one that the program can hold, and the text is that of no other journal of such
--- entries.
+-- The text is the journal of the script, a line of two dashes, and what the one-manager agent places on that journal.
+-- The association's frames stand in the journal in their order, and no others; each entry may stand where it stands;
+-- and every object obeys its templates all along. At the end the association is closed, all that was placed for it was
+-- taken, and none of its operations is outstanding. Each entry is one that the program can hold, and the text is that
+-- of no other journal of such entries.
 pub record IsPlayed (schema : Set) (bind : List ℕ) (sends : List (List ℕ)) (text : List ℕ) : Type 0 where
   pub journal : List Entry
   pub of_script : journal ≡ (played schema shipped (script_lines bind sends)).journal

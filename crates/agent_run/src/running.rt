@@ -1,10 +1,13 @@
 //! The top call: the words of a command line, the files that they name, and what is written.
 
-ghost use Rattle.std.specs.Prelude.{◌≡◌, ◌≢◌, ◌⊎◌, ◌≤◌, ◌∷◌, [], Contains, length, map, string_bytes, IfErr, IfOk, IsSome, OnOk};
+ghost use Rattle.std.specs.Prelude.{◌≡◌, ◌≢◌, ◌⊎◌, ◌≤◌, ◌∷◌, [], Contains, length, map, string_bytes, IfErr, IfOk};
+ghost use Rattle.std.specs.Prelude.{IsSome, OnOk};
 ghost use Rattle.agent_bytes.specs.Faults.{Rose};
 ghost use Rattle.agent_bytes.specs.Told.{GainsPart, IsFile, gained};
-ghost use Rattle.agent_run.specs.Answers.{EndsByBadDocument, EndsByFileFault, EndsByFileTooLarge, EndsByNotBuilt, EndsByWriteFault, IsPut, IsRunnable};
-ghost use Rattle.agent_run.specs.Refusing.{HasCause, HasDocumentCause, HasFileCause, HasRunCause, HasScriptCause, KeepsCount, line_of, line_of_place, memory_line, status_of};
+ghost use Rattle.agent_run.specs.Answers.{EndsByBadDocument, EndsByFileFault, EndsByFileTooLarge, EndsByNotBuilt};
+ghost use Rattle.agent_run.specs.Answers.{EndsByWriteFault, IsPut, IsRunnable};
+ghost use Rattle.agent_run.specs.Refusing.{HasCause, HasDocumentCause, HasFileCause, HasRunCause, HasScriptCause};
+ghost use Rattle.agent_run.specs.Refusing.{KeepsCount, line_of, line_of_place, memory_line, status_of};
 ghost use Rattle.agent_run.specs.Statuses as status;
 ghost use Rattle.agent_run.specs.Running.{IsDocument, IsPlayed, IsRun, IsRunOf, IsScriptFor, Prints};
 ghost use Rattle.term_model.specs.declared.schema.Set.{Set};

@@ -8,7 +8,9 @@ use Rattle.token_grammar.proofs.Heads.{at_wider, or_left, or_right, skips, start
 use Rattle.token_grammar.proofs.Known.{at_one_of}
 use Rattle.asn1_values_syntax.specs.Asn1.{asn1}
 use Rattle.asn1_values_syntax.specs.TypeEnds.{is_plain_end}
-use Rattle.asn1_values_syntax.specs.TypeForms.{any_type, bit_string_type, brace, defined, enumerated_type, integer_type, is_simple_type, object_identifier_type, octet_string_type, point, type_name}
+use Rattle.asn1_values_syntax.specs.TypeForms.{any_type, bit_string_type, brace, defined, enumerated_type, integer_type}
+use Rattle.asn1_values_syntax.specs.TypeForms.{is_simple_type, object_identifier_type, octet_string_type, point}
+use Rattle.asn1_values_syntax.specs.TypeForms.{type_name}
 use Rattle.asn1_values_syntax.proofs.FirstTokens.{firsts, quiet_when}
 use Rattle.asn1_values_syntax.proofs.Quiet.{Quiet}
 

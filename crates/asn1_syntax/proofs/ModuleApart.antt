@@ -9,7 +9,8 @@ use Rattle.token_grammar.proofs.Heads.{at_wider, or_left, or_right, starts}
 use Rattle.token_grammar.proofs.Known.{at_any_word, at_name, at_one_of, at_sign, at_word}
 use Rattle.token_grammar.proofs.Sequences.{Apart, apart_by}
 use Rattle.asn1_values_syntax.specs.Asn1.{asn1, assignment, imports, symbols, tag_default}
-use Rattle.asn1_values_syntax.specs.TypeEnds.{is_assignment_end, is_assignments_end, is_exports_end, is_imports_end, is_type_end}
+use Rattle.asn1_values_syntax.specs.TypeEnds.{is_assignment_end, is_assignments_end, is_exports_end, is_imports_end}
+use Rattle.asn1_values_syntax.specs.TypeEnds.{is_type_end}
 use Rattle.asn1_values_syntax.specs.TypeForms.{brace, is_tag_mode}
 use Rattle.asn1_values_syntax.specs.ValueForms.{colon, comma, values}
 use Rattle.asn1_values_syntax.proofs.Cases.{either_case}

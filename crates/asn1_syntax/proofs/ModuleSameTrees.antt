@@ -6,9 +6,11 @@ use Rattle.token_grammar.specs.PartLaws.{IdentifiersAgree, OneTreeBy, OptionsAgr
 use Rattle.token_grammar.proofs.Values.{identifiers_alike, lists_alike, options_alike}
 use Rattle.asn1_values_syntax.proofs.OneTree.{values_alike}
 use Rattle.asn1_syntax.specs.declared.module.Assigned.TheVariants.{OfType, OfValue}
-use Rattle.asn1_syntax.specs.ModuleTrees.{assigned_tree, assignment_tree, exports_tree, imports_tree, module_tree, symbols_tree, tag_default_tree}
+use Rattle.asn1_syntax.specs.ModuleTrees.{assigned_tree, assignment_tree, exports_tree, imports_tree, module_tree}
+use Rattle.asn1_syntax.specs.ModuleTrees.{symbols_tree, tag_default_tree}
 use Rattle.asn1_syntax.specs.TypeAgreement.{VectorsEqual}
-use Rattle.asn1_syntax.specs.ModuleAgreement.{AssignedAgree, AssignmentsAgree, ExportsAgree, ImportsAgree, ModulesAgree, SymbolsAgree}
+use Rattle.asn1_syntax.specs.ModuleAgreement.{AssignedAgree, AssignmentsAgree, ExportsAgree, ImportsAgree, ModulesAgree}
+use Rattle.asn1_syntax.specs.ModuleAgreement.{SymbolsAgree}
 use Rattle.asn1_syntax.proofs.TypeSameTrees.{types_alike, vectors_equal}
 
 optional_identifiers : OneTreeBy (OptionsAgree IdentifiersAgree) (optional_tree object_identifier_tree)

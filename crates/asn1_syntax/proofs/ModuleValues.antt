@@ -2,12 +2,16 @@
 use Rattle.token_grammar.specs.Form.{Leaf}
 use Rattle.token_grammar.specs.Parts.{object_identifier_tree, vector_tree}
 use Rattle.token_grammar.specs.PartLaws.{IdentifiersAgree, OneValue, OneValueBy}
-use Rattle.token_grammar.proofs.Values.{first_not_second, first_same, leaf_same, lists_agree, numbered_same, one_list, one_object_identifier, one_option, one_token, options_agree, pair_same, second_not_first, second_same}
+use Rattle.token_grammar.proofs.Values.{first_not_second, first_same, leaf_same, lists_agree, numbered_same, one_list}
+use Rattle.token_grammar.proofs.Values.{one_object_identifier, one_option, one_token, options_agree, pair_same}
+use Rattle.token_grammar.proofs.Values.{second_not_first, second_same}
 use Rattle.asn1_values_syntax.proofs.OneValue.{values_agree}
 use Rattle.asn1_syntax.specs.declared.module.Assigned.TheVariants.{OfType, OfValue}
-use Rattle.asn1_syntax.specs.ModuleTrees.{assigned_tree, assignment_tree, exports_tree, imports_tree, module_tree, symbols_tree, tag_default_tree}
+use Rattle.asn1_syntax.specs.ModuleTrees.{assigned_tree, assignment_tree, exports_tree, imports_tree, module_tree}
+use Rattle.asn1_syntax.specs.ModuleTrees.{symbols_tree, tag_default_tree}
 use Rattle.asn1_syntax.specs.TypeAgreement.{VectorsEqual}
-use Rattle.asn1_syntax.specs.ModuleAgreement.{AssignedAgree, AssignmentsAgree, ExportsAgree, ImportsAgree, ModulesAgree, SymbolsAgree}
+use Rattle.asn1_syntax.specs.ModuleAgreement.{AssignedAgree, AssignmentsAgree, ExportsAgree, ImportsAgree, ModulesAgree}
+use Rattle.asn1_syntax.specs.ModuleAgreement.{SymbolsAgree}
 use Rattle.asn1_syntax.proofs.TypeValues.{types_agree}
 
 token_lists : OneValueBy VectorsEqual (vector_tree Leaf)

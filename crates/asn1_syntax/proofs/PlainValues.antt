@@ -2,14 +2,20 @@
 use Rattle.token_grammar.specs.Form.{Leaf}
 use Rattle.token_grammar.specs.Parts.{vector_tree}
 use Rattle.token_grammar.specs.PartLaws.{OneValue, OneValueBy}
-use Rattle.token_grammar.proofs.Values.{first_not_second, first_same, leaf_same, one_list, one_option, one_token, options_agree, pair_same, second_not_first, second_same}
+use Rattle.token_grammar.proofs.Values.{first_not_second, first_same, leaf_same, one_list, one_option, one_token}
+use Rattle.token_grammar.proofs.Values.{options_agree, pair_same, second_not_first, second_same}
 use Rattle.asn1_values_syntax.proofs.OneValue.{one_bound}
 use Rattle.asn1_values_syntax.specs.declared.constraint.Constraint.TheVariants.{Size, Values}
-use Rattle.asn1_syntax.specs.declared.plain_type.PlainType.TheVariants.{Simple, Integer, Enumerated, BitString, OctetString, ObjectIdentifier, Any, Named}
+use Rattle.asn1_syntax.specs.declared.plain_type.PlainType.TheVariants.{Simple, Integer, Enumerated, BitString}
+use Rattle.asn1_syntax.specs.declared.plain_type.PlainType.TheVariants.{OctetString, ObjectIdentifier, Any, Named}
 use Rattle.asn1_values_syntax.specs.ConstraintTrees.{constraint_tree, list_size_tree, range_tree, size_tree, upper_tree}
-use Rattle.asn1_values_syntax.specs.NamedNumberTrees.{named_bit_tree, named_bits_tree, named_integer_tree, named_integers_tree, tag_tree}
-use Rattle.asn1_syntax.specs.PlainTrees.{any_type_tree, behind_tree, bit_string_tree, enumerated_tree, integer_tree, plain_type_tree, type_name_tree, words_tree}
-use Rattle.asn1_syntax.specs.TypeAgreement.{BitStringsAgree, ConstraintsAgree, EnumeratedAgree, IntegersAgree, PlainTypesAgree, VectorsEqual, two_any, two_bit_strings, two_enumerated, two_identifiers, two_integers, two_names, two_octet_strings, two_simple}
+use Rattle.asn1_values_syntax.specs.NamedNumberTrees.{named_bit_tree, named_bits_tree, named_integer_tree}
+use Rattle.asn1_values_syntax.specs.NamedNumberTrees.{named_integers_tree, tag_tree}
+use Rattle.asn1_syntax.specs.PlainTrees.{any_type_tree, behind_tree, bit_string_tree, enumerated_tree, integer_tree}
+use Rattle.asn1_syntax.specs.PlainTrees.{plain_type_tree, type_name_tree, words_tree}
+use Rattle.asn1_syntax.specs.TypeAgreement.{BitStringsAgree, ConstraintsAgree, EnumeratedAgree, IntegersAgree}
+use Rattle.asn1_syntax.specs.TypeAgreement.{PlainTypesAgree, VectorsEqual, two_any, two_bit_strings, two_enumerated}
+use Rattle.asn1_syntax.specs.TypeAgreement.{two_identifiers, two_integers, two_names, two_octet_strings, two_simple}
 
 -- constraints
 one_upper : OneValue upper_tree

@@ -6,14 +6,20 @@ use Rattle.token_grammar.specs.declared.token.Token.{Token}
 use Rattle.token_grammar.specs.Form.{Tree, Bare, Leaf, Pair, First, Second, Present, Empty, After, Numbered}
 use Rattle.token_grammar.specs.Parts.{list_tree, optional_tree, vector_tree}
 use Rattle.asn1_values_syntax.specs.declared.constraint.Constraint.{Constraint}
-use Rattle.asn1_syntax.specs.declared.type_text.TypeText.{Row_of-Alternative, end_of-Alternative, more_of-Alternative, items-the_row-Alternative, items_hidden-the_row-Alternative-1}
+use Rattle.asn1_syntax.specs.declared.type_text.TypeText.{Row_of-Alternative, end_of-Alternative, more_of-Alternative}
+use Rattle.asn1_syntax.specs.declared.type_text.TypeText.{items-the_row-Alternative, items_hidden-the_row-Alternative-1}
 use Rattle.asn1_syntax.specs.declared.type_text.TypeText.TheVariants.{Choice}
-use Rattle.asn1_syntax.specs.declared.type_text.StructureText.{Row_of-Component, end_of-Component, more_of-Component, items-the_row-Component, items_hidden-the_row-Component-0, back-StructureText-Components-0}
-use Rattle.asn1_syntax.specs.declared.type_text.StructureText.TheBlock.{hidden-the_row-Component-0, hidden-the_row-Alternative-1}
+use Rattle.asn1_syntax.specs.declared.type_text.StructureText.{Row_of-Component, end_of-Component, more_of-Component}
+use Rattle.asn1_syntax.specs.declared.type_text.StructureText.{items-the_row-Component}
+use Rattle.asn1_syntax.specs.declared.type_text.StructureText.{items_hidden-the_row-Component-0}
+use Rattle.asn1_syntax.specs.declared.type_text.StructureText.{back-StructureText-Components-0}
+use Rattle.asn1_syntax.specs.declared.type_text.StructureText.TheBlock.{hidden-the_row-Component-0}
+use Rattle.asn1_syntax.specs.declared.type_text.StructureText.TheBlock.{hidden-the_row-Alternative-1}
 use Rattle.asn1_syntax.specs.declared.type_text.StructureText.TheVariants.{Components}
 use Rattle.asn1_syntax.specs.declared.type_text.Component.{Component}
 use Rattle.asn1_syntax.specs.declared.type_text.Alternative.{Alternative}
-use Rattle.asn1_syntax.specs.TypeTrees.{alternative_tree, alternatives_row, component_parts, component_tree, components_held, components_row, constraints_tree, structure_tree, type_tree}
+use Rattle.asn1_syntax.specs.TypeTrees.{alternative_tree, alternatives_row, component_parts, component_tree}
+use Rattle.asn1_syntax.specs.TypeTrees.{components_held, components_row, constraints_tree, structure_tree, type_tree}
 
 components-list : {n : _} (before : Tree) (row : Row_of-Component n) → components_row before row ≡ list_tree
     component_tree before (items-the_row-Component n row)

@@ -12,8 +12,10 @@ use Rattle.token_grammar.proofs.Parts.{separates_by}
 use Rattle.token_grammar.proofs.Sequences.{Apart, apart_by}
 use Rattle.token_grammar.proofs.Turns.{Separates}
 use Rattle.asn1_values_syntax.specs.Asn1.{asn1}
-use Rattle.asn1_values_syntax.specs.TypeEnds.{is_alternatives_end, is_component_end, is_component_list_end, is_components_end, is_plain_end, is_presence_start, is_type_end}
-use Rattle.asn1_values_syntax.specs.TypeForms.{brace, constraints, defined, is_structure, is_tag_mode, parenthesis, point, presence}
+use Rattle.asn1_values_syntax.specs.TypeEnds.{is_alternatives_end, is_component_end, is_component_list_end}
+use Rattle.asn1_values_syntax.specs.TypeEnds.{is_components_end, is_plain_end, is_presence_start, is_type_end}
+use Rattle.asn1_values_syntax.specs.TypeForms.{brace, constraints, defined, is_structure, is_tag_mode, parenthesis}
+use Rattle.asn1_values_syntax.specs.TypeForms.{point, presence}
 use Rattle.asn1_values_syntax.specs.ValueForms.{colon, comma, types}
 use Rattle.asn1_values_syntax.proofs.Cases.{either_case}
 use Rattle.asn1_values_syntax.proofs.FirstTokens.{firsts, firsts_lead, meets_when, quiet_when}

@@ -8,16 +8,27 @@ use Rattle.asn1_values_syntax.proofs.OneTree.{values_alike}
 use Rattle.asn1_values_syntax.specs.declared.constraint.Constraint.TheVariants.{Size, Values}
 use Rattle.asn1_syntax.specs.declared.plain_type.PlainType.{PlainType}
 use Rattle.asn1_syntax.specs.declared.presence.Presence.TheVariants.{Optional, Default}
-use Rattle.asn1_syntax.specs.declared.type_text.TypeText.{TypeText, Row_of-Alternative, end_of-Alternative, more_of-Alternative}
+use Rattle.asn1_syntax.specs.declared.type_text.TypeText.{TypeText, Row_of-Alternative, end_of-Alternative}
+use Rattle.asn1_syntax.specs.declared.type_text.TypeText.{more_of-Alternative}
 use Rattle.asn1_syntax.specs.declared.type_text.TypeText.TheVariants.{Tagged', Structured, Choice', Plain}
-use Rattle.asn1_syntax.specs.declared.type_text.StructureText.{StructureText, Row_of-Component, end_of-Component, more_of-Component, Held-StructureText-Components-0, None', Some'}
+use Rattle.asn1_syntax.specs.declared.type_text.StructureText.{StructureText, Row_of-Component, end_of-Component}
+use Rattle.asn1_syntax.specs.declared.type_text.StructureText.{more_of-Component, Held-StructureText-Components-0}
+use Rattle.asn1_syntax.specs.declared.type_text.StructureText.{None', Some'}
 use Rattle.asn1_syntax.specs.declared.type_text.StructureText.TheVariants.{Components', ListOf'}
 use Rattle.asn1_values_syntax.specs.ConstraintTrees.{constraint_tree, list_size_tree, range_tree, size_tree}
-use Rattle.asn1_values_syntax.specs.NamedNumberTrees.{named_bit_tree, named_bits_tree, named_integer_tree, named_integers_tree, tag_tree}
-use Rattle.asn1_syntax.specs.PlainTrees.{any_type_tree, bit_string_tree, enumerated_tree, integer_tree, plain_type_tree, type_name_tree, words_tree}
+use Rattle.asn1_values_syntax.specs.NamedNumberTrees.{named_bit_tree, named_bits_tree, named_integer_tree}
+use Rattle.asn1_values_syntax.specs.NamedNumberTrees.{named_integers_tree, tag_tree}
+use Rattle.asn1_syntax.specs.PlainTrees.{any_type_tree, bit_string_tree, enumerated_tree, integer_tree, plain_type_tree}
+use Rattle.asn1_syntax.specs.PlainTrees.{type_name_tree, words_tree}
 use Rattle.asn1_syntax.specs.PresenceTree.{boxed_presence_tree, presence_tree}
-use Rattle.asn1_syntax.specs.TypeTrees.{alternative_tree, alternatives_row, component_parts, component_tree, components_held, components_row, constraints_tree, structure_tree, type_tree}
-use Rattle.asn1_syntax.specs.TypeAgreement.{AlternativeRowsAgree, AlternativesAgree, BitStringsAgree, BoxedPresencesAgree, ComponentRowsAgree, ComponentsAgree, ConstraintsAgree, EnumeratedAgree, HeldAgree, IntegersAgree, PlainTypesAgree, PresencesAgree, StructuresAgree, TypesAgree, VectorsAgree, VectorsEqual, two_any, two_bit_strings, two_enumerated, two_identifiers, two_integers, two_names, two_octet_strings, two_simple}
+use Rattle.asn1_syntax.specs.TypeTrees.{alternative_tree, alternatives_row, component_parts, component_tree}
+use Rattle.asn1_syntax.specs.TypeTrees.{components_held, components_row, constraints_tree, structure_tree, type_tree}
+use Rattle.asn1_syntax.specs.TypeAgreement.{AlternativeRowsAgree, AlternativesAgree, BitStringsAgree}
+use Rattle.asn1_syntax.specs.TypeAgreement.{BoxedPresencesAgree, ComponentRowsAgree, ComponentsAgree, ConstraintsAgree}
+use Rattle.asn1_syntax.specs.TypeAgreement.{EnumeratedAgree, HeldAgree, IntegersAgree, PlainTypesAgree, PresencesAgree}
+use Rattle.asn1_syntax.specs.TypeAgreement.{StructuresAgree, TypesAgree, VectorsAgree, VectorsEqual, two_any}
+use Rattle.asn1_syntax.specs.TypeAgreement.{two_bit_strings, two_enumerated, two_identifiers, two_integers, two_names}
+use Rattle.asn1_syntax.specs.TypeAgreement.{two_octet_strings, two_simple}
 
 -- a vector of equal parts
 pub vectors_equal : {X : Type 0} (view : X → Tree) → OneTreeBy VectorsEqual (vector_tree view)

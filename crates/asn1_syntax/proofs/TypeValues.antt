@@ -3,17 +3,25 @@ use Rattle.std.proofs.Common.{◌≡◌, ℕ, ◌+◌, suc, ◌∙◌, ap, arith
 use Rattle.token_grammar.specs.Form.{Tree, Leaf, Pair, Empty, After}
 use Rattle.token_grammar.specs.Parts.{optional_tree}
 use Rattle.token_grammar.specs.PartLaws.{OneValueBy, OptionsAgree}
-use Rattle.token_grammar.proofs.Values.{absent_not_present, after_same, first_not_second, first_same, leaf_same, lists_agree, numbered_same, one_option, one_token, options_agree, pair_same, parts_of, present_not_absent, present_same, second_not_first, second_same}
+use Rattle.token_grammar.proofs.Values.{absent_not_present, after_same, first_not_second, first_same, leaf_same}
+use Rattle.token_grammar.proofs.Values.{lists_agree, numbered_same, one_option, one_token, options_agree, pair_same}
+use Rattle.token_grammar.proofs.Values.{parts_of, present_not_absent, present_same, second_not_first, second_same}
 use Rattle.asn1_values_syntax.proofs.OneValue.{values_agree}
 use Rattle.asn1_syntax.specs.declared.presence.Presence.TheVariants.{Optional, Default}
-use Rattle.asn1_syntax.specs.declared.type_text.TypeText.{TypeText, Row_of-Alternative, end_of-Alternative, more_of-Alternative}
+use Rattle.asn1_syntax.specs.declared.type_text.TypeText.{TypeText, Row_of-Alternative, end_of-Alternative}
+use Rattle.asn1_syntax.specs.declared.type_text.TypeText.{more_of-Alternative}
 use Rattle.asn1_syntax.specs.declared.type_text.TypeText.TheVariants.{Tagged', Structured, Choice', Plain}
-use Rattle.asn1_syntax.specs.declared.type_text.StructureText.{StructureText, Row_of-Component, end_of-Component, more_of-Component, Held-StructureText-Components-0, None', Some'}
+use Rattle.asn1_syntax.specs.declared.type_text.StructureText.{StructureText, Row_of-Component, end_of-Component}
+use Rattle.asn1_syntax.specs.declared.type_text.StructureText.{more_of-Component, Held-StructureText-Components-0}
+use Rattle.asn1_syntax.specs.declared.type_text.StructureText.{None', Some'}
 use Rattle.asn1_syntax.specs.declared.type_text.StructureText.TheVariants.{Components', ListOf'}
 use Rattle.asn1_values_syntax.specs.ConstraintTrees.{constraint_tree, list_size_tree}
 use Rattle.asn1_syntax.specs.PresenceTree.{boxed_presence_tree, presence_tree}
-use Rattle.asn1_syntax.specs.TypeTrees.{alternative_tree, alternatives_row, component_parts, component_tree, components_held, components_row, constraints_tree, structure_tree, type_tree}
-use Rattle.asn1_syntax.specs.TypeAgreement.{AlternativeRowsAgree, AlternativesAgree, BoxedPresencesAgree, ComponentRowsAgree, ComponentsAgree, ConstraintsAgree, HeldAgree, PresencesAgree, StructuresAgree, TypesAgree, VectorsAgree, VectorsEqual}
+use Rattle.asn1_syntax.specs.TypeTrees.{alternative_tree, alternatives_row, component_parts, component_tree}
+use Rattle.asn1_syntax.specs.TypeTrees.{components_held, components_row, constraints_tree, structure_tree, type_tree}
+use Rattle.asn1_syntax.specs.TypeAgreement.{AlternativeRowsAgree, AlternativesAgree, BoxedPresencesAgree}
+use Rattle.asn1_syntax.specs.TypeAgreement.{ComponentRowsAgree, ComponentsAgree, ConstraintsAgree, HeldAgree}
+use Rattle.asn1_syntax.specs.TypeAgreement.{PresencesAgree, StructuresAgree, TypesAgree, VectorsAgree, VectorsEqual}
 use Rattle.asn1_syntax.proofs.PlainValues.{constraints_agree, list_sizes_agree, one_tag, plain_types_agree}
 
 pub presences_agree : OneValueBy PresencesAgree presence_tree

@@ -9,7 +9,8 @@ use Rattle.asn1_syntax.specs.declared.plain_type.BitStringType.{BitStringType}
 use Rattle.asn1_syntax.specs.declared.plain_type.AnyType.{AnyType}
 use Rattle.asn1_syntax.specs.declared.plain_type.TypeName.{TypeName}
 use Rattle.asn1_syntax.specs.declared.plain_type.PlainType.{PlainType}
-use Rattle.asn1_syntax.specs.declared.plain_type.PlainType.TheVariants.{Simple, Integer, Enumerated, BitString, OctetString, ObjectIdentifier, Any, Named}
+use Rattle.asn1_syntax.specs.declared.plain_type.PlainType.TheVariants.{Simple, Integer, Enumerated, BitString}
+use Rattle.asn1_syntax.specs.declared.plain_type.PlainType.TheVariants.{OctetString, ObjectIdentifier, Any, Named}
 
 abbrev pub integer_tree : IntegerType → Tree
 integer_tree x = Pair (Leaf x.word) (optional_tree named_integers_tree x.numbers)

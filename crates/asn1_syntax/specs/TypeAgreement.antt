@@ -15,12 +15,16 @@ use Rattle.asn1_syntax.specs.declared.plain_type.BitStringType.{BitStringType}
 use Rattle.asn1_syntax.specs.declared.plain_type.AnyType.{AnyType}
 use Rattle.asn1_syntax.specs.declared.plain_type.TypeName.{TypeName}
 use Rattle.asn1_syntax.specs.declared.plain_type.PlainType.{PlainType}
-use Rattle.asn1_syntax.specs.declared.plain_type.PlainType.TheVariants.{Simple, Integer, Enumerated, BitString, OctetString, ObjectIdentifier, Any, Named}
+use Rattle.asn1_syntax.specs.declared.plain_type.PlainType.TheVariants.{Simple, Integer, Enumerated, BitString}
+use Rattle.asn1_syntax.specs.declared.plain_type.PlainType.TheVariants.{OctetString, ObjectIdentifier, Any, Named}
 use Rattle.asn1_syntax.specs.declared.presence.Presence.{Presence}
 use Rattle.asn1_syntax.specs.declared.presence.Presence.TheVariants.{Optional, Default}
-use Rattle.asn1_syntax.specs.declared.type_text.TypeText.{TypeText, Row_of-Alternative, end_of-Alternative, more_of-Alternative}
+use Rattle.asn1_syntax.specs.declared.type_text.TypeText.{TypeText, Row_of-Alternative, end_of-Alternative}
+use Rattle.asn1_syntax.specs.declared.type_text.TypeText.{more_of-Alternative}
 use Rattle.asn1_syntax.specs.declared.type_text.TypeText.TheVariants.{Tagged', Structured, Choice', Plain}
-use Rattle.asn1_syntax.specs.declared.type_text.StructureText.{StructureText, Row_of-Component, end_of-Component, more_of-Component, Held-StructureText-Components-0, None', Some'}
+use Rattle.asn1_syntax.specs.declared.type_text.StructureText.{StructureText, Row_of-Component, end_of-Component}
+use Rattle.asn1_syntax.specs.declared.type_text.StructureText.{more_of-Component, Held-StructureText-Components-0}
+use Rattle.asn1_syntax.specs.declared.type_text.StructureText.{None', Some'}
 use Rattle.asn1_syntax.specs.declared.type_text.StructureText.TheVariants.{Components', ListOf'}
 use Rattle.asn1_syntax.specs.declared.type_text.Component.{Component}
 use Rattle.asn1_syntax.specs.declared.type_text.Alternative.{Alternative}

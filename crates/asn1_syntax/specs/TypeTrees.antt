@@ -8,9 +8,12 @@ use Rattle.token_grammar.specs.Form.{Tree, Bare, Leaf, Pair, First, Second, Abse
 use Rattle.token_grammar.specs.Parts.{optional_tree, vector_tree}
 use Rattle.asn1_values_syntax.specs.declared.constraint.Constraint.{Constraint}
 use Rattle.asn1_syntax.specs.declared.presence.Presence.{Presence}
-use Rattle.asn1_syntax.specs.declared.type_text.TypeText.{TypeText, Row_of-Alternative, end_of-Alternative, more_of-Alternative}
+use Rattle.asn1_syntax.specs.declared.type_text.TypeText.{TypeText, Row_of-Alternative, end_of-Alternative}
+use Rattle.asn1_syntax.specs.declared.type_text.TypeText.{more_of-Alternative}
 use Rattle.asn1_syntax.specs.declared.type_text.TypeText.TheVariants.{Tagged', Structured, Choice', Plain}
-use Rattle.asn1_syntax.specs.declared.type_text.StructureText.{StructureText, Row_of-Component, end_of-Component, more_of-Component, Held-StructureText-Components-0, None', Some'}
+use Rattle.asn1_syntax.specs.declared.type_text.StructureText.{StructureText, Row_of-Component, end_of-Component}
+use Rattle.asn1_syntax.specs.declared.type_text.StructureText.{more_of-Component, Held-StructureText-Components-0}
+use Rattle.asn1_syntax.specs.declared.type_text.StructureText.{None', Some'}
 use Rattle.asn1_syntax.specs.declared.type_text.StructureText.TheVariants.{Components', ListOf'}
 use Rattle.asn1_syntax.specs.declared.type_text.Component.{Component}
 use Rattle.asn1_syntax.specs.declared.type_text.Alternative.{Alternative}

@@ -1,17 +1,23 @@
 //! Modules: the head, what they export and import, and their assignments (X.680, sections 13 to 16).
 
 ghost use Rattle.std.specs.Prelude.{◌≡◌, [], ◌∷◌, codes, false, slice_get, true};
-ghost use Rattle.token_grammar.specs.Form.{Form, Bare, Empty, Keep, Leaf, Listed, Many, Marks, Maybe, Named, Or, Pair, Then};
+ghost use Rattle.token_grammar.specs.Form.{Form, Bare, Empty, Keep, Leaf, Listed, Many, Marks, Maybe, Named, Or, Pair};
+ghost use Rattle.token_grammar.specs.Form.{Then};
 ghost use Rattle.token_grammar.specs.Outcome.{Reads, Skips, closed};
-ghost use Rattle.token_grammar.specs.Parts.{object_identifier, object_identifier_tree, optional_tree, sign, vector_tree, words};
+ghost use Rattle.token_grammar.specs.Parts.{object_identifier, object_identifier_tree, optional_tree, sign};
+ghost use Rattle.token_grammar.specs.Parts.{vector_tree, words};
 ghost use Rattle.token_grammar.specs.Spelling.{passes};
 ghost use Rattle.token_grammar.specs.TokenTests.{is_name, is_sign_of, is_word, is_word_of};
-ghost use Rattle.asn1_values_syntax.specs.Asn1.{asn1, assignment, exports, imports, module_head, symbols, tag_default, type_assignment, value_assignment};
-ghost use Rattle.asn1_values_syntax.specs.TypeEnds.{is_assignment_end, is_assignments_end, is_exports_end, is_imports_end};
+ghost use Rattle.asn1_values_syntax.specs.Asn1.{asn1, assignment, exports, imports, module_head, symbols, tag_default};
+ghost use Rattle.asn1_values_syntax.specs.Asn1.{type_assignment, value_assignment};
+ghost use Rattle.asn1_values_syntax.specs.TypeEnds.{is_assignment_end, is_assignments_end, is_exports_end};
+ghost use Rattle.asn1_values_syntax.specs.TypeEnds.{is_imports_end};
 ghost use Rattle.asn1_values_syntax.specs.TypeForms.{brace, is_tag_mode};
 ghost use Rattle.asn1_values_syntax.specs.ValueForms.{colon, comma, modules, values};
 ghost use Rattle.asn1_values_syntax.specs.ValueTrees.{value_tree};
-ghost use Rattle.asn1_syntax.specs.ModuleTrees.{assigned_tree, assignment_tree, body_tree, definitions_tree, exports_tree, head_tree, imports_tree, module_tree, symbols_tree, tag_default_tree};
+ghost use Rattle.asn1_syntax.specs.ModuleTrees.{assigned_tree, assignment_tree, body_tree, definitions_tree};
+ghost use Rattle.asn1_syntax.specs.ModuleTrees.{exports_tree, head_tree, imports_tree, module_tree, symbols_tree};
+ghost use Rattle.asn1_syntax.specs.ModuleTrees.{tag_default_tree};
 
 use super::type_text::{TypeText, read_type};
 use asn1_values_syntax::value::{ValueText, read_value};

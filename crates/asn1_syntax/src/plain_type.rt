@@ -9,8 +9,11 @@ ghost use Rattle.token_grammar.specs.Spelling.{passes};
 ghost use Rattle.token_grammar.specs.TokenTests.{is_name};
 ghost use Rattle.asn1_values_syntax.specs.Asn1.{asn1};
 ghost use Rattle.asn1_values_syntax.specs.TypeEnds.{is_plain_end};
-ghost use Rattle.asn1_values_syntax.specs.TypeForms.{any_type, bit_string_type, brace, defined, enumerated_type, integer_type, is_simple_type, object_identifier_type, octet_string_type, plain_type, point, type_name};
-ghost use Rattle.asn1_syntax.specs.PlainTrees.{any_type_tree, behind_tree, bit_string_tree, enumerated_tree, integer_tree, plain_type_tree, type_name_tree, words_tree};
+ghost use Rattle.asn1_values_syntax.specs.TypeForms.{any_type, bit_string_type, brace, defined, enumerated_type};
+ghost use Rattle.asn1_values_syntax.specs.TypeForms.{integer_type, is_simple_type, object_identifier_type};
+ghost use Rattle.asn1_values_syntax.specs.TypeForms.{octet_string_type, plain_type, point, type_name};
+ghost use Rattle.asn1_syntax.specs.PlainTrees.{any_type_tree, behind_tree, bit_string_tree, enumerated_tree};
+ghost use Rattle.asn1_syntax.specs.PlainTrees.{integer_tree, plain_type_tree, type_name_tree, words_tree};
 
 use asn1_values_syntax::named_number::{
     NamedBit, NamedInteger, read_named_integers, read_optional_bits, read_optional_integers,

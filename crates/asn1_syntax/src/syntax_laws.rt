@@ -8,7 +8,8 @@ ghost use Rattle.asn1_syntax.specs.PlainTrees.{plain_type_tree};
 ghost use Rattle.asn1_syntax.specs.PresenceTree.{presence_tree};
 ghost use Rattle.asn1_syntax.specs.TypeTrees.{alternative_tree, component_tree, type_tree};
 ghost use Rattle.asn1_syntax.specs.ModuleAgreement.{AssignmentsAgree, ModulesAgree};
-ghost use Rattle.asn1_syntax.specs.TypeAgreement.{AlternativesAgree, ComponentsAgree, ConstraintsAgree, PlainTypesAgree, PresencesAgree, TypesAgree};
+ghost use Rattle.asn1_syntax.specs.TypeAgreement.{AlternativesAgree, ComponentsAgree, ConstraintsAgree};
+ghost use Rattle.asn1_syntax.specs.TypeAgreement.{PlainTypesAgree, PresencesAgree, TypesAgree};
 
 /// No two types have one tree, nor have two modules: those of one tree agree in all but the memory of their lists
 /// and boxes. Does nothing.

@@ -13,8 +13,10 @@ use Rattle.token_grammar.proofs.Known.{at_sign, token_of}
 use Rattle.token_grammar.proofs.Parts.{at_both}
 use Rattle.token_grammar.proofs.Places.{spells_begins}
 use Rattle.asn1_values_syntax.specs.Asn1.{asn1}
-use Rattle.asn1_values_syntax.specs.ValueForms.{arcs_end, braces, braces_content, is_literal, named_value, parts_end, signed_number, sure_arcs, value_form}
-use Rattle.asn1_values_syntax.specs.Readings.{BracesBeginEither, IdentifiersBeginValues, PartsBeginValues, parts_in_braces}
+use Rattle.asn1_values_syntax.specs.ValueForms.{arcs_end, braces, braces_content, is_literal, named_value, parts_end}
+use Rattle.asn1_values_syntax.specs.ValueForms.{signed_number, sure_arcs, value_form}
+use Rattle.asn1_values_syntax.specs.Readings.{BracesBeginEither, IdentifiersBeginValues, PartsBeginValues}
+use Rattle.asn1_values_syntax.specs.Readings.{parts_in_braces}
 use Rattle.asn1_values_syntax.proofs.Blind.{repeated, repeated_begins}
 use Rattle.asn1_values_syntax.proofs.FirstTokens.{firsts, firsts_lead}
 use Rattle.asn1_values_syntax.proofs.ReadingLaws.{of_name, of_number}

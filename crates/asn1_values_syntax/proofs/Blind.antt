@@ -1,7 +1,9 @@
 -- Forms none of whose tests tells one name from another: texts that differ in names alone have the same readings.
-use Rattle.std.proofs.Common.{◌≡◌, ℕ, ◌+◌, Bool, true, List, [], ◌∷◌, Option, None, Some, inl, inr, sym, ◌∙◌, ap, slice_get}
+use Rattle.std.proofs.Common.{◌≡◌, ℕ, ◌+◌, Bool, true, List, [], ◌∷◌, Option, None, Some, inl, inr, sym, ◌∙◌, ap}
+use Rattle.std.proofs.Common.{slice_get}
 use Rattle.token_grammar.specs.declared.token.Token.{Token}
-use Rattle.token_grammar.specs.Form.{Form, Tree, Marks, Keep, Then, Or, Maybe, Listed, Many, AnyOrder, Named, Bare, Leaf, Pair, First, Second, Absent, Present, After, Numbered}
+use Rattle.token_grammar.specs.Form.{Form, Tree, Marks, Keep, Then, Or, Maybe, Listed, Many, AnyOrder, Named, Bare}
+use Rattle.token_grammar.specs.Form.{Leaf, Pair, First, Second, Absent, Present, After, Numbered}
 use Rattle.token_grammar.specs.Spelling as S
 use Rattle.token_grammar.specs.Spelling.{At, passes, Spells}
 use Rattle.token_grammar.specs.Beginning as B

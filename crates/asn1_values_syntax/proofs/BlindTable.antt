@@ -7,8 +7,12 @@ use Rattle.token_grammar.proofs.Heads.{or_right}
 use Rattle.token_grammar.proofs.Known.{EachComputes, at_name, at_one_of, at_word, token_of}
 use Rattle.asn1_values_syntax.specs.Asn1.{asn1, assignment, exports, imports, module_form, module_head, symbols}
 use Rattle.asn1_values_syntax.specs.Keywords.{DecidedByKeywords}
-use Rattle.asn1_values_syntax.specs.TypeForms.{any_type, bit_string_type, choice_type, components, constraints, is_simple_type, is_tag_mode, list_of, named_bits, named_integers, plain_type, presence, ranges, size, structured_type, tag, type_form, type_name}
-use Rattle.asn1_values_syntax.specs.ValueForms.{arcs_end, bound, braces, is_literal, named_value, parts_end, signed_number, value_form}
+use Rattle.asn1_values_syntax.specs.TypeForms.{any_type, bit_string_type, choice_type, components, constraints}
+use Rattle.asn1_values_syntax.specs.TypeForms.{is_simple_type, is_tag_mode, list_of, named_bits, named_integers}
+use Rattle.asn1_values_syntax.specs.TypeForms.{plain_type, presence, ranges, size, structured_type, tag, type_form}
+use Rattle.asn1_values_syntax.specs.TypeForms.{type_name}
+use Rattle.asn1_values_syntax.specs.ValueForms.{arcs_end, bound, braces, is_literal, named_value, parts_end}
+use Rattle.asn1_values_syntax.specs.ValueForms.{signed_number, value_form}
 use Rattle.asn1_values_syntax.proofs.Blind.{Blind, FormBlind, begins_alike, spells_alike}
 use Rattle.asn1_values_syntax.proofs.Values.{flip, name_no_literal}
 

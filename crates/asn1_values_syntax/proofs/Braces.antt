@@ -1,6 +1,7 @@
 -- Laws on braces: an object identifier is told from a list of parts by what stands behind the brace, and where
 -- one of them is read the other one goes no further.
-use Rattle.std.proofs.Common.{◌≡◌, ℕ, ◌+◌, ◌≤◌, Bool, true, false, ◌&&◌, ◌||◌, List, Option, None, Some, ◌⊎◌, inl, inr, refl, arith, slice_get, codes}
+use Rattle.std.proofs.Common.{◌≡◌, ℕ, ◌+◌, ◌≤◌, Bool, true, false, ◌&&◌, ◌||◌, List, Option, None, Some, ◌⊎◌, inl, inr}
+use Rattle.std.proofs.Common.{refl, arith, slice_get, codes}
 use Rattle.token_grammar.specs.declared.token.Token.{Token}
 use Rattle.token_grammar.specs.Form.{Tree, Keep, Then, Named}
 use Rattle.token_grammar.specs.Spelling.{passes}
@@ -10,7 +11,8 @@ use Rattle.token_grammar.specs.Outcome.{closed, Stops, IsFault, IsSpelt}
 use Rattle.token_grammar.specs.TokenTests.{is_arc_start, is_name, is_number, is_sign_of}
 use Rattle.token_grammar.specs.Parts.{sign}
 use Rattle.token_grammar.proofs.Known.{at_name, at_number, at_sign, first_so, second_so, token_of}
-use Rattle.token_grammar.proofs.Sequences.{Apart, apart_by, apart_closed, passes_false, spelt_then, spelt_first, spelt_second, spelt_wider, stops_later, fault_rest}
+use Rattle.token_grammar.proofs.Sequences.{Apart, apart_by, apart_closed, passes_false, spelt_then, spelt_first}
+use Rattle.token_grammar.proofs.Sequences.{spelt_second, spelt_wider, stops_later, fault_rest}
 use Rattle.token_grammar.proofs.Tokens.{marks_fault}
 use Rattle.token_grammar.proofs.Turns.{Separates, list_ends}
 use Rattle.token_grammar.proofs.Parts.{separates_by}
@@ -18,7 +20,8 @@ use Rattle.token_grammar.proofs.References.{fault_here}
 use Rattle.token_grammar.proofs.Heads.{starts}
 use Rattle.asn1_values_syntax.specs.Asn1.{asn1}
 use Rattle.asn1_values_syntax.specs.Lookahead.{is_name_before_parenthesis, is_number_before_arc, starts_arcs}
-use Rattle.asn1_values_syntax.specs.ValueForms.{values, arcs_end, colon, comma, is_literal, is_part_end, is_parts_end, is_value_start, minus, part, parts_end}
+use Rattle.asn1_values_syntax.specs.ValueForms.{values, arcs_end, colon, comma, is_literal, is_part_end, is_parts_end}
+use Rattle.asn1_values_syntax.specs.ValueForms.{is_value_start, minus, part, parts_end}
 use Rattle.asn1_values_syntax.proofs.FirstTokens.{firsts, firsts_lead, quiet_number, quiet_sign}
 use Rattle.asn1_values_syntax.proofs.Cases.{either_case, literal_case, one_of_both, value_case}
 use Rattle.asn1_values_syntax.proofs.Values.{name_there, name_value, name_value_stops, no_named_part, number_value}

@@ -1,5 +1,6 @@
 -- Laws on what stands behind a brace: one of four, told by the first tokens.
-use Rattle.std.proofs.Common.{◌≡◌, ℕ, ◌+◌, ◌≤◌, Bool, true, false, ◌||◌, List, Option, None, Some, ◌⊎◌, inl, inr, refl, arith, slice_get, codes}
+use Rattle.std.proofs.Common.{◌≡◌, ℕ, ◌+◌, ◌≤◌, Bool, true, false, ◌||◌, List, Option, None, Some, ◌⊎◌, inl, inr, refl}
+use Rattle.std.proofs.Common.{arith, slice_get, codes}
 use Rattle.token_grammar.specs.declared.token.Token.{Token}
 use Rattle.token_grammar.specs.declared.syntax_refusal.SyntaxRefusal.{SyntaxRefusal}
 use Rattle.token_grammar.specs.Form.{Tree, Keep, Then, Or, Many, Named, First, Second, Empty}
@@ -10,17 +11,20 @@ use Rattle.token_grammar.specs.Beginning.{Begins}
 use Rattle.token_grammar.specs.Outcome.{closed, Stops, IsFault, IsSpelt, Fails}
 use Rattle.token_grammar.specs.TokenTests.{is_arc_start, is_name, is_number, is_sign_of}
 use Rattle.token_grammar.specs.Parts.{arc, named_number, sign}
-use Rattle.token_grammar.proofs.Sequences.{apart_closed, spelt_first, spelt_second, stops_or, stops_later, fault_front, fault_rest, fault_first, fault_second, fails_by, spelt_order}
+use Rattle.token_grammar.proofs.Sequences.{apart_closed, spelt_first, spelt_second, stops_or, stops_later, fault_front}
+use Rattle.token_grammar.proofs.Sequences.{fault_rest, fault_first, fault_second, fails_by, spelt_order}
 use Rattle.token_grammar.proofs.Tokens.{keep_spelt, marks_fault}
 use Rattle.token_grammar.proofs.Parts.{arcs_apart, token_there}
 use Rattle.token_grammar.proofs.References.{fault_here}
 use Rattle.asn1_values_syntax.specs.Asn1.{asn1}
-use Rattle.asn1_values_syntax.specs.Lookahead.{is_name_before_parenthesis, is_number_before_arc, starts_arcs, starts_named_arcs}
+use Rattle.asn1_values_syntax.specs.Lookahead.{is_name_before_parenthesis, is_number_before_arc, starts_arcs}
+use Rattle.asn1_values_syntax.specs.Lookahead.{starts_named_arcs}
 use Rattle.asn1_values_syntax.specs.ValueForms.{values, arcs_end, braces_content, parts_end}
 use Rattle.asn1_values_syntax.proofs.FirstTokens.{quiet_name, quiet_number, quiet_unless}
 use Rattle.asn1_values_syntax.proofs.Cases.{decide, neither_first, neither_second, not_both}
 use Rattle.asn1_values_syntax.proofs.Values.{name_there}
-use Rattle.asn1_values_syntax.proofs.Braces.{arcs_begin, named_arcs_begin, no_named_arcs, parts_before_arcs, parts_before_named_arcs}
+use Rattle.asn1_values_syntax.proofs.Braces.{arcs_begin, named_arcs_begin, no_named_arcs, parts_before_arcs}
+use Rattle.asn1_values_syntax.proofs.Braces.{parts_before_named_arcs}
 
 -- neither a number nor a name
 no_arc : (token : Option Token) → passes is_number token ≡ false → passes is_name token ≡ false → passes is_arc_start

@@ -8,13 +8,15 @@ use Rattle.asn1_values_syntax.specs.declared.value.ValueText.{ValueText}
 use Rattle.asn1_values_syntax.specs.declared.value.ValueText.TheVariants.{Literal, Number, Named as VNamed, Braces}
 use Rattle.asn1_values_syntax.specs.declared.value.NamedValue.{NamedValue}
 use Rattle.asn1_values_syntax.specs.declared.value.NamedValue.TheVariants.{Name, Choice'}
-use Rattle.asn1_values_syntax.specs.declared.value.BracesText.{BracesText, Row_of-ValuePart, end_of-ValuePart, more_of-ValuePart}
+use Rattle.asn1_values_syntax.specs.declared.value.BracesText.{BracesText, Row_of-ValuePart, end_of-ValuePart}
+use Rattle.asn1_values_syntax.specs.declared.value.BracesText.{more_of-ValuePart}
 use Rattle.asn1_values_syntax.specs.declared.value.BracesText.TheVariants.{Nothing, Parts', Arcs, NamedArcs}
 use Rattle.asn1_values_syntax.specs.declared.value.ValuePart.{ValuePart}
 use Rattle.asn1_values_syntax.specs.declared.value.ValuePart.TheVariants.{Named as PNamed, Unnamed}
 use Rattle.asn1_values_syntax.specs.NumberTrees.{arcs_end_tree, named_arc_tree, signed_number_tree}
 use Rattle.asn1_values_syntax.specs.ValueTrees.{content_tree, named_value_tree, part_tree, row_tree, value_tree}
-use Rattle.asn1_values_syntax.specs.Agreement.{ArcsAgree, ContentsAgree, NamedValuesAgree, PartsAgree, RowsAgree, ValuesAgree}
+use Rattle.asn1_values_syntax.specs.Agreement.{ArcsAgree, ContentsAgree, NamedValuesAgree, PartsAgree, RowsAgree}
+use Rattle.asn1_values_syntax.specs.Agreement.{ValuesAgree}
 
 arcs_alike : OneTreeBy ArcsAgree arcs_end_tree
 arcs_alike (ANumber first second others) (ANumber first' second' others') a =

@@ -3,20 +3,24 @@ use Rattle.std.proofs.Common.{◌≡◌, ℕ, ◌+◌, suc, ◌∙◌, ap, arith
 use Rattle.token_grammar.specs.Form.{Tree, Leaf, Empty, After}
 use Rattle.token_grammar.specs.PartLaws.{OneValue, OneValueBy}
 use Rattle.token_grammar.specs.Parts.{arc_tree}
-use Rattle.token_grammar.proofs.Values.{after_same, first_not_second, first_same, leaf_same, absent_not_present, numbered_same, one_arc, one_list, one_option, one_token, pair_same, parts_of, present_not_absent, present_same, second_not_first, second_same}
+use Rattle.token_grammar.proofs.Values.{after_same, first_not_second, first_same, leaf_same, absent_not_present}
+use Rattle.token_grammar.proofs.Values.{numbered_same, one_arc, one_list, one_option, one_token, pair_same, parts_of}
+use Rattle.token_grammar.proofs.Values.{present_not_absent, present_same, second_not_first, second_same}
 use Rattle.asn1_values_syntax.specs.declared.arcs.SureArcs.TheVariants.{Number as ANumber, Named as ANamed}
 use Rattle.asn1_values_syntax.specs.declared.numbers.Bound.TheVariants.{Number as BNumber, Name as BName}
 use Rattle.asn1_values_syntax.specs.declared.value.ValueText.{ValueText}
 use Rattle.asn1_values_syntax.specs.declared.value.ValueText.TheVariants.{Literal, Number, Named as VNamed, Braces}
 use Rattle.asn1_values_syntax.specs.declared.value.NamedValue.{NamedValue}
 use Rattle.asn1_values_syntax.specs.declared.value.NamedValue.TheVariants.{Name, Choice'}
-use Rattle.asn1_values_syntax.specs.declared.value.BracesText.{BracesText, Row_of-ValuePart, end_of-ValuePart, more_of-ValuePart}
+use Rattle.asn1_values_syntax.specs.declared.value.BracesText.{BracesText, Row_of-ValuePart, end_of-ValuePart}
+use Rattle.asn1_values_syntax.specs.declared.value.BracesText.{more_of-ValuePart}
 use Rattle.asn1_values_syntax.specs.declared.value.BracesText.TheVariants.{Nothing, Parts', Arcs, NamedArcs}
 use Rattle.asn1_values_syntax.specs.declared.value.ValuePart.{ValuePart}
 use Rattle.asn1_values_syntax.specs.declared.value.ValuePart.TheVariants.{Named as PNamed, Unnamed}
 use Rattle.asn1_values_syntax.specs.NumberTrees.{arcs_end_tree, bound_tree, named_arc_tree, signed_number_tree}
 use Rattle.asn1_values_syntax.specs.ValueTrees.{content_tree, named_value_tree, part_tree, row_tree, value_tree}
-use Rattle.asn1_values_syntax.specs.Agreement.{ArcsAgree, ContentsAgree, NamedValuesAgree, PartsAgree, RowsAgree, ValuesAgree}
+use Rattle.asn1_values_syntax.specs.Agreement.{ArcsAgree, ContentsAgree, NamedValuesAgree, PartsAgree, RowsAgree}
+use Rattle.asn1_values_syntax.specs.Agreement.{ValuesAgree}
 
 pub one_signed_number : OneValue signed_number_tree
 one_signed_number x y e =

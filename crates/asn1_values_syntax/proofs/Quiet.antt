@@ -4,7 +4,8 @@ use Rattle.token_grammar.specs.declared.token.Token.{Token}
 use Rattle.token_grammar.specs.declared.syntax_refusal.SyntaxRefusal.{SyntaxRefusal}
 use Rattle.token_grammar.specs.Form.{Form, Tree, Or, First, Second}
 use Rattle.token_grammar.specs.Outcome.{Stops, IsSpelt, Fails}
-use Rattle.token_grammar.proofs.Sequences.{spelt_order, spelt_first, spelt_second, stops_or, fault_first, fault_second, fails_by}
+use Rattle.token_grammar.proofs.Sequences.{spelt_order, spelt_first, spelt_second, stops_or, fault_first, fault_second}
+use Rattle.token_grammar.proofs.Sequences.{fails_by}
 
 -- the form doesn't begin with the token at i
 pub record Quiet (tokens : List Token) (grammar : ℕ → Form) (on : Token → Bool) (f : Form) (i : ℕ) : Type 0 where

@@ -1,7 +1,8 @@
 -- What braces say as an object identifier and as parts is what the tokens spell, and the other way round.
 use Rattle.std.proofs.Common.{◌≡◌, ℕ, ◌≤◌, suc, Bool, List, refl, sym, ap, subst, arith, codes}
 use Rattle.token_grammar.specs.declared.token.Token.{Token}
-use Rattle.token_grammar.specs.Form.{Form, Tree, Keep, Then, Or, Many, Listed, Maybe, Named, Bare, Leaf, Pair, First, Second, Absent, Empty, After, Numbered}
+use Rattle.token_grammar.specs.Form.{Form, Tree, Keep, Then, Or, Many, Listed, Maybe, Named, Bare, Leaf, Pair, First}
+use Rattle.token_grammar.specs.Form.{Second, Absent, Empty, After, Numbered}
 use Rattle.token_grammar.specs.Spelling as S
 use Rattle.token_grammar.specs.Spelling.{Spells}
 use Rattle.token_grammar.specs.TokenTests.{is_name, is_number, is_sign_of}
@@ -9,7 +10,10 @@ use Rattle.token_grammar.specs.Parts.{arc, first_arc, named_number, sign}
 use Rattle.token_grammar.proofs.Values.{parts_of}
 use Rattle.asn1_values_syntax.specs.Asn1.{asn1}
 use Rattle.asn1_values_syntax.specs.ValueForms.{values, braces_content, parts_end}
-use Rattle.asn1_values_syntax.specs.Readings.{IdentifiersAreKept, IdentifiersAreSpelt, PartsAreKept, PartsAreSpelt, SaysArcs, SaysParts, arcs_said, behind, braces_said, name, name_and_named, name_and_number, name_and_numbers, name_said, named, nothing, number, number_said, numbers, parts}
+use Rattle.asn1_values_syntax.specs.Readings.{IdentifiersAreKept, IdentifiersAreSpelt, PartsAreKept, PartsAreSpelt}
+use Rattle.asn1_values_syntax.specs.Readings.{SaysArcs, SaysParts, arcs_said, behind, braces_said, name, name_and_named}
+use Rattle.asn1_values_syntax.specs.Readings.{name_and_number, name_and_numbers, name_said, named, nothing, number}
+use Rattle.asn1_values_syntax.specs.Readings.{number_said, numbers, parts}
 
 -- a spelling by what it says
 in_first : {tokens : List Token} {f g : Form} {i k : ℕ} {a : Tree} → Spells tokens asn1 (Or f g) i k (First a) →

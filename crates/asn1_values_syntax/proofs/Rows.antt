@@ -5,7 +5,9 @@ use Rattle.std.specs.declared.vec.Vec.{Vec}
 use Rattle.token_grammar.specs.Form.{Tree, Bare, Pair, First, Second, Empty, After}
 use Rattle.token_grammar.specs.Parts.{list_tree, vector_tree}
 use Rattle.asn1_values_syntax.specs.declared.value.ValuePart.{ValuePart}
-use Rattle.asn1_values_syntax.specs.declared.value.BracesText.{Row_of-ValuePart, end_of-ValuePart, more_of-ValuePart, items-the_row-ValuePart, items_hidden-the_row-ValuePart-0}
+use Rattle.asn1_values_syntax.specs.declared.value.BracesText.{Row_of-ValuePart, end_of-ValuePart, more_of-ValuePart}
+use Rattle.asn1_values_syntax.specs.declared.value.BracesText.{items-the_row-ValuePart}
+use Rattle.asn1_values_syntax.specs.declared.value.BracesText.{items_hidden-the_row-ValuePart-0}
 use Rattle.asn1_values_syntax.specs.declared.value.BracesText.TheBlock.{hidden-the_row-ValuePart-0}
 use Rattle.asn1_values_syntax.specs.declared.value.BracesText.TheVariants.{Parts}
 use Rattle.asn1_values_syntax.specs.ValueTrees.{content_tree, part_tree, row_tree}

@@ -1,5 +1,6 @@
 -- Laws on values of one token, and on parts that have a name before them.
-use Rattle.std.proofs.Common.{◌≡◌, ℕ, ◌+◌, ◌≤◌, Bool, true, false, ◌&&◌, ◌||◌, List, Some, ◌⊎◌, inl, inr, refl, arith, slice_get, codes}
+use Rattle.std.proofs.Common.{◌≡◌, ℕ, ◌+◌, ◌≤◌, Bool, true, false, ◌&&◌, ◌||◌, List, Some, ◌⊎◌, inl, inr, refl, arith}
+use Rattle.std.proofs.Common.{slice_get, codes}
 use Rattle.token_grammar.specs.declared.token.Token.{Token}
 use Rattle.token_grammar.specs.declared.syntax_refusal.SyntaxRefusal.{SyntaxRefusal}
 use Rattle.token_grammar.specs.Form.{Form, Tree, Keep, Then, Or, Named, Leaf, Pair, First, Second, Absent, Numbered}
@@ -12,12 +13,15 @@ use Rattle.token_grammar.specs.TokenTests.{is_name, is_number}
 use Rattle.token_grammar.specs.Parts.{sign}
 use Rattle.token_grammar.proofs.Heads.{at_wider, or_left, or_right, skips, starts}
 use Rattle.token_grammar.proofs.Known.{at_name, at_number, first_so, second_so}
-use Rattle.token_grammar.proofs.Sequences.{apart_closed, not_closed, passes_false, spelt_then, spelt_absent, spelt_named, spelt_first, spelt_second, spelt_on, spelt_order, stops_later, stops_wider, fault_first, fault_second, fault_rest, fails_by, fails_on}
+use Rattle.token_grammar.proofs.Sequences.{apart_closed, not_closed, passes_false, spelt_then, spelt_absent}
+use Rattle.token_grammar.proofs.Sequences.{spelt_named, spelt_first, spelt_second, spelt_on, spelt_order, stops_later}
+use Rattle.token_grammar.proofs.Sequences.{stops_wider, fault_first, fault_second, fault_rest, fails_by, fails_on}
 use Rattle.token_grammar.proofs.Tokens.{keep_spelt}
 use Rattle.token_grammar.proofs.Parts.{spelt_short, token_there}
 use Rattle.token_grammar.proofs.References.{fault_here}
 use Rattle.asn1_values_syntax.specs.Asn1.{asn1}
-use Rattle.asn1_values_syntax.specs.ValueForms.{values, braces, colon, is_literal, is_part_end, is_value_start, minus, named_value, part, signed_number}
+use Rattle.asn1_values_syntax.specs.ValueForms.{values, braces, colon, is_literal, is_part_end, is_value_start, minus}
+use Rattle.asn1_values_syntax.specs.ValueForms.{named_value, part, signed_number}
 use Rattle.asn1_values_syntax.proofs.Quiet.{Quiet, take_first, take_second}
 use Rattle.asn1_values_syntax.proofs.FirstTokens.{firsts, quiet_name, quiet_number, quiet_unless, quiet_when}
 use Rattle.asn1_values_syntax.proofs.Cases.{decide, literal_case, not_both, value_case}

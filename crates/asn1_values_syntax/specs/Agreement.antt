@@ -7,7 +7,8 @@ use Rattle.asn1_values_syntax.specs.declared.value.ValueText.{ValueText}
 use Rattle.asn1_values_syntax.specs.declared.value.ValueText.TheVariants.{Literal, Number, Named as VNamed, Braces}
 use Rattle.asn1_values_syntax.specs.declared.value.NamedValue.{NamedValue}
 use Rattle.asn1_values_syntax.specs.declared.value.NamedValue.TheVariants.{Name, Choice'}
-use Rattle.asn1_values_syntax.specs.declared.value.BracesText.{BracesText, Row_of-ValuePart, end_of-ValuePart, more_of-ValuePart}
+use Rattle.asn1_values_syntax.specs.declared.value.BracesText.{BracesText, Row_of-ValuePart, end_of-ValuePart}
+use Rattle.asn1_values_syntax.specs.declared.value.BracesText.{more_of-ValuePart}
 use Rattle.asn1_values_syntax.specs.declared.value.BracesText.TheVariants.{Nothing, Parts', Arcs, NamedArcs}
 use Rattle.asn1_values_syntax.specs.declared.value.ValuePart.{ValuePart}
 use Rattle.asn1_values_syntax.specs.declared.value.ValuePart.TheVariants.{Named as PNamed, Unnamed}

@@ -2,7 +2,8 @@
 -- sections 17.5, 20.5, 21.3, 22.3 and 23.3). Which of both is meant only the type of the value tells.
 use Rattle.std.specs.Prelude.{◌≡◌, ℕ, true, List, ◌⊎◌, slice_get, codes}
 use Rattle.token_grammar.specs.declared.token.Token.{Token}
-use Rattle.token_grammar.specs.Form.{Form, Tree, Keep, Then, Or, Named, Bare, Leaf, Pair, First, Second, Absent, Present, Empty, After, Numbered}
+use Rattle.token_grammar.specs.Form.{Form, Tree, Keep, Then, Or, Named, Bare, Leaf, Pair, First, Second, Absent}
+use Rattle.token_grammar.specs.Form.{Present, Empty, After, Numbered}
 use Rattle.token_grammar.specs.Spelling.{passes, Spells}
 use Rattle.token_grammar.specs.Beginning.{Begins}
 use Rattle.token_grammar.specs.TokenTests.{is_sign_of}

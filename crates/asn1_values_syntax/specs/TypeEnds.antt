@@ -5,7 +5,8 @@ use Rattle.token_grammar.specs.declared.token.Token.{Token}
 use Rattle.token_grammar.specs.TokenTests.{is_one_of, is_name, is_sign_of, is_word}
 use Rattle.token_grammar.specs.Parts.{either}
 use Rattle.asn1_values_syntax.specs.ValueForms.{colon, comma}
-use Rattle.asn1_values_syntax.specs.TypeForms.{bar, brace, defined, dots, is_simple_type, is_structure, parenthesis, point}
+use Rattle.asn1_values_syntax.specs.TypeForms.{bar, brace, defined, dots, is_simple_type, is_structure, parenthesis}
+use Rattle.asn1_values_syntax.specs.TypeForms.{point}
 
 abbrev pub is_ranges_end : Token → Bool
 is_ranges_end = either bar dots

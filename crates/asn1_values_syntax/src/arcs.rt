@@ -5,7 +5,8 @@ ghost use Rattle.token_grammar.specs.Outcome.{Reads, closed};
 ghost use Rattle.token_grammar.specs.Parts.{named_number};
 ghost use Rattle.token_grammar.specs.TokenTests.{is_arc_start};
 ghost use Rattle.asn1_values_syntax.specs.Asn1.{asn1};
-ghost use Rattle.asn1_values_syntax.specs.Lookahead.{is_name_before_parenthesis, is_number_before_arc, starts_arcs, starts_named_arcs};
+ghost use Rattle.asn1_values_syntax.specs.Lookahead.{is_name_before_parenthesis, is_number_before_arc, starts_arcs};
+ghost use Rattle.asn1_values_syntax.specs.Lookahead.{starts_named_arcs};
 ghost use Rattle.asn1_values_syntax.specs.ValueForms.{arcs_end, sure_arcs};
 ghost use Rattle.asn1_values_syntax.specs.NumberTrees.{arcs_end_tree, named_arc_tree, sure_arcs_tree};
 

@@ -1,6 +1,8 @@
 //! What holds of braces that can be read in two ways (X.680, section 32.3; X.208, section 20.5).
 
-ghost use Rattle.asn1_values_syntax.specs.Readings.{BracesBeginEither, IdentifiersAreKept, IdentifiersAreSpelt, IdentifiersBeginValues, PartsAreKept, PartsAreSpelt, PartsBeginValues};
+ghost use Rattle.asn1_values_syntax.specs.Readings.{BracesBeginEither, IdentifiersAreKept, IdentifiersAreSpelt};
+ghost use Rattle.asn1_values_syntax.specs.Readings.{IdentifiersBeginValues, PartsAreKept, PartsAreSpelt};
+ghost use Rattle.asn1_values_syntax.specs.Readings.{PartsBeginValues};
 
 /// Each object identifier and each list of parts in braces is a value, and what is kept of the value says either
 /// reading; it says one only where the tokens spell it. A value with a brace goes on with a token where one of both

@@ -6,9 +6,11 @@ ghost use Rattle.token_grammar.specs.Outcome.{Reads, closed};
 ghost use Rattle.token_grammar.specs.Parts.{optional_tree, sign, vector_tree};
 ghost use Rattle.asn1_values_syntax.specs.Asn1.{asn1};
 ghost use Rattle.asn1_values_syntax.specs.TypeEnds.{is_ranges_end};
-ghost use Rattle.asn1_values_syntax.specs.TypeForms.{constraint, constraints, dots, list_size, parenthesis, range, ranges, size};
+ghost use Rattle.asn1_values_syntax.specs.TypeForms.{constraint, constraints, dots, list_size, parenthesis, range};
+ghost use Rattle.asn1_values_syntax.specs.TypeForms.{ranges, size};
 ghost use Rattle.asn1_values_syntax.specs.ValueForms.{bound};
-ghost use Rattle.asn1_values_syntax.specs.ConstraintTrees.{constraint_content_tree, constraint_tree, list_size_tree, range_tree, size_tree, upper_tree};
+ghost use Rattle.asn1_values_syntax.specs.ConstraintTrees.{constraint_content_tree, constraint_tree, list_size_tree};
+ghost use Rattle.asn1_values_syntax.specs.ConstraintTrees.{range_tree, size_tree, upper_tree};
 
 use super::numbers::{Bound, read_bound};
 use std::alloc::Global;

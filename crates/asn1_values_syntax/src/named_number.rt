@@ -5,9 +5,11 @@ ghost use Rattle.token_grammar.specs.Form.{Form, Empty, Keep, Leaf, Listed, Mayb
 ghost use Rattle.token_grammar.specs.Outcome.{Reads, closed};
 ghost use Rattle.token_grammar.specs.Parts.{optional_tree, vector_tree};
 ghost use Rattle.asn1_values_syntax.specs.Asn1.{asn1};
-ghost use Rattle.asn1_values_syntax.specs.TypeForms.{brace, is_number_or_name, named_bit, named_bits, named_integer, named_integers};
+ghost use Rattle.asn1_values_syntax.specs.TypeForms.{brace, is_number_or_name, named_bit, named_bits, named_integer};
+ghost use Rattle.asn1_values_syntax.specs.TypeForms.{named_integers};
 ghost use Rattle.asn1_values_syntax.specs.ValueForms.{comma};
-ghost use Rattle.asn1_values_syntax.specs.NamedNumberTrees.{named_bit_tree, named_bits_tree, named_integer_tree, named_integers_tree};
+ghost use Rattle.asn1_values_syntax.specs.NamedNumberTrees.{named_bit_tree, named_bits_tree, named_integer_tree};
+ghost use Rattle.asn1_values_syntax.specs.NamedNumberTrees.{named_integers_tree};
 
 use super::numbers::{Bound, read_bound};
 use std::alloc::Global;

@@ -8,7 +8,9 @@ ghost use Rattle.token_grammar.specs.Parts.{sign, vector_tree};
 ghost use Rattle.token_grammar.specs.Spelling.{passes};
 ghost use Rattle.token_grammar.specs.TokenTests.{is_name};
 ghost use Rattle.asn1_values_syntax.specs.Asn1.{asn1};
-ghost use Rattle.asn1_values_syntax.specs.ValueForms.{values, braces_content, colon, is_literal, is_part_end, is_parts_end, is_value_start, comma, named_value, part, parts_end};
+ghost use Rattle.asn1_values_syntax.specs.ValueForms.{values, braces_content, colon, is_literal, is_part_end};
+ghost use Rattle.asn1_values_syntax.specs.ValueForms.{is_parts_end, is_value_start, comma, named_value, part};
+ghost use Rattle.asn1_values_syntax.specs.ValueForms.{parts_end};
 ghost use Rattle.asn1_values_syntax.specs.ValueTrees.{content_tree, named_value_tree, part_tree, value_tree};
 ghost use Rattle.asn1_values_syntax.specs.NumberTrees.{arcs_end_tree};
 

@@ -1,5 +1,6 @@
 -- What a reader answers at its exits, and what the answer of the whole says: X.690, section 8.1.
-use Rattle.std.proofs.Common.{◌≡◌, ℕ, zero, suc, ◌+◌, ◌-◌, ◌≤◌, ◌==◌, min, true, false, List, ◌++◌, length, drop, take, Option, Some, None, sym, ap, ◌∙◌, refl, subst, arith, length-drop}
+use Rattle.std.proofs.Common.{◌≡◌, ℕ, zero, suc, ◌+◌, ◌-◌, ◌≤◌, ◌==◌, min, true, false, List, ◌++◌, length, drop, take}
+use Rattle.std.proofs.Common.{Option, Some, None, sym, ap, ◌∙◌, refl, subst, arith, length-drop}
 use Rattle.std.specs.Prelude.{Result, Ok, Err, IfOk, IfErr}
 use Rattle.std.specs.Result.{IsErrAnd}
 use Rattle.std.proofs.lemmas.List.{drop-drop, take-append-drop, append_cancel_right, take_rest}
@@ -7,7 +8,8 @@ use Rattle.std.proofs.lemmas.Bool.{ne_eqb}
 use Rattle.std.proofs.lemmas.Option.{none-some, same_Some}
 use Rattle.term_values.specs.declared.ber_kind.BerKind.{BerKind}
 use Rattle.term_values.specs.Ber.{most_depth, Spells}
-use Rattle.term_values.specs.BerReading.{Fault, AllRead, result_then, front_of, stop_at, members, primitive_value, definite_value, constructed_value, reading}
+use Rattle.term_values.specs.BerReading.{Fault, AllRead, result_then, front_of, stop_at, members, primitive_value}
+use Rattle.term_values.specs.BerReading.{definite_value, constructed_value, reading}
 use Rattle.term_values.specs.FirstFault.{IsFirstFault, place_of}
 use Rattle.term_values.specs.SpellingLaws.{AreOctets, Spelling}
 use Rattle.term_values.specs.Tree.{TreeValue}

@@ -1,5 +1,6 @@
 -- What stood there before a writing begins what stands there after it.
-use Rattle.std.proofs.Common.{◌≡◌, ℕ, ◌≤◌, Bool, true, false, cond, List, ◌++◌, length, take, sym, ap, ◌∙◌, arith, length-take}
+use Rattle.std.proofs.Common.{◌≡◌, ℕ, ◌≤◌, Bool, true, false, cond, List, ◌++◌, length, take, sym, ap, ◌∙◌, arith}
+use Rattle.std.proofs.Common.{length-take}
 use Rattle.std.proofs.Math.Seq.{take-length, take-append_seam}
 use Rattle.std.proofs.lemmas.List.{take-take}
 use Rattle.ber_tree.specs.Writing.{Extends}
@@ -16,7 +17,10 @@ longer xs ys e = omega (arith, length-take (length xs) ys, ap length e)
 pub extends_trans : (xs ys zs : List ℕ) → Extends xs ys → Extends ys zs → Extends xs zs
 extends_trans xs ys zs f g =
     let short : length xs ≤ length ys = longer xs ys f.begun in
-    record { begun = sym (take-take (length xs) (length ys) zs short) ∙ (ap (λ ws. take (length xs) ws) g.begun ∙ f.begun) }
+    record {
+      begun = sym (take-take (length xs) (length ys) zs short)
+          ∙ (ap (λ ws. take (length xs) ws) g.begun ∙ f.begun);
+    }
 
 -- after a call that appends or leaves what was there
 pub extends_push : (done : Bool) (xs ys zs : List ℕ) → zs ≡ cond done (xs ++ ys) xs → Extends xs zs

@@ -13,9 +13,11 @@ too_many xs long = rw (lt-leb (length xs) 8 long) refl
 pub not_least : (xs : List ℕ) → are_least xs ≡ false → None ≡ integer_in xs
 unfolding integer_in
 not_least xs padded =
-    elim (nat_le (length xs) 8) as (λ b. None ≡ (if b && are_least xs then Some (signed_number xs) else None)) [ true ↦ rw padded refl | false ↦ refl ]
+    elim (nat_le (length xs) 8) as (λ b. None ≡ (if b && are_least xs then Some (signed_number xs) else None))
+    [ true ↦ rw padded refl | false ↦ refl ]
 
 -- the least octets, of which there are at most eight, denote their number
-pub denoted : (xs : List ℕ) (value : ℤ) → length xs ≤ 8 → are_least xs ≡ true → signed_number xs ≡ value → Some value ≡ integer_in xs
+pub denoted : (xs : List ℕ) (value : ℤ) → length xs ≤ 8 → are_least xs ≡ true → signed_number xs ≡ value
+    → Some value ≡ integer_in xs
 unfolding integer_in
 denoted xs value few least same = rw (le-leb (length xs) 8 few, least) (ap Some (sym same))

@@ -1,9 +1,11 @@
 -- Subidentifiers, read and written: X.690, section 8.19.2.
-use Rattle.std.proofs.Common.{◌≡◌, ℕ, zero, suc, ◌+◌, ◌-◌, ◌*◌, ◌/◌, ◌%◌, ◌^◌, ◌<◌, ◌≤◌, List, [], ◌∷◌, ◌++◌, length, take, get_or, All, sym, ap, ◌∙◌, refl, subst, ◌⊎◌, ⊎_elim, arith, add-one, length-append}
+use Rattle.std.proofs.Common.{◌≡◌, ℕ, zero, suc, ◌+◌, ◌-◌, ◌*◌, ◌/◌, ◌%◌, ◌^◌, ◌<◌, ◌≤◌, List, [], ◌∷◌, ◌++◌, length}
+use Rattle.std.proofs.Common.{take, get_or, All, sym, ap, ◌∙◌, refl, subst, ◌⊎◌, ⊎_elim, arith, add-one, length-append}
 use Rattle.std.proofs.Math.Nat.{pow-suc, pow-le-pow_right, add-mul, mul_assoc}
 use Rattle.std.proofs.lemmas.Nat.{pow-add}
 use Rattle.std.proofs.lemmas.Bool.{lt-ltb, le-ltb, cases_lt, cases_order}
-use Rattle.std.proofs.lemmas.List.{take_more, take_at, length-take-le, get_or-take, get_or_append_left, append_cancel_left}
+use Rattle.std.proofs.lemmas.List.{take_more, take_at, length-take-le, get_or-take, get_or_append_left}
+use Rattle.std.proofs.lemmas.List.{append_cancel_left}
 use Rattle.term_values.specs.Oid.{subidentifier}
 use Rattle.ber_tree.specs.Subidentifiers.{grouped, IsSize}
 
@@ -16,11 +18,14 @@ grouped-append (x ∷ xs) ys =
     rw (length-append xs ys, grouped-append xs ys, pow-add 128 (length xs) (length ys))
     (regrouped (x % 128) (128 ^ length xs) (128 ^ length ys) (grouped xs) (grouped ys))
 
-pub grouped-take_more : (xs : List ℕ) (i : ℕ) → i < length xs → grouped (take (i + 1) xs) ≡ grouped (take i xs) * 128 + get_or xs i 0 % 128
-grouped-take_more xs i h = ap grouped (take_more xs i 0 h) ∙ (grouped-append (take i xs) (get_or xs i 0 ∷ []) ∙ omega arith)
+pub grouped-take_more : (xs : List ℕ) (i : ℕ) → i < length xs
+    → grouped (take (i + 1) xs) ≡ grouped (take i xs) * 128 + get_or xs i 0 % 128
+grouped-take_more xs i h =
+    ap grouped (take_more xs i 0 h) ∙ (grouped-append (take i xs) (get_or xs i 0 ∷ []) ∙ omega arith)
 
 pub five_groups : (i : ℕ) → i < 5 → 128 ^ i ≤ 268435456
-five_groups i h = let e : 128 ^ i ≤ 128 ^ 4 = pow-le-pow_right {n = 128} (omega arith) {i = i} {j = 4} (omega arith) in e
+five_groups i h = let e : 128 ^ i ≤ 128 ^ 4 =
+    pow-le-pow_right {n = 128} (omega arith) {i = i} {j = 4} (omega arith) in e
 
 pub group_more : (i value x : ℕ) → value < 128 ^ i → x < 128 → value * 128 + x < 128 ^ (i + 1)
 group_more i value x h l = let e : 128 ^ suc i ≡ 128 ^ i * 128 = pow-suc 128 i in rw (add-one i, e) (omega arith)
@@ -40,17 +45,31 @@ sub_2 : (n : ℕ) → 128 ≤ n → n < 16384 → subidentifier n ≡ (128 + n /
 unfolding subidentifier
 sub_2 n l h = rw (le-ltb n 128 l, lt-ltb n 16384 h) refl
 
-sub_3 : (n : ℕ) → 16384 ≤ n → n < 2097152 → subidentifier n ≡ (128 + n / 16384 % 128) ∷ (128 + n / 128 % 128) ∷ n % 128 ∷ []
+sub_3 : (n : ℕ) → 16384 ≤ n → n < 2097152
+    → subidentifier n ≡ (128 + n / 16384 % 128) ∷ (128 + n / 128 % 128) ∷ n % 128 ∷ []
 unfolding subidentifier
 sub_3 n l h = rw (le-ltb n 128 (omega arith), le-ltb n 16384 l, lt-ltb n 2097152 h) refl
 
-sub_4 : (n : ℕ) → 2097152 ≤ n → n < 268435456 → subidentifier n ≡ (128 + n / 2097152 % 128) ∷ (128 + n / 16384 % 128) ∷ (128 + n / 128 % 128) ∷ n % 128 ∷ []
+sub_4 : (n : ℕ) → 2097152 ≤ n → n < 268435456
+    → subidentifier n ≡ (128 + n / 2097152 % 128) ∷ (128 + n / 16384 % 128) ∷ (128 + n / 128 % 128) ∷ n % 128 ∷ []
 unfolding subidentifier
-sub_4 n l h = rw (le-ltb n 128 (omega arith), le-ltb n 16384 (omega arith), le-ltb n 2097152 l, lt-ltb n 268435456 h) refl
+sub_4 n l h = rw (
+  le-ltb n 128 (omega arith),
+  le-ltb n 16384 (omega arith),
+  le-ltb n 2097152 l,
+  lt-ltb n 268435456 h,
+) refl
 
-sub_5 : (n : ℕ) → 268435456 ≤ n → subidentifier n ≡ (128 + n / 268435456 % 128) ∷ (128 + n / 2097152 % 128) ∷ (128 + n / 16384 % 128) ∷ (128 + n / 128 % 128) ∷ n % 128 ∷ []
+sub_5 : (n : ℕ) → 268435456 ≤ n
+    → subidentifier n ≡ (128 + n / 268435456 % 128) ∷ (128 + n / 2097152 % 128) ∷ (128 + n / 16384 % 128)
+    ∷ (128 + n / 128 % 128) ∷ n % 128 ∷ []
 unfolding subidentifier
-sub_5 n l = rw (le-ltb n 128 (omega arith), le-ltb n 16384 (omega arith), le-ltb n 2097152 (omega arith), le-ltb n 268435456 l) refl
+sub_5 n l = rw (
+  le-ltb n 128 (omega arith),
+  le-ltb n 16384 (omega arith),
+  le-ltb n 2097152 (omega arith),
+  le-ltb n 268435456 l,
+) refl
 
 -- what is read is written so
 pub subidentifier_of_groups : (xs : List ℕ) → IsGroups xs → subidentifier (grouped xs) ≡ xs
@@ -147,12 +166,30 @@ last_cons x xs t zero i = absurd (let some = t.some in omega arith)
 last_cons x xs t (suc k) i = t.last k (omega arith)
 
 tail_cons : (x : ℕ) (xs : List ℕ) → x < 128 → IsTail xs → IsTail ((128 + x) ∷ xs)
-tail_cons x xs h t = record { some = omega arith; octets = octets_cons (128 + x) xs (omega arith) t; more = more_cons (128 + x) xs (omega arith) t; last = last_cons (128 + x) xs t }
+tail_cons x xs h t = record {
+  some = omega arith;
+  octets = octets_cons (128 + x) xs (omega arith) t;
+  more =
+      more_cons (128 + x) xs (omega arith) t;
+  last = last_cons (128 + x) xs t;
+}
 
-groups_of_tail : (xs : List ℕ) → IsTail xs → length xs ≤ 5 → (get_or xs 0 0 ≡ 128 → ⊥) → grouped xs < 4294967296 → IsGroups xs
+groups_of_tail : (xs : List ℕ) → IsTail xs → length xs ≤ 5 → (get_or xs 0 0 ≡ 128 → ⊥) → grouped xs < 4294967296
+    → IsGroups xs
 groups_of_tail xs t l e s =
     let some = t.some in
-    record { size = record { some = some; few = l; within = omega arith; last = t.last (length xs - 1) (omega arith); more = t.more }; octets = t.octets; least = e; small = s }
+    record {
+      size = record {
+        some = some;
+        few = l;
+        within = omega arith;
+        last = t.last (length xs - 1) (omega arith);
+        more = t.more;
+      };
+      octets = t.octets;
+      least = e;
+      small = s;
+    }
 
 -- what is written is read so
 pub record Written (n : ℕ) (xs : List ℕ) : Type 0 where
@@ -165,30 +202,46 @@ subidentifier_written n top =
     (λ (h : n < 128).
     let xs = n % 128 ∷ [] in
     let g : grouped xs ≡ n = omega arith in
-    subst (λ ys. Written n ys) (sym (sub_1 n h)) (record { groups = groups_of_tail xs (tail_1 (n % 128) (omega arith)) (omega arith) (λ e. omega arith) (omega arith); number = g }))
+    subst (λ ys. Written n ys) (sym (sub_1 n h))
+    (record {
+      groups = groups_of_tail xs (tail_1 (n % 128) (omega arith)) (omega arith) (λ e. omega arith)
+          (omega arith);
+      number = g;
+    }))
     (λ (l : 128 ≤ n). ⊎_elim
     (λ (h : n < 16384).
     let xs = (128 + n / 128 % 128) ∷ n % 128 ∷ [] in
     let g : grouped xs ≡ n = omega arith in
     let t = tail_cons (n / 128 % 128) (n % 128 ∷ []) (omega arith) (tail_1 (n % 128) (omega arith)) in
-    subst (λ ys. Written n ys) (sym (sub_2 n l h)) (record { groups = groups_of_tail xs t (omega arith) (λ e. omega arith) (omega arith); number = g }))
+    subst (λ ys. Written n ys) (sym (sub_2 n l h))
+    (record { groups = groups_of_tail xs t (omega arith) (λ e. omega arith) (omega arith); number = g }))
     (λ (l : 16384 ≤ n). ⊎_elim
     (λ (h : n < 2097152).
     let xs = (128 + n / 16384 % 128) ∷ (128 + n / 128 % 128) ∷ n % 128 ∷ [] in
     let g : grouped xs ≡ n = omega arith in
-    let t = tail_cons (n / 16384 % 128) _ (omega arith) (tail_cons (n / 128 % 128) (n % 128 ∷ []) (omega arith) (tail_1 (n % 128) (omega arith))) in
-    subst (λ ys. Written n ys) (sym (sub_3 n l h)) (record { groups = groups_of_tail xs t (omega arith) (λ e. omega arith) (omega arith); number = g }))
+    let t = tail_cons (n / 16384 % 128) _ (omega arith)
+    (tail_cons (n / 128 % 128) (n % 128 ∷ []) (omega arith) (tail_1 (n % 128) (omega arith))) in
+    subst (λ ys. Written n ys) (sym (sub_3 n l h))
+    (record { groups = groups_of_tail xs t (omega arith) (λ e. omega arith) (omega arith); number = g }))
     (λ (l : 2097152 ≤ n). ⊎_elim
     (λ (h : n < 268435456).
     let xs = (128 + n / 2097152 % 128) ∷ (128 + n / 16384 % 128) ∷ (128 + n / 128 % 128) ∷ n % 128 ∷ [] in
     let g : grouped xs ≡ n = omega arith in
-    let t = tail_cons (n / 2097152 % 128) _ (omega arith) (tail_cons (n / 16384 % 128) _ (omega arith) (tail_cons (n / 128 % 128) (n % 128 ∷ []) (omega arith) (tail_1 (n % 128) (omega arith)))) in
-    subst (λ ys. Written n ys) (sym (sub_4 n l h)) (record { groups = groups_of_tail xs t (omega arith) (λ e. omega arith) (omega arith); number = g }))
+    let t = tail_cons (n / 2097152 % 128) _ (omega arith)
+    (tail_cons (n / 16384 % 128) _ (omega arith)
+    (tail_cons (n / 128 % 128) (n % 128 ∷ []) (omega arith) (tail_1 (n % 128) (omega arith)))) in
+    subst (λ ys. Written n ys) (sym (sub_4 n l h))
+    (record { groups = groups_of_tail xs t (omega arith) (λ e. omega arith) (omega arith); number = g }))
     (λ (l : 268435456 ≤ n).
-    let xs = (128 + n / 268435456 % 128) ∷ (128 + n / 2097152 % 128) ∷ (128 + n / 16384 % 128) ∷ (128 + n / 128 % 128) ∷ n % 128 ∷ [] in
+    let xs = (128 + n / 268435456 % 128) ∷ (128 + n / 2097152 % 128) ∷ (128 + n / 16384 % 128) ∷ (128 + n / 128 % 128)
+    ∷ n % 128 ∷ [] in
     let g : grouped xs ≡ n = omega arith in
-    let t = tail_cons (n / 268435456 % 128) _ (omega arith) (tail_cons (n / 2097152 % 128) _ (omega arith) (tail_cons (n / 16384 % 128) _ (omega arith) (tail_cons (n / 128 % 128) (n % 128 ∷ []) (omega arith) (tail_1 (n % 128) (omega arith))))) in
-    subst (λ ys. Written n ys) (sym (sub_5 n l)) (record { groups = groups_of_tail xs t (omega arith) (λ e. omega arith) (omega arith); number = g }))
+    let t = tail_cons (n / 268435456 % 128) _ (omega arith)
+    (tail_cons (n / 2097152 % 128) _ (omega arith)
+    (tail_cons (n / 16384 % 128) _ (omega arith)
+    (tail_cons (n / 128 % 128) (n % 128 ∷ []) (omega arith) (tail_1 (n % 128) (omega arith))))) in
+    subst (λ ys. Written n ys) (sym (sub_5 n l))
+    (record { groups = groups_of_tail xs t (omega arith) (λ e. omega arith) (omega arith); number = g }))
     (cases_lt n 268435456))
     (cases_lt n 2097152))
     (cases_lt n 16384))
@@ -208,7 +261,8 @@ pub size_of_front : (xs ys rest : List ℕ) → xs ≡ ys ++ rest → IsSize ys 
 size_of_front xs ys rest e s =
     let some = s.some in
     let long : length xs ≡ length ys + length rest = ap length e ∙ length-append ys rest in
-    let at : (k : ℕ) → k < length ys → get_or xs k 0 ≡ get_or ys k 0 = λ k h. ap (λ zs. get_or zs k 0) e ∙ get_or_append_left ys rest 0 k h in
+    let at : (k : ℕ) → k < length ys → get_or xs k 0 ≡ get_or ys k 0 = λ k h. ap (λ zs. get_or zs k 0) e
+    ∙ get_or_append_left ys rest 0 k h in
     record {
       some = some;
       few = s.few;
@@ -241,15 +295,18 @@ pub in_front : (n : ℕ) (octets rest : List ℕ) → n < 4294967296 → octets 
 in_front n octets rest h e =
     let w = subidentifier_written n h in
     let some = w.groups.size.some in
-    let at : get_or octets 0 0 ≡ get_or (subidentifier n) 0 0 = ap (λ zs. get_or zs 0 0) e ∙ get_or_append_left (subidentifier n) rest 0 0 some in
+    let at : get_or octets 0 0 ≡ get_or (subidentifier n) 0 0 = ap (λ zs. get_or zs 0 0) e
+    ∙ get_or_append_left (subidentifier n) rest 0 0 some in
     record {
       size = size_of_front octets (subidentifier n) rest e w.groups.size;
-      front = ap (λ zs. take (length (subidentifier n)) zs) e ∙ take_at (subidentifier n) rest (length (subidentifier n)) refl;
+      front = ap (λ zs. take (length (subidentifier n)) zs) e
+          ∙ take_at (subidentifier n) rest (length (subidentifier n)) refl;
       least = λ f. w.groups.least (sym at ∙ f);
       number = w.number;
     }
 
-pub front_is_groups : (octets : List ℕ) (n : ℕ) → All (λ x. x < 256) octets → IsSize octets n → (get_or octets 0 0 ≡ 128 → ⊥) → grouped (take n octets) < 4294967296 → IsGroups (take n octets)
+pub front_is_groups : (octets : List ℕ) (n : ℕ) → All (λ x. x < 256) octets → IsSize octets n
+    → (get_or octets 0 0 ≡ 128 → ⊥) → grouped (take n octets) < 4294967296 → IsGroups (take n octets)
 front_is_groups octets n h s e small =
     let some = s.some in
     let long : length (take n octets) ≡ n = length-take-le n octets s.within in
@@ -262,12 +319,15 @@ front_is_groups octets n h s e small =
     }
 
 -- no subidentifier begins another
-pub one_subidentifier : (n m : ℕ) (xs ys : List ℕ) → n < 4294967296 → m < 4294967296 → subidentifier n ++ xs ≡ subidentifier m ++ ys → (n ≡ m) × (xs ≡ ys)
+pub one_subidentifier : (n m : ℕ) (xs ys : List ℕ) → n < 4294967296 → m < 4294967296 → subidentifier n
+    ++ xs ≡ subidentifier m ++ ys → (n ≡ m) × (xs ≡ ys)
 one_subidentifier n m xs ys h i e =
     let f = in_front n (subidentifier n ++ xs) xs h refl in
     let g = in_front m (subidentifier n ++ xs) ys i e in
-    let long : length (subidentifier n) ≡ length (subidentifier m) = same_size (subidentifier n ++ xs) (length (subidentifier n)) (length (subidentifier m)) f.size g.size in
-    let same : subidentifier n ≡ subidentifier m = sym f.front ∙ (ap (λ k. take k (subidentifier n ++ xs)) long ∙ g.front) in
+    let long : length (subidentifier n) ≡ length (subidentifier m) =
+    same_size (subidentifier n ++ xs) (length (subidentifier n)) (length (subidentifier m)) f.size g.size in
+    let same : subidentifier n ≡ subidentifier m = sym f.front
+    ∙ (ap (λ k. take k (subidentifier n ++ xs)) long ∙ g.front) in
     let number : n ≡ m = sym f.number ∙ (ap grouped same ∙ g.number) in
     (number, append_cancel_left (subidentifier n) xs ys (e ∙ ap (λ zs. zs ++ ys) (sym same)))
 

@@ -1,5 +1,6 @@
 -- Parts of what is written: X.690, sections 8.3 and 8.19.2.
-use Rattle.std.specs.Prelude.{◌≡◌, ℕ, ◌+◌, ◌-◌, ◌/◌, ◌%◌, List, [], ◌∷◌, Bool, true, false, nat_lt, map, length, take, if◌then◌else◌}
+use Rattle.std.specs.Prelude.{◌≡◌, ℕ, ◌+◌, ◌-◌, ◌/◌, ◌%◌, List, [], ◌∷◌, Bool, true, false, nat_lt, map, length, take}
+use Rattle.std.specs.Prelude.{if◌then◌else◌}
 use Rattle.term_values.specs.Octets.{octets}
 
 -- the group of seven bits of a number that counts units, which is left out where it and those before it are zero

@@ -4,7 +4,8 @@
 //! there and no definite value stands round; `Some(0)` where a definite value ends there; `Some(n)` where the bytes end
 //! there, n octets before the nearest definite value does.
 
-ghost use Rattle.std.specs.Prelude.{ℕ, ◌≡◌, ◌+◌, ◌*◌, ◌%◌, ◌^◌, ◌-◌, ◌<◌, ◌≤◌, ◌==◌, ◌&&◌, ◌||◌, None, Some, Ok, Err, IfOk, nat_lt, nat_le, if◌then◌else◌, length, drop, min};
+ghost use Rattle.std.specs.Prelude.{ℕ, ◌≡◌, ◌+◌, ◌*◌, ◌%◌, ◌^◌, ◌-◌, ◌<◌, ◌≤◌, ◌==◌, ◌&&◌, ◌||◌, None, Some, Ok, Err};
+ghost use Rattle.std.specs.Prelude.{IfOk, nat_lt, nat_le, if◌then◌else◌, length, drop, min};
 ghost use Rattle.term_values.specs.FirstFault.{when_cut, is_constructed, least};
 ghost use Rattle.term_values.specs.BerReading.{is_past, number_at, identifier_of, long_length, length_at, front_of};
 ghost use Rattle.term_values.specs.Octets.{number};

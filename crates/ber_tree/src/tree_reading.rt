@@ -1,10 +1,13 @@
 //! Reads trees and contents octets: X.690, sections 8.1, 8.3 and 8.19.
 
-ghost use Rattle.std.specs.Prelude.{ℕ, ℤ, List, [], ◌∷◌, ◌++◌, ◌≡◌, ◌+◌, ◌*◌, ◌^◌, ◌<◌, ◌≤◌, None, Some, Ok, Err, IfOk, IfErr, IfSome, IfNone, IsTrue, option_map, nat_lt, if◌then◌else◌, length, take, drop, map, slice_index, All, FitsSigned, true};
+ghost use Rattle.std.specs.Prelude.{ℕ, ℤ, List, [], ◌∷◌, ◌++◌, ◌≡◌, ◌+◌, ◌*◌, ◌^◌, ◌<◌, ◌≤◌, None, Some, Ok, Err, IfOk};
+ghost use Rattle.std.specs.Prelude.{IfErr, IfSome, IfNone, IsTrue, option_map, nat_lt, if◌then◌else◌, length, take};
+ghost use Rattle.std.specs.Prelude.{drop, map, slice_index, All, FitsSigned, true};
 ghost use Rattle.std.specs.Int.{w64};
 ghost use Rattle.term_values.specs.declared.ber_kind.BerKind.{BerKind};
 ghost use Rattle.term_values.specs.FirstFault.{place_of, IsFirstFault};
-ghost use Rattle.term_values.specs.BerReading.{stop_at, members, primitive_value, definite_value, indefinite_value, reading, tree_at};
+ghost use Rattle.term_values.specs.BerReading.{stop_at, members, primitive_value, definite_value, indefinite_value};
+ghost use Rattle.term_values.specs.BerReading.{reading, tree_at};
 ghost use Rattle.term_values.specs.Ber.{most_depth};
 ghost use Rattle.term_values.specs.Octets.{number, integer_contents, integer_in};
 ghost use Rattle.term_values.specs.Tree.{TreeValue};

@@ -1,5 +1,5 @@
-//! Writes the values of which APDUs are made: X.690, section 8.1. Written backwards, the contents stand there when their
-//! length is written, so that no part goes from buffer to buffer.
+//! Writes the values of which APDUs are made: X.690, section 8.1. Written backwards, the contents stand there when
+//! their length is written, so that no part goes from buffer to buffer.
 #![tactic(auto, using(crate::proofs::Extending::extending))]
 
 ghost use Rattle.std.specs.Prelude.{◌≡◌, ◌++◌, OnOk, false, reverse};

@@ -1,6 +1,7 @@
 -- Lists of trees that are not of one or two.
 use Rattle.std.proofs.Common.{◌≡◌, ◌≤◌, ℕ, false, List, [], ◌∷◌, length, get_or, Option, None, refl, arith}
-use Rattle.term_values.specs.FilterTrees.{is_attribute_id, are_attribute_parts, is_one_attribute_id, is_one_item, is_one_filter}
+use Rattle.term_values.specs.FilterTrees.{is_attribute_id, are_attribute_parts, is_one_attribute_id, is_one_item}
+use Rattle.term_values.specs.FilterTrees.{is_one_filter}
 use Rattle.term_values.specs.Decoding.{one_in}
 use Rattle.term_values.specs.Tree.{TreeValue, listed}
 use Rattle.term_values.specs.Typed.{TypedValue}

@@ -1,10 +1,13 @@
 -- One member or one component more has been read.
-use Rattle.std.proofs.Common.{◌≡◌, ◌≤◌, ◌<◌, ◌+◌, ℕ, zero, suc, Bool, true, false, cond, not, length, drop, get_or, set, replicate, arith, List, [], ◌∷◌, ◌++◌, Option, None, Some, refl, ap, sym, ◌∙◌}
+use Rattle.std.proofs.Common.{◌≡◌, ◌≤◌, ◌<◌, ◌+◌, ℕ, zero, suc, Bool, true, false, cond, not, length, drop, get_or, set}
+use Rattle.std.proofs.Common.{replicate, arith, List, [], ◌∷◌, ◌++◌, Option, None, Some, refl, ap, sym, ◌∙◌}
 use Rattle.std.specs.Prelude.{option_map, option_and_then, if◌then◌else◌}
-use Rattle.ber_values.specs.Left.{slot_left_out, next_begins, values_before, slot_before, slots_before, left_of, slot_by, next_slot}
+use Rattle.ber_values.specs.Left.{slot_left_out, next_begins, values_before, slot_before, slots_before, left_of}
+use Rattle.ber_values.specs.Left.{slot_by, next_slot}
 use Rattle.term_values.specs.Beginnings.{begins}
 use Rattle.term_values.specs.Bounded.{allowed_size}
-use Rattle.term_values.specs.Decoding.{denoted, members_in, parts_in, unordered_in, left_out, taken_out, where_taken, picked_in}
+use Rattle.term_values.specs.Decoding.{denoted, members_in, parts_in, unordered_in, left_out, taken_out, where_taken}
+use Rattle.term_values.specs.Decoding.{picked_in}
 use Rattle.term_values.specs.Fits.{count}
 use Rattle.term_values.specs.LeafReading.{no_trees}
 use Rattle.term_values.specs.PartsView.{parts_listed}

@@ -1,12 +1,15 @@
 -- A stable sort by encodings gives the order that insertions give: X.690, section 11.6.
-use Rattle.std.proofs.Common.{◌≡◌, ◌≤◌, ◌<◌, ◌+◌, ℕ, zero, suc, Bool, true, false, cond, not, List, [], ◌∷◌, length, get_or, nat_cmp, is_lt, is_gt, Ordering, Less, Equal, Greater, refl, sym, ap, ◌∙◌, subst, ⊎_elim, true≢false, arith, filter, IsSorted}
+use Rattle.std.proofs.Common.{◌≡◌, ◌≤◌, ◌<◌, ◌+◌, ℕ, zero, suc, Bool, true, false, cond, not, List, [], ◌∷◌, length}
+use Rattle.std.proofs.Common.{get_or, nat_cmp, is_lt, is_gt, Ordering, Less, Equal, Greater, refl, sym, ap, ◌∙◌, subst}
+use Rattle.std.proofs.Common.{⊎_elim, true≢false, arith, filter, IsSorted}
 use Rattle.std.specs.Prelude.{◌&&◌}
 use Rattle.std.specs.Cmp.Lexicographic.{slice_cmp}
 use Rattle.std.specs.List.Sorted.{ties, IsStable}
 use Rattle.std.proofs.lemmas.Bool.{cases_Bool}
 use Rattle.std.proofs.lemmas.Cmp.{nat_list_cmp_total, tied_itself}
 use Rattle.term_values.specs.Rearranged.{may_precede}
-use Rattle.term_values.proofs.RisingLaws.{not_before, may_precede_itself, may_precede_back, may_precede_both, may_precede_through}
+use Rattle.term_values.proofs.RisingLaws.{not_before, may_precede_itself, may_precede_back, may_precede_both}
+use Rattle.term_values.proofs.RisingLaws.{may_precede_through}
 use Rattle.ber_values.specs.MemberOrder.{beside, members_of}
 use Rattle.ber_values.specs.declared.member_order.Member.{Member}
 use Rattle.term_values.specs.Decoding.{inserted_by, rising_by}

@@ -1,5 +1,7 @@
 -- One component of a SET more has been read.
-use Rattle.std.proofs.Common.{◌≡◌, ◌≤◌, ◌<◌, ◌+◌, ℕ, zero, suc, Bool, true, false, cond, not, length, take, drop, get_or, set, replicate, arith, take_all, List, [], ◌∷◌, ◌++◌, Option, None, Some, refl, ap, sym, ◌∙◌}
+use Rattle.std.proofs.Common.{◌≡◌, ◌≤◌, ◌<◌, ◌+◌, ℕ, zero, suc, Bool, true, false, cond, not, length, take, drop}
+use Rattle.std.proofs.Common.{get_or, set, replicate, arith, take_all, List, [], ◌∷◌, ◌++◌, Option, None, Some, refl}
+use Rattle.std.proofs.Common.{ap, sym, ◌∙◌}
 use Rattle.std.proofs.lemmas.List.{append-nil}
 use Rattle.std.specs.Prelude.{option_map, option_and_then}
 use Rattle.ber_values.specs.Left.{slot_left_out, slot_before, slots_before, left_of, slot_by, next_slot}

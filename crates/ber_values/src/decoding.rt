@@ -1,10 +1,12 @@
 //! The value of a syntax that a tree denotes: X.690, section 8.
 
-ghost use Rattle.std.specs.Prelude.{◌≡◌, ◌<◌, true, false, not, zero, IfOk, IfSome, IfNone, Err, Some, None, drop, length, get_or, set as list_set, option_map, option_and_then};
+ghost use Rattle.std.specs.Prelude.{◌≡◌, ◌<◌, true, false, not, zero, IfOk, IfSome, IfNone, Err, Some, None, drop};
+ghost use Rattle.std.specs.Prelude.{length, get_or, set as list_set, option_map, option_and_then};
 ghost use Rattle.ber_values.specs.Left.{slot_left_out, next_begins, left_of, next_slot};
 ghost use Rattle.ber_values.specs.declared.decode_refusal.DecodeRefusal.TheVariants.{Misfit};
 ghost use Rattle.term_values.specs.Beginnings.{begins};
-ghost use Rattle.term_values.specs.Decoding.{denoted, value_in, under, within, one_in, picked_in, parts_in, unordered_in, members_in, rising_by, sized_members, taken_out};
+ghost use Rattle.term_values.specs.Decoding.{denoted, value_in, under, within, one_in, picked_in, parts_in};
+ghost use Rattle.term_values.specs.Decoding.{unordered_in, members_in, rising_by, sized_members, taken_out};
 ghost use Rattle.term_values.specs.Der.{written};
 ghost use Rattle.term_values.specs.LeafReading.{no_trees};
 ghost use Rattle.term_values.specs.Syntaxes.TypeSyntax.{Any, Filter};

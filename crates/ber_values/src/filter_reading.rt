@@ -2,7 +2,9 @@
 
 ghost use Rattle.std.specs.Prelude.{◌≡◌, ◌&&◌, ◌||◌, IfOk, is_some};
 ghost use Rattle.ber_values.specs.Pieces.{is_piece};
-ghost use Rattle.term_values.specs.FilterTrees.{is_context, is_attribute_id, are_attribute_parts, are_pieces, is_one_attribute_id, is_assertion, is_item, is_one_item, is_filter, are_filters, is_one_filter};
+ghost use Rattle.term_values.specs.FilterTrees.{is_context, is_attribute_id, are_attribute_parts, are_pieces};
+ghost use Rattle.term_values.specs.FilterTrees.{is_one_attribute_id, is_assertion, is_item, is_one_item, is_filter};
+ghost use Rattle.term_values.specs.FilterTrees.{are_filters, is_one_filter};
 ghost use Rattle.term_values.specs.Oid.{oid_in};
 
 use crate::identifier_reading::read_oid;

@@ -2,8 +2,10 @@
 
 ghost use Rattle.std.specs.Prelude.{◌≡◌, IfOk};
 ghost use Rattle.term_values.specs.Decoding.{under};
-ghost use Rattle.term_values.specs.LeafReading.{truth_in, null_in, whole_in, named_in, bit_string_in, octet_string_in, identifier_in, text_in, time_in};
-ghost use Rattle.term_values.specs.UniversalTags.{boolean, integer, bit_string, octet_string, null, object_identifier, enumerated, generalized_time, text_tag};
+ghost use Rattle.term_values.specs.LeafReading.{truth_in, null_in, whole_in, named_in, bit_string_in, octet_string_in};
+ghost use Rattle.term_values.specs.LeafReading.{identifier_in, text_in, time_in};
+ghost use Rattle.term_values.specs.UniversalTags.{boolean, integer, bit_string, octet_string, null, object_identifier};
+ghost use Rattle.term_values.specs.UniversalTags.{enumerated, generalized_time, text_tag};
 
 use crate::identifier_reading::read_oid;
 use crate::string_reading::{read_bits, read_octets};

@@ -5,7 +5,8 @@
 ghost use Rattle.std.specs.Prelude.{◌≡◌, ◌++◌, ◌≤◌, ◌-◌, OnOk, reverse, length, false};
 ghost use Rattle.ber_tree.specs.Writing.{Extends};
 ghost use Rattle.term_values.specs.Der.{encoded, identifier_octets, length_octets};
-ghost use Rattle.term_values.specs.ValueContents.{truth_contents, whole_contents, bits_contents, octets_contents, identifier_contents, text_contents, time_contents, raw_octets};
+ghost use Rattle.term_values.specs.ValueContents.{truth_contents, whole_contents, bits_contents, octets_contents};
+ghost use Rattle.term_values.specs.ValueContents.{identifier_contents, text_contents, time_contents, raw_octets};
 
 use ber_tree::tree_writing::{
     reverse_from, write_backwards, write_header_backwards, write_integer_contents,

@@ -17,7 +17,8 @@ use Rattle.asn1_values_syntax.proofs.FirstTokens.{firsts, firsts_lead, quiet_whe
 use Rattle.asn1_values_syntax.proofs.Quiet.{Quiet}
 use Rattle.asn1_values_syntax.proofs.Values.{flip}
 use Rattle.extra_syntax.specs.SectionForms.{instance, is_reserved_label, packages, word}
-use Rattle.extra_syntax.specs.SectionEnds.{is_assignments_end, is_instance_start, is_on, is_packages, is_packages_end, is_step_end, is_steps_end, is_with, is_with_end}
+use Rattle.extra_syntax.specs.SectionEnds.{is_assignments_end, is_instance_start, is_on, is_packages, is_packages_end}
+use Rattle.extra_syntax.specs.SectionEnds.{is_step_end, is_steps_end, is_with, is_with_end}
 
 -- a sign with which no value begins or goes on
 step_end_sign : (text : List ℕ) → ((at : ℕ) → is_sign_of text (token_of 5 at (codes ":")) ≡ false) →

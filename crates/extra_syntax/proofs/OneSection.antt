@@ -3,7 +3,8 @@ use Rattle.std.proofs.Common.{ap}
 use Rattle.token_grammar.specs.Form.{Tree, Leaf}
 use Rattle.token_grammar.specs.Parts.{vector_tree}
 use Rattle.token_grammar.specs.PartLaws.{OneValue, OneValueBy}
-use Rattle.token_grammar.proofs.Values.{first_not_second, first_same, leaf_same, lists_agree, numbered_same, one_list, one_token, options_agree, pair_same, second_not_first, second_same}
+use Rattle.token_grammar.proofs.Values.{first_not_second, first_same, leaf_same, lists_agree, numbered_same, one_list}
+use Rattle.token_grammar.proofs.Values.{one_token, options_agree, pair_same, second_not_first, second_same}
 use Rattle.asn1_values_syntax.specs.Agreement.{ValuesAgree}
 use Rattle.asn1_values_syntax.specs.ValueTrees.{value_tree}
 use Rattle.asn1_values_syntax.proofs.OneValue.{values_agree}
@@ -11,8 +12,13 @@ use Rattle.extra_syntax.specs.declared.step.Reply.TheVariants.{Value, Label}
 use Rattle.extra_syntax.specs.declared.step.Step.TheVariants.{Set as SSet, Add, Emit, Reply as SReply}
 use Rattle.extra_syntax.specs.declared.instance.InstanceKind.TheVariants.{Root, Object}
 use Rattle.extra_syntax.specs.declared.section.Section.TheVariants.{Rules, Instances}
-use Rattle.extra_syntax.specs.SectionTrees.{add_tree, assignment_tree, emit_tree, instance_tree, instances_tree, kind_tree, packages_tree, reply_tree, rule_tree, rules_tree, section_tree, set_tree, step_tree, with_tree}
-use Rattle.extra_syntax.specs.Agreement.{AssignmentsAgree, EmitStepsAgree, InstanceSectionsAgree, InstancesAgree, RepliesAgree, RuleSectionsAgree, RulesAgree, SectionsAgree, SetStepsAgree, StepsAgree, VectorsAgree, VectorsEqual, two_adds, two_emits, two_instances, two_labels, two_replies, two_rules, two_sets, two_values}
+use Rattle.extra_syntax.specs.SectionTrees.{add_tree, assignment_tree, emit_tree, instance_tree, instances_tree}
+use Rattle.extra_syntax.specs.SectionTrees.{kind_tree, packages_tree, reply_tree, rule_tree, rules_tree, section_tree}
+use Rattle.extra_syntax.specs.SectionTrees.{set_tree, step_tree, with_tree}
+use Rattle.extra_syntax.specs.Agreement.{AssignmentsAgree, EmitStepsAgree, InstanceSectionsAgree, InstancesAgree}
+use Rattle.extra_syntax.specs.Agreement.{RepliesAgree, RuleSectionsAgree, RulesAgree, SectionsAgree, SetStepsAgree}
+use Rattle.extra_syntax.specs.Agreement.{StepsAgree, VectorsAgree, VectorsEqual, two_adds, two_emits, two_instances}
+use Rattle.extra_syntax.specs.Agreement.{two_labels, two_replies, two_rules, two_sets, two_values}
 
 vectors_agree : {X : Type 0} (agree : X → X → Type 0) (view : X → Tree) → OneValueBy agree view → OneValueBy
     (VectorsAgree agree) (vector_tree view)

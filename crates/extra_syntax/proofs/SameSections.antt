@@ -10,8 +10,13 @@ use Rattle.asn1_values_syntax.proofs.OneTree.{values_alike}
 use Rattle.extra_syntax.specs.declared.step.Reply.{Reply}
 use Rattle.extra_syntax.specs.declared.step.Step.{Step}
 use Rattle.extra_syntax.specs.declared.section.Section.{Section}
-use Rattle.extra_syntax.specs.SectionTrees.{add_tree, assignment_tree, emit_tree, instance_tree, instances_tree, kind_tree, packages_tree, reply_tree, rule_head_parts, rule_tree, rules_tree, section_tree, set_tree, step_tree, with_tree}
-use Rattle.extra_syntax.specs.Agreement.{AssignmentsAgree, EmitStepsAgree, InstanceSectionsAgree, InstancesAgree, RepliesAgree, RuleSectionsAgree, RulesAgree, SectionsAgree, SetStepsAgree, StepsAgree, VectorsAgree, VectorsEqual, two_adds, two_emits, two_instances, two_labels, two_replies, two_rules, two_sets, two_values}
+use Rattle.extra_syntax.specs.SectionTrees.{add_tree, assignment_tree, emit_tree, instance_tree, instances_tree}
+use Rattle.extra_syntax.specs.SectionTrees.{kind_tree, packages_tree, reply_tree, rule_head_parts, rule_tree}
+use Rattle.extra_syntax.specs.SectionTrees.{rules_tree, section_tree, set_tree, step_tree, with_tree}
+use Rattle.extra_syntax.specs.Agreement.{AssignmentsAgree, EmitStepsAgree, InstanceSectionsAgree, InstancesAgree}
+use Rattle.extra_syntax.specs.Agreement.{RepliesAgree, RuleSectionsAgree, RulesAgree, SectionsAgree, SetStepsAgree}
+use Rattle.extra_syntax.specs.Agreement.{StepsAgree, VectorsAgree, VectorsEqual, two_adds, two_emits, two_instances}
+use Rattle.extra_syntax.specs.Agreement.{two_labels, two_replies, two_rules, two_sets, two_values}
 
 vectors_alike : {X : Type 0} (agree : X → X → Type 0) (view : X → Tree) → OneTreeBy agree view → OneTreeBy
     (VectorsAgree agree) (vector_tree view)

@@ -2,8 +2,10 @@
 use Rattle.std.proofs.Common.{◌≡◌, true, false, List, [], ◌∷◌, refl, codes}
 use Rattle.token_grammar.specs.declared.token.Token.{Token}
 use Rattle.token_grammar.specs.Kinds.{word_kind, number_kind, sign_kind}
-use Rattle.token_grammar.specs.Form.{Named, Tree, Bare, Leaf, Pair, First, Second, Absent, Present, Empty, After, Numbered}
-use Rattle.token_grammar.specs.Spelling.{Spells, no_marks, marks, keep, both, first, second, absent, present, last, no_more, another, named}
+use Rattle.token_grammar.specs.Form.{Named, Tree, Bare, Leaf, Pair, First, Second, Absent, Present, Empty, After}
+use Rattle.token_grammar.specs.Form.{Numbered}
+use Rattle.token_grammar.specs.Spelling.{Spells, no_marks, marks, keep, both, first, second, absent, present, last}
+use Rattle.token_grammar.specs.Spelling.{no_more, another, named}
 use Rattle.token_grammar.specs.TokenTests.{is_name}
 use Rattle.token_grammar.proofs.Known.{token_of}
 use Rattle.extra_syntax.specs.SectionForms.{instance_sections, is_reserved_label, section, sections}

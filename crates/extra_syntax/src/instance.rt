@@ -6,9 +6,11 @@ ghost use Rattle.token_grammar.specs.Outcome.{Reads, closed};
 ghost use Rattle.token_grammar.specs.Parts.{optional_tree, vector_tree};
 ghost use Rattle.asn1_values_syntax.specs.Asn1.{asn1};
 ghost use Rattle.asn1_values_syntax.specs.ValueForms.{comma};
-ghost use Rattle.extra_syntax.specs.SectionForms.{instance, instance_head, instance_kind, labels, packages, with_values};
+ghost use Rattle.extra_syntax.specs.SectionForms.{instance, instance_head, instance_kind, labels, packages};
+ghost use Rattle.extra_syntax.specs.SectionForms.{with_values};
 ghost use Rattle.extra_syntax.specs.SectionEnds.{is_packages_end, is_with_end};
-ghost use Rattle.extra_syntax.specs.SectionTrees.{instance_head_tree, instance_tree, kind_tree, packages_tree, with_tree};
+ghost use Rattle.extra_syntax.specs.SectionTrees.{instance_head_tree, instance_tree, kind_tree, packages_tree};
+ghost use Rattle.extra_syntax.specs.SectionTrees.{with_tree};
 
 use super::assignment::{Assignment, read_assignments, read_instance_name};
 use std::alloc::Global;

@@ -8,9 +8,11 @@ ghost use Rattle.token_grammar.specs.Spelling.{passes};
 ghost use Rattle.asn1_values_syntax.specs.Asn1.{asn1};
 ghost use Rattle.asn1_values_syntax.specs.ValueForms.{colon, values};
 ghost use Rattle.asn1_values_syntax.specs.ValueTrees.{value_tree};
-ghost use Rattle.extra_syntax.specs.SectionForms.{add_step, emit_step, is_reserved_label, reply, reply_step, set_step, step};
+ghost use Rattle.extra_syntax.specs.SectionForms.{add_step, emit_step, is_reserved_label, reply, reply_step, set_step};
+ghost use Rattle.extra_syntax.specs.SectionForms.{step};
 ghost use Rattle.extra_syntax.specs.SectionEnds.{is_step_end};
-ghost use Rattle.extra_syntax.specs.SectionTrees.{add_tree, emit_tree, reply_step_tree, reply_tree, set_tree, step_tree};
+ghost use Rattle.extra_syntax.specs.SectionTrees.{add_tree, emit_tree, reply_step_tree, reply_tree, set_tree};
+ghost use Rattle.extra_syntax.specs.SectionTrees.{step_tree};
 
 use asn1_values_syntax::value::{ValueText, read_value};
 use std::alloc::Global;

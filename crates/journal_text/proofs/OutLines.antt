@@ -1,5 +1,6 @@
 -- The lines of associations, one more at the end.
-use Rattle.std.proofs.Common.{◌≡◌, ℕ, ◌+◌, ◌<◌, List, [], ◌∷◌, ◌++◌, length, take, get_or, length-take, refl, ap, ◌∙◌, sym, append_assoc, arith}
+use Rattle.std.proofs.Common.{◌≡◌, ℕ, ◌+◌, ◌<◌, List, [], ◌∷◌, ◌++◌, length, take, get_or, length-take, refl, ap, ◌∙◌}
+use Rattle.std.proofs.Common.{sym, append_assoc, arith}
 use Rattle.std.proofs.lemmas.List.{take_more}
 use Rattle.std.specs.Prelude.{codes}
 use Rattle.term_model.specs.declared.agent_state.Association.{Association}
@@ -23,7 +24,8 @@ out_lines-push number (x ∷ front) a =
     ∙ (sym (append_assoc (text number x) (out_lines (number + 1) front) (text ((number + 1) + length front) a))
     ∙ ap (λ n. (text number x ++ out_lines (number + 1) front) ++ text n a) there)
 
-pub out_lines-more : (number : ℕ) (all : List Association) (i : ℕ) (a : Association) → i < length all → a ≡ get_or all i a →
+pub out_lines-more : (number : ℕ) (all : List Association) (i : ℕ) (a : Association) → i < length all
+    → a ≡ get_or all i a →
     out_lines number (take (i + 1) all) ≡ out_lines number (take i all) ++ text (number + i) a
 out_lines-more number all i a within same =
     let counted : length (take i all) ≡ i = omega (arith, length-take i all) in

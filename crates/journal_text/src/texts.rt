@@ -2,7 +2,8 @@
 
 ghost use Rattle.std.specs.Prelude.{◌≡◌, ◌∷◌, ◌++◌, IfOk, OnOk, codes, decimal};
 ghost use Rattle.hex.specs.Hex.{encode_upper};
-ghost use Rattle.term_model.specs.Texts.{cause_text, placed_text, line, line_feed, two_words, one_word, journal_text, out_lines, objects_line, outs, separator};
+ghost use Rattle.term_model.specs.Texts.{cause_text, placed_text, line, line_feed, two_words, one_word, journal_text};
+ghost use Rattle.term_model.specs.Texts.{out_lines, objects_line, outs, separator};
 
 use itoa::Buffer;
 use std::alloc::{AllocError, Global};
@@ -88,7 +89,8 @@ fn write_cause(cause: &Why, into: &mut Vec<u8>) -> Result<(), AllocError>
 }
 
 fn write_closed(number: u64, cause: &Why, into: &mut Vec<u8>) -> Result<(), AllocError>
-    ensures { OnOk result (into.new.items ≡ into.old.items ++ two_words (codes "closed ") number (cause_text cause.now)) }
+    ensures { OnOk result (into.new.items ≡ into.old.items
+        ++ two_words (codes "closed ") number (cause_text cause.now)) }
 {
     into.extend_from_slice(b"closed ")?;
     write_decimal(number, into)?;
@@ -141,7 +143,8 @@ fn write_out_line(
     association: &Association,
     into: &mut Vec<u8>,
 ) -> Result<(), AllocError>
-    ensures { OnOk result (into.new.items ≡ into.old.items ++ two_words (codes "out ") number (placed_text association.now.placed)) }
+    ensures { OnOk result (into.new.items ≡ into.old.items
+        ++ two_words (codes "out ") number (placed_text association.now.placed)) }
 {
     let placed = association.placed.as_slice();
     into.extend_from_slice(b"out ")?;

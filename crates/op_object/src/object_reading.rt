@@ -6,7 +6,8 @@ ghost use Rattle.std.specs.Prelude.{◌≡◌, ◌++◌, IfOk, OnOk, flat_map, m
 ghost use Rattle.ber_tree.specs.Writing.{Extends};
 ghost use Rattle.term_values.specs.Rearranged.{joined, rising};
 ghost use Rattle.term_model.specs.GetRequest.{assertion_octets, class_octets, instance_octets, rdn_octets};
-ghost use Rattle.term_model.specs.ObjectOperation.{attribute_octets, attributes_octets, get_one, readable, time_octets, value_octets};
+ghost use Rattle.term_model.specs.ObjectOperation.{attribute_octets, attributes_octets, get_one, readable, time_octets};
+ghost use Rattle.term_model.specs.ObjectOperation.{value_octets};
 
 use crate::property_lists::readable_attributes;
 use ber_tree::tree_writing::{reverse_from, write_backwards, write_header_backwards};
@@ -211,7 +212,8 @@ fn write_result_contents(
     Ok(())
 }
 
-/// Appends the GetResult of an object, granted at the moment that `time` tells as GeneralizedTime, the last octet first.
+/// Appends the GetResult of an object, granted at the moment that `time` tells as GeneralizedTime, the last octet
+/// first.
 fn write_result(
     alloc: Global,
     schema: &Set,

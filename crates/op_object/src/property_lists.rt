@@ -49,7 +49,8 @@ pub fn readable_attributes(
     schema: &Set,
     class: &Oid,
 ) -> Result<BTreeSet<Oid>, AllocError>
-    ensures { IfOk result (λ ids. (q : List ℕ) → contains (slice_cmp nat_cmp) ids q ≡ is_readable schema.now class.now q) }
+    ensures { IfOk result (λ ids. (q : List ℕ)
+        → contains (slice_cmp nat_cmp) ids q ≡ is_readable schema.now class.now q) }
 {
     let mut ids = BTreeSet::new(alloc);
     if let Some(record) = schema.classes.find(class) {

@@ -1,5 +1,6 @@
 -- The front of a document has been read: what the loop of `lex` keeps, and one step of it.
-use Rattle.std.proofs.Common.{◌≡◌, ℕ, ◌≤◌, Bool, false, List, [], ◌∷◌, ◌++◌, length, reverse, refl, sym, ap, subst, arith, ◌∙◌, append_assoc}
+use Rattle.std.proofs.Common.{◌≡◌, ℕ, ◌≤◌, Bool, false, List, [], ◌∷◌, ◌++◌, length, reverse, refl, sym, ap, subst}
+use Rattle.std.proofs.Common.{arith, ◌∙◌, append_assoc}
 use Rattle.std.proofs.lemmas.List.{append-nil}
 use Rattle.text_lex.specs.Pieces.{IsGap, IsFault}
 use Rattle.text_lex.specs.Lexed.{announces, IsToken, Lexed, Breaks, AreTokensOf}
@@ -21,9 +22,16 @@ pub read_none : (text : List ℕ) (tokens : List Token) → tokens ≡ [] → Is
 unfolding announces
 read_none text tokens none_read =
     let P : List Token → Type 0 = λ ts. IsRead text ts false 0 in
-    subst P (sym none_read) (record { within = omega arith; announced_is = refl; lexed = λ rest r. r; breaks = λ place kind b. b })
+    subst P (sym none_read) (record {
+      within = omega arith;
+      announced_is = refl;
+      lexed = λ rest r. r;
+      breaks =
+          λ place kind b. b;
+    })
 
-pub read_gap : (text : List ℕ) (tokens : List Token) (announced : Bool) (i k : ℕ) → IsRead text tokens announced i → IsGap text announced i k → k ≤ length text → IsRead text tokens announced k
+pub read_gap : (text : List ℕ) (tokens : List Token) (announced : Bool) (i k : ℕ) → IsRead text tokens announced i
+    → IsGap text announced i k → k ≤ length text → IsRead text tokens announced k
 read_gap text tokens announced i k read g within =
     let there = subst (λ a. IsGap text a i k) read.announced_is g in
     record {
@@ -33,7 +41,9 @@ read_gap text tokens announced i k read g within =
       breaks = λ place kind b. read.breaks place kind (past_gap there b);
     }
 
-pub read_token : (text : List ℕ) (tokens more : List Token) (announced after : Bool) (i k : ℕ) (next : Token) → IsRead text tokens announced i → IsToken text announced i k next → k ≤ length text → more ≡ tokens ++ next ∷ [] → after ≡ announces (reverse more) → IsRead text more after k
+pub read_token : (text : List ℕ) (tokens more : List Token) (announced after : Bool) (i k : ℕ) (next : Token)
+    → IsRead text tokens announced i → IsToken text announced i k next → k ≤ length text → more ≡ tokens ++ next ∷ []
+    → after ≡ announces (reverse more) → IsRead text more after k
 read_token text tokens more announced after i k next read one within pushed after_is =
     let there = subst (λ a. IsToken text a i k next) read.announced_is one in
     let turned = ap reverse pushed ∙ reverse_push tokens next in
@@ -42,16 +52,21 @@ read_token text tokens more announced after i k next read one within pushed afte
       announced_is = after_is;
       lexed = λ rest r.
           let joined = ap (λ ts. ts ++ rest) pushed ∙ append_assoc tokens (next ∷ []) rest in
-          subst (λ ts. Lexed text [] 0 ts) (sym joined) (read.lexed (next ∷ rest) (token there (subst (λ b. Lexed text b k rest) turned r)));
-      breaks = λ place kind b. read.breaks place kind (past_token there (subst (λ ts. Breaks text ts k place kind) turned b));
+          subst (λ ts. Lexed text [] 0 ts) (sym joined)
+          (read.lexed (next ∷ rest) (token there (subst (λ b. Lexed text b k rest) turned r)));
+      breaks = λ place kind b. read.breaks place kind
+          (past_token there (subst (λ ts. Breaks text ts k place kind) turned b));
     }
 
-pub read_all : (text : List ℕ) (tokens : List Token) (announced : Bool) (i : ℕ) → IsRead text tokens announced i → length text ≤ i → AreTokensOf text tokens
+pub read_all : (text : List ℕ) (tokens : List Token) (announced : Bool) (i : ℕ) → IsRead text tokens announced i
+    → length text ≤ i → AreTokensOf text tokens
 read_all text tokens announced i read past =
     let end : i ≡ length text = omega (arith, read.within) in
     subst (λ ts. Lexed text [] 0 ts) (append-nil tokens) (read.lexed [] (ended end))
 
-pub read_fault : (text : List ℕ) (tokens : List Token) (announced : Bool) (i : ℕ) (kind : LexKind) → IsRead text tokens announced i → IsFault text announced i kind → Breaks text [] 0 i kind × ((all : List Token) → ¬ AreTokensOf text all)
+pub read_fault : (text : List ℕ) (tokens : List Token) (announced : Bool) (i : ℕ) (kind : LexKind)
+    → IsRead text tokens announced i → IsFault text announced i kind → Breaks text [] 0 i kind
+    × ((all : List Token) → ¬ AreTokensOf text all)
 read_fault text tokens announced i kind read fault =
     let there = subst (λ a. IsFault text a i kind) read.announced_is fault in
     let broken = read.breaks i kind (here refl there) in

@@ -32,7 +32,8 @@ other_delimiter = refl
 
 -- the comment of `--b--c` ends before the c
 comment_example : CommentRest (codes "--b--c") 2 5
-comment_example = comment_octet (lit< tt) (λ h. absurd (let first = h.0 in omega arith)) (λ h. omega arith) (hyphens (refl, refl) refl)
+comment_example = comment_octet (lit< tt) (λ h. absurd (let first = h.0 in omega arith)) (λ h. omega arith)
+    (hyphens (refl, refl) refl)
 
 -- `a-b` is a word, and its hyphen is single
 word_example : WordRest (codes "a-b;") 1 3
@@ -41,7 +42,9 @@ word_example = word_hyphen refl refl (word_ends refl)
 
 -- `"a""b"` is one string of six octets
 string_example : StringRest (codes "\"a\"\"b\"") quotation_octet 1 6
-string_example = string_octet (lit< tt) (λ h. omega arith) (doubled (lit< tt) refl refl (string_octet (lit< tt) (λ h. omega arith) (string_ends (lit< tt) refl (λ h. omega arith) refl)))
+string_example = string_octet (lit< tt) (λ h. omega arith)
+    (doubled (lit< tt) refl refl
+    (string_octet (lit< tt) (λ h. omega arith) (string_ends (lit< tt) refl (λ h. omega arith) refl)))
 
 -- `::=` is a sign
 sign_example : IsSign (codes "a::=b") 1 4
@@ -96,7 +99,9 @@ last_token = record {
 }
 
 between : (announced : Bool) → IsGap text announced 1 6
-between announced = comment (refl, refl) (comment_octet (lit< tt) (λ h. absurd (let first = h.0 in omega arith)) (λ h. omega arith) (hyphens (refl, refl) refl))
+between announced = comment (refl, refl)
+    (comment_octet (lit< tt) (λ h. absurd (let first = h.0 in omega arith)) (λ h. omega arith)
+    (hyphens (refl, refl) refl))
 
 tokens_example : AreTokensOf text (first_word ∷ (last_word ∷ []))
 unfolding announces is_word

@@ -12,4 +12,5 @@ pub data CommentRest (text : List ℕ) : ℕ → ℕ → Type 0 where
   hyphens : {i k : ℕ} → AreHyphens text i → k ≡ i + 2 → CommentRest text i k
   line_end : {i k : ℕ} → slice_index text i ≡ line_feed_octet → k ≡ i → CommentRest text i k
   text_end : {i k : ℕ} → i ≡ length text → k ≡ i → CommentRest text i k
-  octet : {i k : ℕ} → i < length text → ¬ AreHyphens text i → slice_index text i ≢ line_feed_octet → CommentRest text (i + 1) k → CommentRest text i k
+  octet : {i k : ℕ} → i < length text → ¬ AreHyphens text i → slice_index text i ≢ line_feed_octet
+      → CommentRest text (i + 1) k → CommentRest text i k

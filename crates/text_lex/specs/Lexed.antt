@@ -1,5 +1,6 @@
 -- The tokens of a document and its first fault: X.722, section 8.2; X.680, section 12.
-use Rattle.std.specs.Prelude.{◌≡◌, ℕ, Bool, false, ◌==◌, ◌&&◌, ◌||◌, List, [], ◌∷◌, length, slice_range, codes, bytes_eq}
+use Rattle.std.specs.Prelude.{◌≡◌, ℕ, Bool, false, ◌==◌, ◌&&◌, ◌||◌, List, [], ◌∷◌, length, slice_range, codes}
+use Rattle.std.specs.Prelude.{bytes_eq}
 use Rattle.token_grammar.specs.declared.token.Token.{Token}
 use Rattle.token_grammar.specs.Kinds.{word_kind}
 use Rattle.text_lex.specs.declared.lex_refusal.LexKind.{LexKind}
@@ -29,14 +30,21 @@ pub record IsToken (text : List ℕ) (announced : Bool) (i k : ℕ) (token : Tok
 -- between and behind them; `before`: the tokens before i, the nearest first
 pub data Lexed (text : List ℕ) : List Token → ℕ → List Token → Type 0 where
   ended : {before : List Token} {i : ℕ} → i ≡ length text → Lexed text before i []
-  gap : {before : List Token} {i k : ℕ} {tokens : List Token} → IsGap text (announces before) i k → Lexed text before k tokens → Lexed text before i tokens
-  token : {before : List Token} {i k : ℕ} {first : Token} {tokens : List Token} → IsToken text (announces before) i k first → Lexed text (first ∷ before) k tokens → Lexed text before i (first ∷ tokens)
+  gap : {before : List Token} {i k : ℕ} {tokens : List Token} → IsGap text (announces before) i k
+      → Lexed text before k tokens → Lexed text before i tokens
+  token : {before : List Token} {i k : ℕ} {first : Token} {tokens : List Token}
+      → IsToken text (announces before) i k first → Lexed text (first ∷ before) k tokens
+      → Lexed text before i (first ∷ tokens)
 
 -- behind tokens, white space and comments from i on the text goes on with none of them at `place`
 pub data Breaks (text : List ℕ) : List Token → ℕ → ℕ → LexKind → Type 0 where
-  here : {before : List Token} {i place : ℕ} {kind : LexKind} → place ≡ i → IsFault text (announces before) i kind → Breaks text before i place kind
-  gap : {before : List Token} {i k place : ℕ} {kind : LexKind} → IsGap text (announces before) i k → Breaks text before k place kind → Breaks text before i place kind
-  token : {before : List Token} {i k place : ℕ} {kind : LexKind} {first : Token} → IsToken text (announces before) i k first → Breaks text (first ∷ before) k place kind → Breaks text before i place kind
+  here : {before : List Token} {i place : ℕ} {kind : LexKind} → place ≡ i → IsFault text (announces before) i kind
+      → Breaks text before i place kind
+  gap : {before : List Token} {i k place : ℕ} {kind : LexKind} → IsGap text (announces before) i k
+      → Breaks text before k place kind → Breaks text before i place kind
+  token : {before : List Token} {i k place : ℕ} {kind : LexKind} {first : Token}
+      → IsToken text (announces before) i k first → Breaks text (first ∷ before) k place kind
+      → Breaks text before i place kind
 
 abbrev pub AreTokensOf : List ℕ → List Token → Type 0
 AreTokensOf text tokens = Lexed text [] 0 tokens

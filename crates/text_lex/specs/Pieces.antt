@@ -4,7 +4,8 @@ use Rattle.text_lex.specs.Octets.{start_of}
 use Rattle.text_lex.specs.Comments.{AreHyphens, CommentRest}
 use Rattle.text_lex.specs.Lexemes.{Spells}
 use Rattle.text_lex.specs.declared.lexing_octets.Start.{Start}
-use Rattle.text_lex.specs.declared.lexing_octets.Start.TheVariants.{Blank, Delimiter, Letter, Digit, Apostrophe, Sign, Nothing}
+use Rattle.text_lex.specs.declared.lexing_octets.Start.TheVariants.{Blank, Delimiter, Letter, Digit, Apostrophe, Sign}
+use Rattle.text_lex.specs.declared.lexing_octets.Start.TheVariants.{Nothing}
 use Rattle.text_lex.specs.declared.lex_refusal.LexKind.{LexKind}
 use Rattle.text_lex.specs.declared.lex_refusal.LexKind.TheVariants.{BadByte, OpenString, BadNumber, BadBits}
 use Rattle.text_lex.specs.declared.lexing_pieces.Piece.{Piece}
@@ -47,4 +48,6 @@ IsPiece text announced i (Wrong kind) = IsFault text announced i kind
 
 -- the same where no comment begins and the octet begins this
 abbrev pub IsPieceFrom : Start → List ℕ → ℕ → Piece → Type 0
-IsPieceFrom start text i piece = (announced : Bool) → ¬ AreHyphens text i → start_of announced (slice_index text i) ≡ start → IsPiece text announced i piece
+IsPieceFrom start text i piece =
+    (announced : Bool) → ¬ AreHyphens text i → start_of announced (slice_index text i) ≡ start
+    → IsPiece text announced i piece

@@ -1,5 +1,6 @@
 -- Components in any order, and alternatives, are found by their tags: X.680, sections 26.3 and 28.3.
-use Rattle.std.proofs.Common.{◌≡◌, Bool, true, false, Option, Some, None, refl, ap, sym, ◌∙◌, subst, ℕ, suc, zero, ◌+◌, List, [], ◌∷◌, inl, inr, arith}
+use Rattle.std.proofs.Common.{◌≡◌, Bool, true, false, Option, Some, None, refl, ap, sym, ◌∙◌, subst, ℕ, suc, zero, ◌+◌}
+use Rattle.std.proofs.Common.{List, [], ◌∷◌, inl, inr, arith}
 use Rattle.std.proofs.lemmas.Bool.{and_parts}
 use Rattle.term_values.specs.Beginnings.{first_tags, has_tag}
 use Rattle.term_values.specs.Decoding.{picked_in, unordered_in, taken_out}

@@ -1,17 +1,20 @@
 -- A tree that denotes a value of a syntax whose tags are clear is read as one: X.690, section 8.
-use Rattle.std.proofs.Common.{◌≡◌, Bool, true, false, not, ◌==◌, Option, Some, None, refl, ap, sym, ◌∙◌, subst, ℕ, suc, zero, ◌+◌, ◌&&◌, ◌||◌, List, [], ◌∷◌, length, map, arith, inl, inr, ℤ}
+use Rattle.std.proofs.Common.{◌≡◌, Bool, true, false, not, ◌==◌, Option, Some, None, refl, ap, sym, ◌∙◌, subst, ℕ, suc}
+use Rattle.std.proofs.Common.{zero, ◌+◌, ◌&&◌, ◌||◌, List, [], ◌∷◌, length, map, arith, inl, inr, ℤ}
 use Rattle.std.specs.List.{list_all}
 use Rattle.std.specs.Prelude.{option_map, option_and_then, is_some}
 use Rattle.std.proofs.lemmas.Bool.{and_parts, and_from}
 use Rattle.term_values.proofs.OidLaws.{oid_read}
 use Rattle.term_values.specs.Beginnings.{begins, first_tags, has_tag, parts_tags}
 use Rattle.term_values.specs.Bounded.{allowed, allowed_size, bit_count, is_named, has_character}
-use Rattle.term_values.specs.Decoding.{denoted, parts_in, unordered_in, members_in, rising_by, one_in, within, sized_members}
+use Rattle.term_values.specs.Decoding.{denoted, parts_in, unordered_in, members_in, rising_by, one_in, within}
+use Rattle.term_values.specs.Decoding.{sized_members}
 use Rattle.term_values.specs.Denotes.{DenotesAs, PartsDenote, PickDenotes, AllDenote, IsWhole, Holds}
 use Rattle.term_values.specs.Der.{written}
 use Rattle.term_values.specs.FilterTrees.{is_filter, is_context, is_one_item, are_filters, is_one_filter}
 use Rattle.term_values.specs.Fits.{count}
-use Rattle.term_values.specs.LeafReading.{where_it, contents_in, truth_in, null_in, whole_in, named_in, bit_string_in, octet_string_in, identifier_in, text_in, time_in}
+use Rattle.term_values.specs.LeafReading.{where_it, contents_in, truth_in, null_in, whole_in, named_in, bit_string_in}
+use Rattle.term_values.specs.LeafReading.{octet_string_in, identifier_in, text_in, time_in}
 use Rattle.term_values.specs.Octets.{integer_in}
 use Rattle.term_values.specs.Rearranged.{IsRearrangement, IsRising}
 use Rattle.term_values.specs.Soundness.{has_clear_tags, have_clear_tags, are_all_apart, are_runs_apart, has_own_tag}
@@ -25,10 +28,12 @@ use Rattle.term_values.specs.Tree.{TreeValue, TreeValues, listed as trees_listed
 use Rattle.term_values.specs.Tree.TreeValue.{Primitive, Constructed}
 use Rattle.term_values.specs.TreeTags.{tag_of, due}
 use Rattle.term_values.specs.Typed.{TypedValue, TypedSlots, TypedValues, listed}
-use Rattle.term_values.specs.Typed.TypedValue.{Truth, Int, Bits, Octets, Null, Identifier, Text, Time, Parts, Many, Pick, Raw}
+use Rattle.term_values.specs.Typed.TypedValue.{Truth, Int, Bits, Octets, Null, Identifier, Text, Time, Parts, Many}
+use Rattle.term_values.specs.Typed.TypedValue.{Pick, Raw}
 use Rattle.term_values.specs.Typed.TypedSlots.{NoSlots, Filled, Empty}
 use Rattle.term_values.specs.Typed.TypedValues.{Nothing, Then}
-use Rattle.term_values.specs.UniversalTags.{boolean, integer, bit_string, octet_string, null, object_identifier, enumerated}
+use Rattle.term_values.specs.UniversalTags.{boolean, integer, bit_string, octet_string, null, object_identifier}
+use Rattle.term_values.specs.UniversalTags.{enumerated}
 use Rattle.term_values.specs.UniversalTags.{sequence, set, generalized_time, text_tag}
 use Rattle.term_values.specs.Written.{der}
 use Rattle.term_values.specs.declared.tag.Tag.{Tag}

@@ -1,15 +1,18 @@
 -- The value that is read from a tree is one that the tree denotes: X.690, section 8.
-use Rattle.std.proofs.Common.{◌≡◌, ◌⊎◌, Bool, true, false, cond, Option, Some, None, refl, ap, sym, ◌∙◌, subst, ℕ, suc, zero, ◌+◌, List, [], ◌∷◌, length, map, arith, inl, inr}
+use Rattle.std.proofs.Common.{◌≡◌, ◌⊎◌, Bool, true, false, cond, Option, Some, None, refl, ap, sym, ◌∙◌, subst, ℕ, suc}
+use Rattle.std.proofs.Common.{zero, ◌+◌, List, [], ◌∷◌, length, map, arith, inl, inr}
 use Rattle.std.specs.Prelude.{option_map, option_and_then, is_some}
 use Rattle.std.proofs.lemmas.Option.{none-some, same_Some}
 use Rattle.term_values.specs.Beginnings.{begins}
 use Rattle.term_values.specs.Bounded.{allowed, allowed_size, is_named}
-use Rattle.term_values.specs.Decoding.{denoted, picked_in, parts_in, unordered_in, members_in, rising_by, left_out, inside_of, one_in, within, sized_members, taken_out, where_taken}
+use Rattle.term_values.specs.Decoding.{denoted, picked_in, parts_in, unordered_in, members_in, rising_by, left_out}
+use Rattle.term_values.specs.Decoding.{inside_of, one_in, within, sized_members, taken_out, where_taken}
 use Rattle.term_values.specs.Denotes.{DenotesAs, PartsDenote, PickDenotes, PresentHolds, AbsentHolds, Holds}
 use Rattle.term_values.specs.Der.{written}
 use Rattle.term_values.specs.FilterTrees.{is_filter}
 use Rattle.term_values.specs.Fits.{count}
-use Rattle.term_values.specs.LeafReading.{truth_in, null_in, whole_in, named_in, bit_string_in, octet_string_in, identifier_in, text_in, time_in}
+use Rattle.term_values.specs.LeafReading.{truth_in, null_in, whole_in, named_in, bit_string_in, octet_string_in}
+use Rattle.term_values.specs.LeafReading.{identifier_in, text_in, time_in}
 use Rattle.term_values.specs.Rearranged.{IsRearrangement, IsRising}
 use Rattle.term_values.specs.Syntaxes.{Bounds, TypeSyntax, TypeParts}
 use Rattle.term_values.specs.Syntaxes.TypeSyntax.{Boolean, Integer, Enumerated, BitString, OctetString, NullType}
@@ -23,14 +26,17 @@ use Rattle.term_values.specs.TreeTags.{tag_of, due}
 use Rattle.term_values.specs.Typed.{TypedValue, TypedSlots, TypedValues, listed}
 use Rattle.term_values.specs.Typed.TypedValue.{Parts, Many, Pick, Raw}
 use Rattle.term_values.specs.Typed.TypedSlots.{NoSlots, Filled, Empty}
-use Rattle.term_values.specs.UniversalTags.{boolean, integer, bit_string, octet_string, null, object_identifier, enumerated}
+use Rattle.term_values.specs.UniversalTags.{boolean, integer, bit_string, octet_string, null, object_identifier}
+use Rattle.term_values.specs.UniversalTags.{enumerated}
 use Rattle.term_values.specs.UniversalTags.{sequence, set, generalized_time, text_tag}
 use Rattle.term_values.specs.Written.{der}
 use Rattle.term_values.specs.declared.tag.Tag.{Tag}
 use Rattle.typed_laws.specs.TreeOctets.{HasOctets, HaveOctets}
 use Rattle.typed_laws.proofs.Choosing.{Meets, map_some, then_some, under_parts}
-use Rattle.typed_laws.proofs.LeavesTold.{where_is, truth_told, null_told, whole_told, bit_string_told, octet_string_told, text_told, time_told, identifier_told}
-use Rattle.typed_laws.proofs.ListsTold.{trees_of, trees_again, values_of, values_again, count_is, members_told, rising_rearranges, rising_rises, taken_octets, taken_rearranges}
+use Rattle.typed_laws.proofs.LeavesTold.{where_is, truth_told, null_told, whole_told, bit_string_told}
+use Rattle.typed_laws.proofs.LeavesTold.{octet_string_told, text_told, time_told, identifier_told}
+use Rattle.typed_laws.proofs.ListsTold.{trees_of, trees_again, values_of, values_again, count_is, members_told}
+use Rattle.typed_laws.proofs.ListsTold.{rising_rearranges, rising_rises, taken_octets, taken_rearranges}
 
 -- the trees in a constructed value
 pub inside_told : (tag : Tag) (tree : TreeValue) (inside : TreeValues) → tag_of tree ≡ tag → HasOctets tree

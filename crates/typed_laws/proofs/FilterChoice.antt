@@ -1,12 +1,15 @@
 -- A tree is a filter exactly where the CHOICE of a filter's alternatives has it: X.711, section 7.5.
-use Rattle.std.proofs.Common.{◌≡◌, Bool, true, false, ◌&&◌, ◌||◌, Option, Some, None, refl, ap, sym, ◌∙◌, subst, ⊎_elim, ℕ, List, []}
+use Rattle.std.proofs.Common.{◌≡◌, Bool, true, false, ◌&&◌, ◌||◌, Option, Some, None, refl, ap, sym, ◌∙◌, subst, ⊎_elim}
+use Rattle.std.proofs.Common.{ℕ, List, []}
 use Rattle.std.specs.Prelude.{is_some, option_map, option_and_then, codes}
 use Rattle.std.proofs.lemmas.Bool.{cases_Bool, or_parts}
 use Rattle.term_values.specs.Beginnings.{begins}
 use Rattle.term_values.specs.CmipTypes.{one, unnamed, implicit, filter_choice, filter_item, piece, attribute_id}
 use Rattle.term_values.specs.Decoding.{denoted, value_in, parts_in, members_in, one_in, rising_by, sized_members}
 use Rattle.term_values.specs.Der.{written}
-use Rattle.term_values.specs.FilterTrees.{is_filter, are_filters, is_one_filter, is_item, is_one_item, are_attribute_parts, are_pieces, is_one_attribute_id, is_attribute_id, is_context}
+use Rattle.term_values.specs.FilterTrees.{is_filter, are_filters, is_one_filter, is_item, is_one_item}
+use Rattle.term_values.specs.FilterTrees.{are_attribute_parts, are_pieces, is_one_attribute_id, is_attribute_id}
+use Rattle.term_values.specs.FilterTrees.{is_context}
 use Rattle.term_values.specs.LeafReading.{where_it}
 use Rattle.term_values.specs.Octets.{integer_in}
 use Rattle.term_values.specs.Oid.{oid_in}

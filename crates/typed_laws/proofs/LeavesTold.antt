@@ -1,5 +1,6 @@
 -- What is read of trees that hold no others is what they denote: X.690, sections 8.2 to 8.8, 8.19 and 8.23.
-use Rattle.std.proofs.Common.{◌≡◌, Bool, true, false, Some, refl, ap, sym, ◌∙◌, subst, ℕ, ◌<◌, ◌≤◌, ◌==◌, ◌&&◌, not, nat_lt, nat_le, List, [], ◌∷◌, length, map, ⊎_elim, arith, ℤ, FitsSigned}
+use Rattle.std.proofs.Common.{◌≡◌, Bool, true, false, Some, refl, ap, sym, ◌∙◌, subst, ℕ, ◌<◌, ◌≤◌, ◌==◌, ◌&&◌, not}
+use Rattle.std.proofs.Common.{nat_lt, nat_le, List, [], ◌∷◌, length, map, ⊎_elim, arith, ℤ, FitsSigned}
 use Rattle.std.specs.Int.{w64}
 use Rattle.std.specs.List.{list_all}
 use Rattle.std.specs.Prelude.{option_and_then}
@@ -8,7 +9,8 @@ use Rattle.std.proofs.lemmas.Option.{none-some, same_Some}
 use Rattle.term_values.proofs.OidLaws.{oid_spelt}
 use Rattle.term_values.specs.Bounded.{allowed_size, bit_count, has_character}
 use Rattle.term_values.specs.Denotes.{IsWhole, IsString, IsIdentifier}
-use Rattle.term_values.specs.LeafReading.{truth_in, null_in, bit_string_in, octet_string_in, identifier_in, text_in, time_in, where_it, contents_in, octets_in, bits_in}
+use Rattle.term_values.specs.LeafReading.{truth_in, null_in, bit_string_in, octet_string_in, identifier_in, text_in}
+use Rattle.term_values.specs.LeafReading.{time_in, where_it, contents_in, octets_in, bits_in}
 use Rattle.term_values.specs.Octets.{number, integer_in, integer_contents, are_least, signed_number, octet_turned}
 use Rattle.term_values.specs.Oid.{oid_in}
 use Rattle.term_values.specs.SpellingLaws.{AreOctets}

@@ -1,5 +1,6 @@
 -- Trees and members in rows, and in other orders: X.690, sections 8.9 to 8.12 and 11.6.
-use Rattle.std.proofs.Common.{◌≡◌, Bool, true, false, cond, Option, Some, refl, ap, sym, ◌∙◌, subst, ℕ, suc, List, [], ◌∷◌, length, map, arith, inl, inr}
+use Rattle.std.proofs.Common.{◌≡◌, Bool, true, false, cond, Option, Some, refl, ap, sym, ◌∙◌, subst, ℕ, suc, List, []}
+use Rattle.std.proofs.Common.{◌∷◌, length, map, arith, inl, inr}
 use Rattle.std.specs.Prelude.{option_map}
 use Rattle.std.proofs.lemmas.Option.{none-some, same_Some, some_pair_parts}
 use Rattle.term_values.proofs.RisingLaws.{may_precede_back}

@@ -1,5 +1,6 @@
 -- Components and alternatives whose tags tell them apart are found by their tags: X.680, sections 24.5, 26.3 and 28.3.
-use Rattle.std.proofs.Common.{◌≡◌, ◌⊎◌, Bool, true, false, Option, Some, None, refl, ap, sym, ℕ, suc, zero, ◌||◌, not, List, [], ◌∷◌, inl, inr}
+use Rattle.std.proofs.Common.{◌≡◌, ◌⊎◌, Bool, true, false, Option, Some, None, refl, ap, sym, ℕ, suc, zero, ◌||◌, not}
+use Rattle.std.proofs.Common.{List, [], ◌∷◌, inl, inr}
 use Rattle.std.proofs.lemmas.Bool.{and_parts, or_right}
 use Rattle.term_values.specs.Beginnings.{begins, first_tags, has_tag}
 use Rattle.term_values.specs.Decoding.{denoted, parts_in, left_out}

@@ -1,16 +1,19 @@
 -- What is written for a value that fits its syntax is read again: X.690, sections 8, 10 and 11.
-use Rattle.std.proofs.Common.{◌≡◌, Bool, true, false, cond, Option, Some, None, refl, ap, sym, ◌∙◌, subst, ℕ, suc, zero, ◌+◌, ◌<◌, List, [], ◌∷◌, length, map, arith, inl, inr}
+use Rattle.std.proofs.Common.{◌≡◌, Bool, true, false, cond, Option, Some, None, refl, ap, sym, ◌∙◌, subst, ℕ, suc, zero}
+use Rattle.std.proofs.Common.{◌+◌, ◌<◌, List, [], ◌∷◌, length, map, arith, inl, inr}
 use Rattle.std.specs.Prelude.{option_map, option_and_then, is_some}
 use Rattle.std.proofs.lemmas.Bool.{and_parts, and_from}
 use Rattle.std.proofs.lemmas.List.{append-nil}
 use Rattle.term_values.proofs.OidLaws.{oid_read}
 use Rattle.term_values.specs.Beginnings.{begins, first_tags, has_tag, parts_tags}
 use Rattle.term_values.specs.Bounded.{allowed, allowed_size, bit_count, is_named}
-use Rattle.term_values.specs.Decoding.{denoted, parts_in, unordered_in, members_in, inserted_by, rising_by, one_in, within, sized_members, under}
+use Rattle.term_values.specs.Decoding.{denoted, parts_in, unordered_in, members_in, inserted_by, rising_by, one_in}
+use Rattle.term_values.specs.Decoding.{within, sized_members, under}
 use Rattle.term_values.specs.Der.{written, written_all, encoded, identifier_octets, length_octets}
 use Rattle.term_values.specs.FilterTrees.{is_filter}
 use Rattle.term_values.specs.Fits.{Fits, AllFit, PartsFit, PickFits, count}
-use Rattle.term_values.specs.LeafReading.{truth_in, null_in, whole_in, named_in, bit_string_in, octet_string_in, identifier_in, text_in, time_in}
+use Rattle.term_values.specs.LeafReading.{truth_in, null_in, whole_in, named_in, bit_string_in, octet_string_in}
+use Rattle.term_values.specs.LeafReading.{identifier_in, text_in, time_in}
 use Rattle.term_values.specs.Octets.{integer_contents}
 use Rattle.term_values.specs.Oid.{oid_contents}
 use Rattle.term_values.specs.Rearranged.{IsRising, joined, rising}
@@ -27,10 +30,12 @@ use Rattle.term_values.specs.Tree.TreeValue.{Primitive, Constructed}
 use Rattle.term_values.specs.Tree.TreeValues.{Nothing as NoTrees, Then as AndTrees}
 use Rattle.term_values.specs.TreeTags.{tag_of, due}
 use Rattle.term_values.specs.Typed.{TypedValue, TypedSlots, TypedValues}
-use Rattle.term_values.specs.Typed.TypedValue.{Truth, Int, Bits, Octets, Null, Identifier, Text, Time, Parts, Many, Pick, Raw}
+use Rattle.term_values.specs.Typed.TypedValue.{Truth, Int, Bits, Octets, Null, Identifier, Text, Time, Parts, Many}
+use Rattle.term_values.specs.Typed.TypedValue.{Pick, Raw}
 use Rattle.term_values.specs.Typed.TypedSlots.{NoSlots, Filled, Empty}
 use Rattle.term_values.specs.Typed.TypedValues.{Nothing, Then}
-use Rattle.term_values.specs.UniversalTags.{boolean, integer, bit_string, octet_string, null, object_identifier, enumerated}
+use Rattle.term_values.specs.UniversalTags.{boolean, integer, bit_string, octet_string, null, object_identifier}
+use Rattle.term_values.specs.UniversalTags.{enumerated}
 use Rattle.term_values.specs.UniversalTags.{sequence, set, generalized_time, text_tag}
 use Rattle.term_values.specs.ValueContents.{member_encodings}
 use Rattle.term_values.specs.Writable.{IsTag, IsWritable, AreWritable}
@@ -46,7 +51,9 @@ use Rattle.typed_laws.proofs.PartsRead.{PartsRead, PickRead, parts_read}
 use Rattle.typed_laws.proofs.SameIs.{same_is}
 use Rattle.typed_laws.proofs.StringsTold.{bits_contents_read}
 use Rattle.typed_laws.proofs.TagsApart.{left_has, right_has}
-use Rattle.typed_laws.proofs.WritableLaws.{writable_deeper, all_deeper, each_writable, all_writable, joined_written, trees_rising, rising_written, rising_trees_rearrange, universal_can, text_can, TagCan, due_can, contents_within, front_within, back_within}
+use Rattle.typed_laws.proofs.WritableLaws.{writable_deeper, all_deeper, each_writable, all_writable, joined_written}
+use Rattle.typed_laws.proofs.WritableLaws.{trees_rising, rising_written, rising_trees_rearrange, universal_can}
+use Rattle.typed_laws.proofs.WritableLaws.{text_can, TagCan, due_can, contents_within, front_within, back_within}
 
 -- the tree has the tag that is due
 abbrev Bears : Option Tag → TypeSyntax → TreeValue → Type 0

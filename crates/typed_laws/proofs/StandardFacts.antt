@@ -5,7 +5,8 @@ use Rattle.term_values.specs.Lengths.{octet_count}
 use Rattle.term_values.specs.Octets.{integer_contents}
 use Rattle.term_values.specs.Der.{identifier_octets, length_octets}
 use Rattle.term_values.specs.PduSyntaxes.{bind, bind_answer, invoke, return_result, return_error, reject, get_argument}
-use Rattle.term_values.specs.PduSyntaxes.{set_argument, action_argument, delete_argument, create_argument, report_argument}
+use Rattle.term_values.specs.PduSyntaxes.{set_argument, action_argument, delete_argument, create_argument}
+use Rattle.term_values.specs.PduSyntaxes.{report_argument}
 use Rattle.term_values.specs.ResultSyntaxes.{linked_reply}
 use Rattle.term_values.specs.Syntaxes.TypeSyntax.{Integer, Tagged, SequenceOf}
 use Rattle.term_values.specs.Tree.TreeValue.{Primitive, Constructed}

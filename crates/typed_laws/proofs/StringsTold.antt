@@ -1,5 +1,6 @@
 -- The strings that are read from a tree are those that it spells: X.690, sections 8.6, 8.7 and 8.23.
-use Rattle.std.proofs.Common.{◌≡◌, Bool, true, false, Some, refl, ap, sym, ◌∙◌, ℕ, ◌==◌, ◌&&◌, ◌||◌, not, nat_lt, List, [], ◌∷◌, ◌++◌, subst}
+use Rattle.std.proofs.Common.{◌≡◌, Bool, true, false, Some, refl, ap, sym, ◌∙◌, ℕ, ◌==◌, ◌&&◌, ◌||◌, not, nat_lt, List}
+use Rattle.std.proofs.Common.{[], ◌∷◌, ◌++◌, subst}
 use Rattle.std.specs.Prelude.{◌<◌}
 use Rattle.std.proofs.lemmas.Bool.{and_parts, eqb-true, eq-eqb, ltb-true, lt-ltb, and_from, or_right, or_left}
 use Rattle.std.proofs.lemmas.Option.{none-some, same_Some, some_pair_parts}

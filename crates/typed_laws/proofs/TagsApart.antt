@@ -1,5 +1,6 @@
 -- Which tags a value begins with, and that tags tell syntaxes apart: X.680, sections 8.6, 24.5, 26.3 and 28.3.
-use Rattle.std.proofs.Common.{◌≡◌, Bool, true, false, Option, Some, None, refl, sym, subst, ℕ, ◌&&◌, ◌||◌, not, List, [], ◌∷◌, ◌++◌}
+use Rattle.std.proofs.Common.{◌≡◌, Bool, true, false, Option, Some, None, refl, sym, subst, ℕ, ◌&&◌, ◌||◌, not, List}
+use Rattle.std.proofs.Common.{[], ◌∷◌, ◌++◌}
 use Rattle.std.proofs.lemmas.Bool.{and_parts, or_left, or_right, or_from, true≢false}
 use Rattle.term_values.specs.Beginnings.{first_tags, either_tags, is_one_of, has_tag}
 use Rattle.term_values.specs.Soundness.{no_tag_of, are_apart, is_apart_from_all, is_apart_from_next}

@@ -1,5 +1,6 @@
 -- Trees that can be written, at depths and in lists: X.690, sections 8.1.2 and 8.1.3.
-use Rattle.std.proofs.Common.{◌≡◌, refl, ap, sym, ◌∙◌, subst, ℕ, suc, zero, ◌<◌, ◌≤◌, List, [], ◌∷◌, ◌++◌, length, map, Option, Some, None, arith, inl, inr, Bool, true, false, cond, length-append}
+use Rattle.std.proofs.Common.{◌≡◌, refl, ap, sym, ◌∙◌, subst, ℕ, suc, zero, ◌<◌, ◌≤◌, List, [], ◌∷◌, ◌++◌, length, map}
+use Rattle.std.proofs.Common.{Option, Some, None, arith, inl, inr, Bool, true, false, cond, length-append}
 use Rattle.term_values.specs.Der.{written, written_all}
 use Rattle.term_values.specs.Rearranged.{IsAmong, IsRearrangement, joined, inserted, rising, may_precede}
 use Rattle.term_values.specs.Tree.{TreeValue, TreeValues, listed as trees_listed}

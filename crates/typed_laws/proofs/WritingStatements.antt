@@ -1,10 +1,12 @@
 -- The laws of specs/WritingLaws, proved.
-use Rattle.std.proofs.Common.{◌≡◌, true, Some, None, sym, ◌∙◌, refl, ap, subst, ℕ, suc, zero, ◌≤◌, List, [], ◌++◌, length, arith, append_assoc, false}
+use Rattle.std.proofs.Common.{◌≡◌, true, Some, None, sym, ◌∙◌, refl, ap, subst, ℕ, suc, zero, ◌≤◌, List, [], ◌++◌}
+use Rattle.std.proofs.Common.{length, arith, append_assoc, false}
 use Rattle.std.specs.Prelude.{max}
 use Rattle.std.proofs.lemmas.List.{append_cancel_left}
 use Rattle.std.proofs.lemmas.Option.{same_Some}
 use Rattle.term_values.proofs.ReadingLaws.{octets_back, octets_front}
-use Rattle.term_values.proofs.Statements.{one_tree_holds, reading_spells_holds, written_is_read_holds, written_spells_holds}
+use Rattle.term_values.proofs.Statements.{one_tree_holds, reading_spells_holds, written_is_read_holds}
+use Rattle.term_values.proofs.Statements.{written_spells_holds}
 use Rattle.term_values.specs.Ber.{most_depth, Spells}
 use Rattle.term_values.specs.BerReading.{tree_at}
 use Rattle.term_values.specs.Decoding.{value_in}

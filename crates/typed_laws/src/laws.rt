@@ -1,7 +1,8 @@
 //! Laws of typed values, as contracts: X.690, sections 8, 10 and 11.
 
 ghost use Rattle.typed_laws.specs.FilterLaws.{FilterIsChoice};
-ghost use Rattle.typed_laws.specs.ReadingLaws.{ReadingDenotes, DenotedIsRead, ReadingIsExact, NoneIsDenoted, SpeltHasOctets};
+ghost use Rattle.typed_laws.specs.ReadingLaws.{ReadingDenotes, DenotedIsRead, ReadingIsExact, NoneIsDenoted};
+ghost use Rattle.typed_laws.specs.ReadingLaws.{SpeltHasOctets};
 ghost use Rattle.typed_laws.specs.WritingLaws.{WrittenIsReadAgain, WrittenDenotes, WrittenIsReadBack, OneValueWritten};
 
 /// The value that is read from a tree is one that the tree denotes. Where the tags of the syntax are clear, a value is

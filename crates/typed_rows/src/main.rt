@@ -1,6 +1,6 @@
-//! Decodes and writes the values of rows: each line of standard input names a syntax and has the octets of a tree, and the
-//! one form of its value is printed, or that the tree denotes none. Lines that are empty or begin with `#` are printed as
-//! they are.
+//! Decodes and writes the values of rows: each line of standard input names a syntax and has the octets of a tree, and
+//! the one form of its value is printed, or that the tree denotes none. Lines that are empty or begin with `#` are
+//! printed as they are.
 #![tactic(auto)]
 
 mod answering;

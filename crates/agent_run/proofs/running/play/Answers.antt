@@ -37,14 +37,16 @@ returns c =
     let journal = play.journal in
     let limits = c.shipped-limits.ensures in
     let told = c.journal-journal.ensures in
-    let stands = stands_on schema shipped play.agent journal done.schema (done.limits ∙ limits) (told.legal, told.replayed) in
+    let stands = stands_on schema shipped play.agent journal done.schema (done.limits ∙ limits)
+    (told.legal, told.replayed) in
     let text =
     c.in_ok-text.ensures
     ∙ (ap (λ xs. journal_text xs ++ (separator ++ outs c.agent-agent.result.now)) told.journal
     ∙ ap (λ (a : AgentState). journal_text journal ++ (separator ++ outs a)) c.agent-agent.ensures) in
     record {
       journal = journal;
-      of_script = ap (λ (p : Play). p.journal) done.played ∙ ap (λ (l : Limits). (played schema l lines).journal) limits;
+      of_script = ap (λ (p : Play). p.journal) done.played
+          ∙ ap (λ (l : Limits). (played schema l lines).journal) limits;
       frames = done.frames;
       legal = stands.0;
       obeys = λ before after whole.

@@ -13,8 +13,10 @@ returns-in_err-script-clause-cause g c =
     let before = g.F.Files.faults c.args.files.now in
     let after = g.F.Files.faults c.read_file.new.files in
     let places = c.in-Some.places in
-    exit_with (HasCause files words before after) c.from_residual.result c.in_err-script.field-0.0 c.from_residual.ensures.1
-    (script_file files words places.script.now places.document.now before after c.in_err-script.field-0.0 c.in-Some.ensures.found c.in_err-script.ensures.cause)
+    exit_with (HasCause files words before after) c.from_residual.result c.in_err-script.field-0.0
+    c.from_residual.ensures.1
+    (script_file files words places.script.now places.document.now before after c.in_err-script.field-0.0
+    c.in-Some.ensures.found c.in_err-script.ensures.cause)
 
 pub returns-in_err-document-clause-cause : goal.returns-in_err-document-clause-cause
 returns-in_err-document-clause-cause g c =
@@ -26,8 +28,14 @@ returns-in_err-document-clause-cause g c =
     let places = c.in-Some.places in
     let r = c.in_err-document.field-0.0 in
     let exit = c.from_residual-in_err-document in
-    let cause = subst (λ told. HasFileCause told places.document.now most_document between after r) c.read_file.ensures.same c.in_err-document.ensures.cause in
+    let cause = subst (λ told. HasFileCause told places.document.now most_document between after r)
+    c.read_file.ensures.same c.in_err-document.ensures.cause in
     exit_with (HasCause files words before after) exit.result r exit.ensures.1
     (document_file files words places.script.now places.document.now before between after r c.in-Some.ensures.found
-    (record { bytes = c.in_ok-script.script.items; told = c.in_ok-script.ensures.told; small = c.in_ok-script.ensures.within })
+    (record {
+      bytes = c.in_ok-script.script.items;
+      told = c.in_ok-script.ensures.told;
+      small =
+          c.in_ok-script.ensures.within;
+    })
     c.read_file.ensures.counted c.read_file-2.ensures.counted cause)

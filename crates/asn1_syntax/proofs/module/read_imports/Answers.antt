@@ -4,7 +4,8 @@ use Rattle.asn1_values_syntax.proofs.FirstTokens.{quiet_unless}
 use Rattle.asn1_values_syntax.specs.Asn1.{asn1, imports}
 use Rattle.std.proofs.Common.{arith, codes, refl, sym, ◌∙◌}
 use Rattle.token_grammar.proofs.Exits.{exit_reads}
-use Rattle.token_grammar.proofs.Sequences.{apart_closed, fails_front, fails_present, fails_rest, fails_wider, spelt_absent, spelt_present, spelt_then, spelt_wider}
+use Rattle.token_grammar.proofs.Sequences.{apart_closed, fails_front, fails_present, fails_rest, fails_wider}
+use Rattle.token_grammar.proofs.Sequences.{spelt_absent, spelt_present, spelt_then, spelt_wider}
 use Rattle.token_grammar.specs.TokenTests.{is_word_of}
 use Rattle.asn1_syntax.proofs.module.read_imports.Goals as goal
 

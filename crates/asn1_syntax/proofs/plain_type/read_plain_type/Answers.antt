@@ -3,7 +3,8 @@ use Rattle.asn1_syntax.proofs.Apart.{brace_plain, defined_plain, point_plain, si
 use Rattle.asn1_values_syntax.proofs.FirstTokens.{quiet_unless, quiet_word}
 use Rattle.asn1_values_syntax.proofs.Quiet.{fail_first, fail_second, take_first, take_second}
 use Rattle.asn1_values_syntax.specs.TypeEnds.{is_plain_end}
-use Rattle.asn1_values_syntax.specs.TypeForms.{any_type, bit_string_type, enumerated_type, integer_type, is_simple_type, object_identifier_type, octet_string_type, type_name}
+use Rattle.asn1_values_syntax.specs.TypeForms.{any_type, bit_string_type, enumerated_type, integer_type, is_simple_type}
+use Rattle.asn1_values_syntax.specs.TypeForms.{object_identifier_type, octet_string_type, type_name}
 use Rattle.std.proofs.Common.{codes, refl, sym, ◌∙◌}
 use Rattle.token_grammar.proofs.Exits.{exit_reads}
 use Rattle.token_grammar.proofs.Parts.{one_word}

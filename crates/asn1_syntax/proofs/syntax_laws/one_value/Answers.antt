@@ -1,6 +1,7 @@
 -- By the laws of each part.
 use Rattle.asn1_syntax.proofs.ModuleValues.{assignments_agree, modules_agree}
-use Rattle.asn1_syntax.proofs.PlainValues.{constraints_agree, one_named_bit, one_named_integer, one_range, one_tag, plain_types_agree}
+use Rattle.asn1_syntax.proofs.PlainValues.{constraints_agree, one_named_bit, one_named_integer, one_range, one_tag}
+use Rattle.asn1_syntax.proofs.PlainValues.{plain_types_agree}
 use Rattle.asn1_syntax.proofs.TypeValues.{alternatives_agree, components_agree, presences_agree, types_agree}
 use Rattle.asn1_syntax.proofs.syntax_laws.one_value.Goals as goal
 

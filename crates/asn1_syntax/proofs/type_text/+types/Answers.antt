@@ -1,18 +1,23 @@
 -- The parts of each, one after the other.
 use Rattle.asn1_syntax.proofs.Rows.{choice_said, components_said}
-use Rattle.asn1_syntax.proofs.TypeApart.{alternatives_apart, alternatives_separate, components_apart, components_separate, list_components, mode_apart, name_components, parenthesis_type, presence_meets, structure_quiet}
+use Rattle.asn1_syntax.proofs.TypeApart.{alternatives_apart, alternatives_separate, components_apart}
+use Rattle.asn1_syntax.proofs.TypeApart.{components_separate, list_components, mode_apart, name_components}
+use Rattle.asn1_syntax.proofs.TypeApart.{parenthesis_type, presence_meets, structure_quiet}
 use Rattle.asn1_syntax.specs.TypeTrees.{alternative_tree, component_tree, type_tree}
 use Rattle.asn1_values_syntax.proofs.FirstTokens.{firsts, firsts_lead, quiet_sign, quiet_unless, quiet_word, sign_apart}
 use Rattle.asn1_values_syntax.proofs.Quiet.{fail_first, fail_second, take_first, take_second}
 use Rattle.asn1_values_syntax.specs.Asn1.{asn1}
-use Rattle.asn1_values_syntax.specs.TypeForms.{brace, choice_type, component, components, constraints, list_of, plain_type, structured_type, tagged_type}
+use Rattle.asn1_values_syntax.specs.TypeForms.{brace, choice_type, component, components, constraints, list_of}
+use Rattle.asn1_values_syntax.specs.TypeForms.{plain_type, structured_type, tagged_type}
 use Rattle.asn1_values_syntax.specs.ValueForms.{comma, types}
 use Rattle.std.proofs.Common.{[], ap, arith, codes, refl, sym, ◌∙◌, ◌∷◌}
 use Rattle.token_grammar.proofs.Exits.{exit_reads}
 use Rattle.token_grammar.proofs.Heads.{advances}
 use Rattle.token_grammar.proofs.OpenParts.{fails_front_on, fails_rest_on, spelt_then_on}
 use Rattle.token_grammar.proofs.Parts.{at_within, list_last, list_push, list_start, spelt_as, spelt_within}
-use Rattle.token_grammar.proofs.Sequences.{apart_closed, fails_by, fails_front, fails_named, fails_on, fails_present, fails_rest, spelt_absent, spelt_named, spelt_on, spelt_order, spelt_present, spelt_then}
+use Rattle.token_grammar.proofs.Sequences.{apart_closed, fails_by, fails_front, fails_named, fails_on, fails_present}
+use Rattle.token_grammar.proofs.Sequences.{fails_rest, spelt_absent, spelt_named, spelt_on, spelt_order, spelt_present}
+use Rattle.token_grammar.proofs.Sequences.{spelt_then}
 use Rattle.token_grammar.proofs.Turns.{fault_led, list_fault, spelt_led}
 use Rattle.token_grammar.specs.Form.{Empty, Listed, Marks, Named, Or, Then}
 use Rattle.token_grammar.specs.Parts.{words}

@@ -4,7 +4,8 @@ use Rattle.asn1_values_syntax.specs.Asn1.{asn1}
 use Rattle.asn1_values_syntax.specs.TypeForms.{list_size, parenthesis}
 use Rattle.std.proofs.Common.{arith, refl, sym, ◌∙◌}
 use Rattle.token_grammar.proofs.Exits.{exit_reads}
-use Rattle.token_grammar.proofs.Sequences.{apart_closed, fails_front, fails_present, fails_rest, fails_wider, spelt_absent, spelt_present, spelt_then, spelt_wider}
+use Rattle.token_grammar.proofs.Sequences.{apart_closed, fails_front, fails_present, fails_rest, fails_wider}
+use Rattle.token_grammar.proofs.Sequences.{spelt_absent, spelt_present, spelt_then, spelt_wider}
 use Rattle.asn1_values_syntax.proofs.constraint.read_list_size.Goals as goal
 
 pub returns-in_err-next : goal.returns-in_err-next

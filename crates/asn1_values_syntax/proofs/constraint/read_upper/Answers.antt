@@ -5,7 +5,8 @@ use Rattle.asn1_values_syntax.specs.TypeForms.{dots}
 use Rattle.asn1_values_syntax.specs.ValueForms.{bound}
 use Rattle.std.proofs.Common.{arith, codes, refl, sym, ◌∙◌}
 use Rattle.token_grammar.proofs.Exits.{exit_reads}
-use Rattle.token_grammar.proofs.Sequences.{apart_closed, fails_front, fails_present, fails_rest, fails_wider, spelt_absent, spelt_present, spelt_then, spelt_wider}
+use Rattle.token_grammar.proofs.Sequences.{apart_closed, fails_front, fails_present, fails_rest, fails_wider}
+use Rattle.token_grammar.proofs.Sequences.{spelt_absent, spelt_present, spelt_then, spelt_wider}
 use Rattle.token_grammar.specs.Form.{Then}
 use Rattle.token_grammar.specs.Parts.{sign}
 use Rattle.asn1_values_syntax.proofs.constraint.read_upper.Goals as goal

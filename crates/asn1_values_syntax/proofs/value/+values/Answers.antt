@@ -1,13 +1,16 @@
 -- The parts of each, one after the other.
 use Rattle.asn1_values_syntax.proofs.Braces.{parts_apart, parts_separate}
-use Rattle.asn1_values_syntax.proofs.Contents.{content_arcs, content_arcs_fails, content_named, content_named_fails, content_parts, content_parts_fails}
+use Rattle.asn1_values_syntax.proofs.Contents.{content_arcs, content_arcs_fails, content_named, content_named_fails}
+use Rattle.asn1_values_syntax.proofs.Contents.{content_parts, content_parts_fails}
 use Rattle.asn1_values_syntax.proofs.FirstTokens.{firsts, firsts_lead, quiet_name, quiet_sign, quiet_unless}
 use Rattle.asn1_values_syntax.proofs.Quiet.{fail_first, fail_second, quiet_or, take_first, take_second}
 use Rattle.asn1_values_syntax.proofs.Rows.{parts_content}
-use Rattle.asn1_values_syntax.proofs.Values.{never_fails, part_named, part_named_fails, part_unnamed, part_unnamed_fails, quiet_literal, value_fails_wider, value_wider}
+use Rattle.asn1_values_syntax.proofs.Values.{never_fails, part_named, part_named_fails, part_unnamed}
+use Rattle.asn1_values_syntax.proofs.Values.{part_unnamed_fails, quiet_literal, value_fails_wider, value_wider}
 use Rattle.asn1_values_syntax.specs.Asn1.{asn1}
 use Rattle.asn1_values_syntax.specs.Lookahead.{starts_arcs}
-use Rattle.asn1_values_syntax.specs.ValueForms.{arcs_end, braces, colon, comma, is_literal, is_value_start, named_value, parts_end, signed_number, values}
+use Rattle.asn1_values_syntax.specs.ValueForms.{arcs_end, braces, colon, comma, is_literal, is_value_start, named_value}
+use Rattle.asn1_values_syntax.specs.ValueForms.{parts_end, signed_number, values}
 use Rattle.asn1_values_syntax.specs.ValueTrees.{part_tree, value_tree}
 use Rattle.asn1_values_syntax.specs.declared.value.ValueText.{ValueText}
 use Rattle.std.proofs.Common.{ap, arith, codes, refl, slice_get, sym, ◌+◌, ◌∙◌}
@@ -15,7 +18,9 @@ use Rattle.token_grammar.proofs.Exits.{exit_reads}
 use Rattle.token_grammar.proofs.Heads.{advances}
 use Rattle.token_grammar.proofs.Known.{first_so, second_so}
 use Rattle.token_grammar.proofs.Parts.{at_within, list_last, list_push, list_start, spelt_as, spelt_within}
-use Rattle.token_grammar.proofs.Sequences.{apart_closed, fails_by, fails_front, fails_named, fails_present, fails_rest, fails_wider, spelt_absent, spelt_named, spelt_present, spelt_then, spelt_wider}
+use Rattle.token_grammar.proofs.Sequences.{apart_closed, fails_by, fails_front, fails_named, fails_present, fails_rest}
+use Rattle.token_grammar.proofs.Sequences.{fails_wider, spelt_absent, spelt_named, spelt_present, spelt_then}
+use Rattle.token_grammar.proofs.Sequences.{spelt_wider}
 use Rattle.token_grammar.proofs.Turns.{fault_led, list_fault, spelt_led}
 use Rattle.token_grammar.specs.Form.{Bare, Empty, Keep, Named, Or, Pair, Then}
 use Rattle.token_grammar.specs.Parts.{sign}

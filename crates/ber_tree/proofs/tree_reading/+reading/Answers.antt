@@ -3,7 +3,8 @@ use Rattle.std.specs.Prelude.{Ok, Err}
 use Rattle.std.proofs.lemmas.List.{take_rest}
 use Rattle.term_values.specs.BerReading.{front_of}
 use Rattle.ber_tree.specs.Reading.{front_at}
-use Rattle.ber_tree.proofs.Answering.{exit_answers, whole_answers, whole_refuses, full_is, definite_refuses, none_stops, some_stops, broken, stop_rest, value_refuses}
+use Rattle.ber_tree.proofs.Answering.{exit_answers, whole_answers, whole_refuses, full_is, definite_refuses, none_stops}
+use Rattle.ber_tree.proofs.Answering.{some_stops, broken, stop_rest, value_refuses}
 use Rattle.ber_tree.proofs.IntegerLaws.{octets_fit}
 use Rattle.ber_tree.proofs.ReadingSteps.{leads_more, leads_stop, some_size}
 use Rattle.ber_tree.proofs.tree_reading.+reading.Goals as goal

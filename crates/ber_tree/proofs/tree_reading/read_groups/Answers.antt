@@ -6,7 +6,8 @@ pub overflow_mul-value : goal.overflow_mul-value
 overflow_mul-value c = let e = five_groups c.loop-octet.octet-index (omega arith) in omega arith
 
 pub overflow_add-value : goal.overflow_add-value
-overflow_add-value c = let e = five_groups c.loop-octet.octet-index (omega arith) in let f = c.from.ensures in omega arith
+overflow_add-value c = let e = five_groups c.loop-octet.octet-index (omega arith) in let f =
+    c.from.ensures in omega arith
 
 pub loop-octet-preserved : goal.loop-octet-preserved
 loop-octet-preserved c =

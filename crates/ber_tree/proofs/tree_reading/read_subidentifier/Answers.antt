@@ -24,8 +24,10 @@ pub returns-then-value-gt-MOST_SUBIDENTIFIER-clause-none : goal.returns-then-val
 returns-then-value-gt-MOST_SUBIDENTIFIER-clause-none c = λ n rest h e.
     let octets = c.args.octets.now in
     let f = in_front n octets rest h e in
-    let long : c.in_ok-size.size ≡ length (subidentifier n) = same_size octets c.in_ok-size.size (length (subidentifier n)) c.in_ok-size.ensures.found f.size in
-    let value : c.read_groups-value.result ≡ n = c.read_groups-value.ensures ∙ (ap (λ k. grouped (take k octets)) long ∙ (ap grouped f.front ∙ f.number)) in
+    let long : c.in_ok-size.size ≡ length (subidentifier n) =
+    same_size octets c.in_ok-size.size (length (subidentifier n)) c.in_ok-size.ensures.found f.size in
+    let value : c.read_groups-value.result ≡ n = c.read_groups-value.ensures
+    ∙ (ap (λ k. grouped (take k octets)) long ∙ (ap grouped f.front ∙ f.number)) in
     absurd (omega arith)
 
 pub returns-clause-found : goal.returns-clause-found

@@ -4,4 +4,5 @@ use Rattle.ber_tree.specs.Writing.{Extends}
 use Rattle.ber_tree.proofs.tree_writing.write_oid_contents.Given as goal
 
 abbrev pub invariant-loop-arc : goal.invariant-loop-arc
-invariant-loop-arc l = (l.into.items ++ flat_map subidentifier (drop l.arc-index l.others) ≡ l.fn.into.items ++ oid_contents l.oid) × Extends l.fn.into.items l.into.items
+invariant-loop-arc l = (l.into.items ++ flat_map subidentifier (drop l.arc-index l.others) ≡ l.fn.into.items
+    ++ oid_contents l.oid) × Extends l.fn.into.items l.into.items

@@ -1,6 +1,8 @@
-use Rattle.std.proofs.Common.{rules, ◌≡◌, ◌<◌, ◌+◌, ◌≤◌, true, false, IfOk, subst, take, drop, replicate, length, List, [], ◌∷◌, ◌++◌, Some, None, ap, sym, refl, arith, ◌∙◌, option_map}
+use Rattle.std.proofs.Common.{rules, ◌≡◌, ◌<◌, ◌+◌, ◌≤◌, true, false, IfOk, subst, take, drop, replicate, length, List}
+use Rattle.std.proofs.Common.{[], ◌∷◌, ◌++◌, Some, None, ap, sym, refl, arith, ◌∙◌, option_map}
 use Rattle.std.proofs.lemmas.List.{drop_more}
-use Rattle.ber_values.proofs.DecodingLaws.{member_read, values_all, slots_all, nothing_left, part_there, part_absent, too_many}
+use Rattle.ber_values.proofs.DecodingLaws.{member_read, values_all, slots_all, nothing_left, part_there, part_absent}
+use Rattle.ber_values.proofs.DecodingLaws.{too_many}
 use Rattle.ber_values.proofs.CountLaws.{no_one_value}
 use Rattle.ber_values.proofs.UnorderedLaws.{component_read, none_left, all_left, nothing_before, put_back, is_true}
 use Rattle.ber_values.specs.Left.{values_before, slots_before, slot_left_out, next_begins, left_of, next_slot}
@@ -10,7 +12,8 @@ use Rattle.term_values.specs.PartsView.{parts_listed}
 use Rattle.term_values.specs.Syntaxes.TypeSyntax.{SequenceOf, SetOf}
 use Rattle.term_values.specs.Tree.{listed}
 use Rattle.term_values.specs.declared.value.Slot.TheVariants.{Present}
-use Rattle.ber_values.proofs.decoding.+decoding.Goals.{decode_parts-then-comes+in_ok-decode_as+in-Some+in_ok-push-in-Some, decode_parts-else-comes+in_ok-left_out+in-Some-2+in_ok-push-in-Some-2}
+use Rattle.ber_values.proofs.decoding.+decoding.Goals.{decode_parts-then-comes+in_ok-decode_as+in-Some+in_ok-push-in-Some}
+use Rattle.ber_values.proofs.decoding.+decoding.Goals.{decode_parts-else-comes+in_ok-left_out+in-Some-2+in_ok-push-in-Some-2}
 use Rattle.ber_values.proofs.decoding.+decoding.Goals as goal
 
 pub decode_members-loop-tree-preserved : goal.decode_members-loop-tree-preserved

@@ -1,7 +1,8 @@
 -- Where WITH comes, the word and the pairs behind it.
 use Rattle.std.proofs.Common.{arith, refl, sym, ◌∙◌}
 use Rattle.token_grammar.proofs.Exits.{exit_reads}
-use Rattle.token_grammar.proofs.Sequences.{apart_closed, fails_front, fails_on, fails_present, fails_rest, spelt_absent, spelt_on, spelt_present, spelt_then}
+use Rattle.token_grammar.proofs.Sequences.{apart_closed, fails_front, fails_on, fails_present, fails_rest, spelt_absent}
+use Rattle.token_grammar.proofs.Sequences.{spelt_on, spelt_present, spelt_then}
 use Rattle.asn1_values_syntax.specs.Asn1.{asn1}
 use Rattle.asn1_values_syntax.proofs.FirstTokens.{quiet_unless}
 use Rattle.extra_syntax.specs.SectionEnds.{is_with}

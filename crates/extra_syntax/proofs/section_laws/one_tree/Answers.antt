@@ -1,5 +1,6 @@
 -- By the laws of each part.
-use Rattle.extra_syntax.proofs.SameSections.{assignments_alike, instances_alike, rules_alike, sections_alike, steps_alike}
+use Rattle.extra_syntax.proofs.SameSections.{assignments_alike, instances_alike, rules_alike, sections_alike}
+use Rattle.extra_syntax.proofs.SameSections.{steps_alike}
 use Rattle.extra_syntax.proofs.section_laws.one_tree.Goals as goal
 
 pub returns : goal.returns

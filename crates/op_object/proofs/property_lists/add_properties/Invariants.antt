@@ -8,4 +8,6 @@ use Rattle.term_model.specs.ObjectOperation.{lets_read}
 use Rattle.op_object.proofs.property_lists.add_properties.Given as goal
 
 abbrev pub invariant-loop-property : goal.invariant-loop-property
-invariant-loop-property l = (q : List ℕ) → contains (slice_cmp nat_cmp) l.ids q ≡ (contains (slice_cmp nat_cmp) l.fn.ids q || list_any (lets_read q) (take l.property-index l.properties))
+invariant-loop-property l =
+    (q : List ℕ) → contains (slice_cmp nat_cmp) l.ids
+    q ≡ (contains (slice_cmp nat_cmp) l.fn.ids q || list_any (lets_read q) (take l.property-index l.properties))

@@ -19,5 +19,8 @@ returns-in_ok-insert c = λ q.
     let same : is_eq (slice_cmp nat_cmp c.in_ok-id.id q) ≡ pointwise ◌==◌ c.args.property.now.attribute q =
     is_eq-slice_cmp c.in_ok-id.id q ∙ ap (λ id. pointwise ◌==◌ id q) copied in
     let added = c.in_ok-insert.ensures.updates.0 q in
-    either (contains (slice_cmp nat_cmp) c.insert.new.self q) (c.args.property.now.get && pointwise ◌==◌ c.args.property.now.attribute q) (contains (slice_cmp nat_cmp) c.args.ids.now q)
-    (added ∙ ap (λ b. if b then true else contains (slice_cmp nat_cmp) c.args.ids.now q) (same ∙ rw c.if-property.true refl))
+    either (contains (slice_cmp nat_cmp) c.insert.new.self q)
+    (c.args.property.now.get && pointwise ◌==◌ c.args.property.now.attribute q)
+    (contains (slice_cmp nat_cmp) c.args.ids.now q)
+    (added ∙ ap (λ b. if b then true else contains (slice_cmp nat_cmp) c.args.ids.now q)
+    (same ∙ rw c.if-property.true refl))

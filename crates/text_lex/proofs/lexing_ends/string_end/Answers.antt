@@ -22,4 +22,6 @@ loop-at-preserved c =
 
 pub returns-else-octet_at-delimiter-clause-cases : goal.returns-else-octet_at-delimiter-clause-cases
 returns-else-octet_at-delimiter-clause-cases c =
-    c.loop-at.invariant.string _ (ends c.loop-at-test.true c.if-text-at.false (λ again. c.if-octet_at-delimiter.false (c.octet_at.ensures ∙ again)) refl)
+    c.loop-at.invariant.string _
+    (ends c.loop-at-test.true c.if-text-at.false
+    (λ again. c.if-octet_at-delimiter.false (c.octet_at.ensures ∙ again)) refl)

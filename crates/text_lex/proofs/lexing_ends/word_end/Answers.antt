@@ -37,4 +37,7 @@ pub returns-clause-word : goal.returns-clause-word
 returns-clause-word c = c.loop-at.invariant.word _ (ends refl)
 
 pub returns-clause-longest : goal.returns-clause-longest
-returns-clause-longest c = λ k rest. ⊎_elim (λ lt. omega arith) (λ ge. let e = word_past c.args.text.now c.loop-at.at k (omega arith) (c.loop-at.invariant.longest k ge rest) in omega arith) (cases_lt k c.loop-at.at)
+returns-clause-longest c =
+    λ k rest. ⊎_elim (λ lt. omega arith)
+    (λ ge. let e = word_past c.args.text.now c.loop-at.at k (omega arith) (c.loop-at.invariant.longest k ge rest) in
+    omega arith) (cases_lt k c.loop-at.at)

@@ -17,7 +17,9 @@ returns-in-Some c = λ announced no_comment begins.
       record {
         no_comment = no_comment;
         spelt = number refl begins run (subst (λ n. n < 2 ^ 64) found.1 small);
-        longest = λ other m spelt. let same = run_once _ text c.args.at _ m run (spelt_number text announced other c.args.at m begins spelt).1 in omega arith;
+        longest = λ other m spelt. let same =
+            run_once _ text c.args.at _ m run (spelt_number text announced other c.args.at m begins spelt).1
+            in omega arith;
         within = run.within;
       },
       run_forward _ text c.args.at _ run c.requires is_digit,
@@ -32,4 +34,5 @@ returns-in-None c = λ announced no_comment begins.
     fault_at text announced at Digit c.requires no_comment begins (λ e. cc) (λ other k spelt.
     let found = spelt_number text announced other at k begins spelt in
     let same = run_once _ text at _ k run found.1 in
-    c.in-None.ensures.none (run_numeral text at _ run forward) (subst (λ m. digits_value 10 (slice_range text at m) < 2 ^ 64) (sym same) found.2))
+    c.in-None.ensures.none (run_numeral text at _ run forward)
+    (subst (λ m. digits_value 10 (slice_range text at m) < 2 ^ 64) (sym same) found.2))

@@ -12,7 +12,8 @@ returns-in-Sign c =
       record {
         no_comment = not_from_Decides c.are_hyphens.result c.are_hyphens.ensures c.if-are_hyphens.false;
         spelt = sign refl begins signs.sign;
-        longest = λ other m spelt. signs.longest m (spelt_sign c.args.text.now c.args.announced other c.args.at m begins spelt).1;
+        longest = λ other m spelt. signs.longest m
+            (spelt_sign c.args.text.now c.args.announced other c.args.at m begins spelt).1;
         within = signs.within;
       },
       signs.forward,

@@ -11,7 +11,9 @@ returns-in-Some c = λ announced no_comment begins.
       record {
         no_comment = no_comment;
         spelt = string refl begins rest;
-        longest = λ other m spelt. let same = string_once _ _ _ _ m rest (spelt_string c.args.text.now announced other c.args.at m begins spelt).1 in omega arith;
+        longest = λ other m spelt. let same =
+            string_once _ _ _ _ m rest (spelt_string c.args.text.now announced other c.args.at m begins spelt).1
+            in omega arith;
         within = c.in-Some.ensures.within;
       },
       omega (arith, c.in-Some.ensures.forward),

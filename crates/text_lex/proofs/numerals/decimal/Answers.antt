@@ -32,7 +32,8 @@ loop-digit-preserved c =
     let more = digits_value_more 10 ds i c.loop-digit-test.true in
     let value = c.loop-digit.invariant.value in
     let range = c.if-not-is_ascii_digit.ensures.cases in
-    let read : digit_value (get_or ds i 0) + 48 ≡ get_or ds i 0 = digit_is (get_or ds i 0) (omega (arith, range)) (omega (arith, range)) in
+    let read : digit_value (get_or ds i 0) + 48 ≡ get_or ds i 0 =
+    digit_is (get_or ds i 0) (omega (arith, range)) (omega (arith, range)) in
     record {
       digits = digits_more 10 ds i c.loop-digit-test.true c.loop-digit.invariant.digits (omega (arith, read, range));
       value = omega (arith, more, value, read, range, c.in_ok-tens.ensures, c.in_ok-number.ensures);

@@ -1,4 +1,5 @@
-use Rattle.typed_laws.proofs.ReadingStatements.{reading_denotes_holds, denoted_is_read_holds, reading_is_exact_holds, none_is_denoted_holds, spelt_has_octets_holds}
+use Rattle.typed_laws.proofs.ReadingStatements.{reading_denotes_holds, denoted_is_read_holds, reading_is_exact_holds}
+use Rattle.typed_laws.proofs.ReadingStatements.{none_is_denoted_holds, spelt_has_octets_holds}
 use Rattle.typed_laws.proofs.laws.reading_is_denoting.Goals as goal
 
 pub returns-clause-denotes : goal.returns-clause-denotes

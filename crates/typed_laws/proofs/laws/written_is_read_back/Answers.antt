@@ -1,4 +1,5 @@
-use Rattle.typed_laws.proofs.WritingStatements.{written_is_read_again_holds, written_denotes_holds, written_is_read_back_holds, one_value_written_holds}
+use Rattle.typed_laws.proofs.WritingStatements.{written_is_read_again_holds, written_denotes_holds}
+use Rattle.typed_laws.proofs.WritingStatements.{written_is_read_back_holds, one_value_written_holds}
 use Rattle.typed_laws.proofs.laws.written_is_read_back.Goals as goal
 
 pub returns-clause-again : goal.returns-clause-again
