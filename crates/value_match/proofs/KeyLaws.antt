@@ -5,7 +5,7 @@ use Rattle.std.proofs.lemmas.List.{drop_all}
 use Rattle.term_values.specs.PartsView.{parts_listed}
 use Rattle.term_values.specs.SlotsView.{slots_listed}
 use Rattle.term_values.specs.Syntaxes.{TypeSyntax, TypeParts, Bounds}
-use Rattle.term_values.specs.Syntaxes.TypeSyntax.{Sequence, SequenceOf, SetOf}
+use Rattle.term_values.specs.Syntaxes.TypeSyntax.{Sequence, SetType, SequenceOf, SetOf}
 use Rattle.term_values.specs.Typed.{TypedValue, TypedSlots, TypedValues, listed}
 use Rattle.term_values.specs.Typed.TypedValue.{Parts, Many}
 use Rattle.term_values.specs.Typed.TypedSlots.{NoSlots}
@@ -13,7 +13,9 @@ use Rattle.term_values.specs.declared.syntax.Part.{Part}
 use Rattle.term_values.specs.declared.value.Slot.{Slot}
 use Rattle.term_values.specs.declared.value.Slot.TheVariants.{Absent, Present}
 use Rattle.value_match.specs.Marks.{mark_as, pick_mark}
-use Rattle.value_match.specs.MemberKeys.{is_written, member_key, member_size, pick_key, slots_key, values_key}
+use Rattle.value_match.specs.FirstSizes.{first_size}
+use Rattle.value_match.specs.InTurn.{in_turn, mark_count}
+use Rattle.value_match.specs.MemberKeys.{is_written, component_key, member_key, pick_key, slots_key, values_key}
 use Rattle.value_match.specs.MemberOrder.{TellsOrder}
 use Rattle.value_match.specs.SlotKeys.{BeginsWith, slot_key, value_key}
 use Rattle.value_match.specs.declared.told.MemberOrder.{MemberOrder}
@@ -94,19 +96,25 @@ values_end member i xs ys h k =
 
 -- ---- values that hold others
 
-pub sequence_key : (m : TypeSyntax) (v : TypedValue) (parts : TypeParts) (slots : TypedSlots) → m ≡ Sequence parts
-    → v ≡ Parts slots → member_key m v ≡ member_size m v ∷ slots_key parts slots
-sequence_key m v parts slots e f = rw (e, f) refl
+pub sequence_key : (m : TypeSyntax) (v : TypedValue) (parts : TypeParts) (slots : TypedSlots) (size : ℕ)
+    → m ≡ Sequence parts → v ≡ Parts slots → size ≡ first_size m v → size ∷ slots_key parts slots ≡ member_key m v
+sequence_key m v parts slots size e f s = ap (λ n. n ∷ slots_key parts slots) s ∙ rw (e, f) refl
 
-pub list_key : (m member : TypeSyntax) (v : TypedValue) (sizes : Bounds) (values : TypedValues)
-    → m ≡ SequenceOf member sizes → v ≡ Many values
-    → member_key m v ≡ member_size m v ∷ values_key (member_key member) values
-list_key m member v sizes values e f = rw (e, f) refl
+pub unordered_key : (m : TypeSyntax) (v : TypedValue) (parts : TypeParts) (slots : TypedSlots) (size : ℕ)
+    → m ≡ SetType parts → v ≡ Parts slots → size ≡ first_size m v
+    → size ∷ in_turn (component_key parts slots) mark_count ≡ member_key m v
+unordered_key m v parts slots size e f s =
+    ap (λ n. n ∷ in_turn (component_key parts slots) mark_count) s ∙ rw (e, f) refl
 
-pub set_key : (m member : TypeSyntax) (v : TypedValue) (sizes : Bounds) (values : TypedValues)
-    → m ≡ SetOf member sizes → v ≡ Many values
-    → member_key m v ≡ member_size m v ∷ values_key (member_key member) values
-set_key m member v sizes values e f = rw (e, f) refl
+pub list_key : (m member : TypeSyntax) (v : TypedValue) (sizes : Bounds) (values : TypedValues) (size : ℕ)
+    → m ≡ SequenceOf member sizes → v ≡ Many values → size ≡ first_size m v
+    → size ∷ values_key (member_key member) values ≡ member_key m v
+list_key m member v sizes values size e f s = ap (λ n. n ∷ values_key (member_key member) values) s ∙ rw (e, f) refl
+
+pub set_key : (m member : TypeSyntax) (v : TypedValue) (sizes : Bounds) (values : TypedValues) (size : ℕ)
+    → m ≡ SetOf member sizes → v ≡ Many values → size ≡ first_size m v
+    → size ∷ values_key (member_key member) values ≡ member_key m v
+set_key m member v sizes values size e f s = ap (λ n. n ∷ values_key (member_key member) values) s ∙ rw (e, f) refl
 
 pub key_of : (xs : List Part) (k : ℕ) (d : Part) (value : TypedValue) → k < length xs → get_or xs k d ≡ d
     → pick_key (parts_listed xs) k value ≡ mark_as None d.syntax value ∷ member_key d.syntax value

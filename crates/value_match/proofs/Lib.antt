@@ -5,3 +5,5 @@ pub mod MemberLaws
 pub mod OrderLaws
 pub mod PieceLaws
 pub mod SameIs
+pub mod SetLaws
+pub mod SizeLaws

@@ -1,9 +1,11 @@
 -- Members in rising order of their numbers, and what is known of a value among them.
-use Rattle.std.specs.Prelude.{◌≡◌, ◌≤◌, ℕ, List, [], ◌∷◌, false, take, length}
+use Rattle.std.specs.Prelude.{◌≡◌, ◌≤◌, ℕ, List, [], ◌∷◌, false, drop, take, length}
 use Rattle.term_values.specs.Rearranged.{IsRising, may_precede}
+use Rattle.term_values.specs.Syntaxes.{TypeSyntax}
 use Rattle.term_values.specs.Typed.{TypedValue, listed}
 use Rattle.term_values.specs.ValueContents.{member_encodings}
 use Rattle.term_values.specs.Matching.{Have}
+use Rattle.value_match.specs.FirstSizes.{front_size}
 use Rattle.value_match.specs.declared.sets.Reached.{Reached}
 use Rattle.value_match.specs.declared.sets.Reached.TheVariants.{Held, Passed, Untold}
 
@@ -24,6 +26,11 @@ FrontBefore key members count (x ∷ xs) = AllBefore key (take count members) (k
 -- the value is a member; or it is none, and the members in front of a place stand before it
 abbrev pub IsReached : (TypedValue → List ℕ) → TypedValue → List TypedValue → Reached → Type 0
 IsReached key value members Held = Have (listed members) value
-IsReached key value members (Passed at) =
+IsReached key value members (Passed at size) =
     (¬ Have (listed members) value) × AllBefore key (take at members) (key value) × (at ≤ length members)
 IsReached key value members Untold = Unit {0}
+
+-- the size is that of the member at the place, or 0 where there is none
+abbrev pub IsMeasured : TypeSyntax → List TypedValue → Reached → Type 0
+IsMeasured syntax members (Passed at size) = size ≡ front_size syntax (drop at members)
+IsMeasured syntax members _ = Unit {0}

@@ -3,11 +3,14 @@
 
 pub mod arc_order;
 pub mod equality;
+pub mod first_sizes;
 pub mod kinds;
 pub mod leaf_order;
 pub mod marks;
 pub mod member_order;
+pub mod next_marks;
 pub mod not_matched;
+pub mod set_marks;
 pub mod sets;
 pub mod substrings;
 pub mod told;

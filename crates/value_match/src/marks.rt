@@ -1,11 +1,11 @@
 //! The identifier octets with which a value begins, as one number: X.690, section 8.1.2.
 
-ghost use Rattle.std.specs.Prelude.{◌≡◌, ◌<◌, None};
+ghost use Rattle.std.specs.Prelude.{◌≡◌, ◌<◌, None, slice_index_or};
 ghost use Rattle.term_values.specs.TreeTags.{due};
-ghost use Rattle.value_match.specs.Marks.{mark, mark_as, pick_mark, tag_place};
+ghost use Rattle.value_match.specs.Marks.{first_octets, mark, mark_as, pick_mark, tag_place};
 
-use crate::arc_order::arc_place;
-use term_values::{Parts, Syntax, SyntaxForm, Tag, Value, ValueForm};
+use crate::arc_order::{arc_place, five};
+use term_values::{Bytes, Parts, Syntax, SyntaxForm, Tag, Value, ValueForm};
 
 /// The tag of a value: its own, or the implicit one in its place.
 fn due(tag: Option<Tag>, own: Tag) -> Tag
@@ -37,8 +37,36 @@ fn mark(constructed: bool, tag: Tag) -> u64
     ((tag.class % 4) as u64 * 2 + form) * 281_474_976_710_656 + tag_place(tag.number)
 }
 
-/// The identifier octets of a value under its tag, or under an implicit one in its place. Those of an ANY and of a
-/// CMISFilter aren't told apart.
+/// An octet, or 0 behind the last one.
+fn octet_at(octets: &[u8], at: usize) -> u64
+    ensures exact { result ≡ slice_index_or octets.now at 0 }
+    ensures within { result < 256 }
+{
+    if at < octets.len() {
+        octets[at] as u64
+    } else {
+        0
+    }
+}
+
+/// The first six octets of an encoding.
+fn first_octets(encoding: &Bytes) -> u64
+    ensures { result ≡ first_octets encoding.now }
+{
+    let octets = encoding.as_slice();
+    let first = octet_at(octets, 0);
+    let second = octet_at(octets, 1);
+    let third = octet_at(octets, 2);
+    let fourth = octet_at(octets, 3);
+    let fifth = octet_at(octets, 4);
+    let sixth = octet_at(octets, 5);
+    first / 32 * 281_474_976_710_656
+        + first % 32 * 1_099_511_627_776
+        + five(second, third, fourth, fifth, sixth)
+}
+
+/// The identifier octets of a value under its tag, or under an implicit one in its place. An ANY or a CMISFilter is an
+/// encoding, of which the first octets are taken.
 #[cycle(marking)]
 pub fn mark_of(tag: Option<Tag>, syntax: &Syntax, value: &Value) -> u64
     ensures { result ≡ mark_as tag syntax.now value.now }
@@ -68,8 +96,14 @@ pub fn mark_of(tag: Option<Tag>, syntax: &Syntax, value: &Value) -> u64
                 mark_of(Some(due(tag, *own)), inner, value)
             }
         }
-        SyntaxForm::Any => 0,
-        SyntaxForm::Filter => 0,
+        SyntaxForm::Any => match &value.form {
+            ValueForm::Raw(encoding) => first_octets(encoding),
+            _ => 0,
+        },
+        SyntaxForm::Filter => match &value.form {
+            ValueForm::Raw(encoding) => first_octets(encoding),
+            _ => 0,
+        },
     }
 }
 

@@ -1,16 +1,18 @@
 //! Whether sets are within one another, or have a common member: X.722, section 8.7.
 
-ghost use Rattle.std.specs.Prelude.{◌≡◌, ◌↔◌, ◌≤◌, IfOk, IfSome, IsErr, IsTrue, is_some, false, length, take};
+ghost use Rattle.std.specs.Prelude.{◌≡◌, ◌↔◌, ◌≤◌, IfOk, IfSome, IsErr, IsTrue, is_some, false, drop, length, take};
 ghost use Rattle.term_values.specs.Typed.{listed};
 ghost use Rattle.term_values.specs.Matching.{AreHeld, HaveCommon, Matches};
 ghost use Rattle.term_values.specs.MatchingKinds.{beneath_tags, can_match, is_set_of};
 ghost use Rattle.term_values.specs.MatchingKinds.MatchingRule.{Comparison, Intersection};
+ghost use Rattle.value_match.specs.FirstSizes.{front_size};
 ghost use Rattle.value_match.specs.MemberKeys.{member_key};
 ghost use Rattle.value_match.specs.MemberPlaces.{IsPlaceOf};
-ghost use Rattle.value_match.specs.RisingMembers.{AllBefore, AreRising, IsReached};
+ghost use Rattle.value_match.specs.RisingMembers.{AllBefore, AreRising, IsMeasured, IsReached};
 
+use crate::first_sizes::{first_size, size_from};
 use crate::kinds::is_set_of;
-use crate::member_order::order_of_members;
+use crate::member_order::{order_of_measured, order_of_members};
 use crate::not_matched::NotMatched;
 use crate::told::{MemberOrder, may_precede};
 use term_values::{Rules, Syntax, SyntaxForm, Value, ValueForm};
@@ -70,22 +72,27 @@ fn share_any(asserted: &[Value], held: &[Value]) -> bool
 enum Reached {
     /// It is one of them.
     Held,
-    /// It is none of them, and those in front of this place stand before it.
-    Passed(usize),
+    /// It is none of them, and those in front of this place stand before it. The member there has this size.
+    Passed(usize, u64),
     /// Nothing.
     Untold,
 }
 
-/// Looks for a value among members in rising order, those in front of `from` being before it.
-fn reach(syntax: &Syntax, value: &Value, held: &[Value], from: usize) -> Reached
+/// Looks for a value among members in rising order, those in front of `from` being before it. The member at `from` has
+/// the size `from_size`: it may be large, and be reached for many values, so it is measured once.
+fn reach(syntax: &Syntax, value: &Value, held: &[Value], from: usize, from_size: u64) -> Reached
     requires within { from ≤ length held.now }
+    requires measured { from_size ≡ front_size syntax.now (drop from held.now) }
     requires rising { AreRising (member_key syntax.now) held.now }
     requires passed { AllBefore (member_key syntax.now) (take from held.now) (member_key syntax.now value.now) }
-    ensures { IsReached (member_key syntax.now) value.now held.now result }
+    ensures known { IsReached (member_key syntax.now) value.now held.now result }
+    ensures measured { IsMeasured syntax.now held.now result }
 {
+    let size = first_size(syntax, value);
+    let mut held_size = from_size;
     for at in from..held.len() {
-        match order_of_members(syntax, &held[at], value) {
-            MemberOrder::Before => {}
+        match order_of_measured(syntax, &held[at], held_size, value, size) {
+            MemberOrder::Before => held_size = size_from(syntax, held, at + 1),
             MemberOrder::Alike => {
                 return if held[at].is_same(value) {
                     Reached::Held
@@ -93,11 +100,11 @@ fn reach(syntax: &Syntax, value: &Value, held: &[Value], from: usize) -> Reached
                     Reached::Untold
                 };
             }
-            MemberOrder::After => return Reached::Passed(at),
+            MemberOrder::After => return Reached::Passed(at, held_size),
             MemberOrder::Untold => return Reached::Untold,
         }
     }
-    Reached::Passed(held.len())
+    Reached::Passed(held.len(), held_size)
 }
 
 /// Whether some asserted member is held, both in rising order: each member of both is looked at once. None where the
@@ -108,10 +115,14 @@ fn share_rising(syntax: &Syntax, asserted: &[Value], held: &[Value]) -> Option<b
     ensures { IfSome result (λ shared. IsTrue shared ↔ HaveCommon (listed asserted.now) (listed held.now)) }
 {
     let mut from = 0;
+    let mut size = size_from(syntax, held, 0);
     for member in asserted {
-        match reach(syntax, member, held, from) {
+        match reach(syntax, member, held, from, size) {
             Reached::Held => return Some(true),
-            Reached::Passed(at) => from = at,
+            Reached::Passed(at, at_size) => {
+                from = at;
+                size = at_size;
+            }
             Reached::Untold => return None,
         }
     }

@@ -1,8 +1,8 @@
-use Rattle.std.proofs.Common.{drop}
+use Rattle.std.proofs.Common.{◌≡◌, ◌<◌, ℕ, drop}
 use Rattle.term_values.specs.PartsView.{parts_listed}
 use Rattle.term_values.specs.SlotsView.{slots_listed}
 use Rattle.term_values.specs.Typed.{listed}
-use Rattle.value_match.specs.MemberKeys.{member_key, slots_key, values_key}
+use Rattle.value_match.specs.MemberKeys.{component_key, member_key, slots_key, values_key}
 use Rattle.value_match.specs.MemberOrder.{TellsOrder}
 use Rattle.value_match.specs.declared.told.MemberOrder.{MemberOrder}
 use Rattle.value_match.proofs.member_order.+members.Given as goal
@@ -20,3 +20,7 @@ invariant-order_of_slots-loop-i l =
     (drop l.i l.present))) (slots_key (parts_listed (drop l.i l.items)) (slots_listed (drop l.i l.other_present)))
     → TellsOrder told (slots_key (parts_listed l.items) (slots_listed l.present))
     (slots_key (parts_listed l.items) (slots_listed l.other_present))
+
+abbrev pub invariant-order_of_components-loop-turn : goal.invariant-order_of_components-loop-turn
+invariant-order_of_components-loop-turn l =
+    (m : ℕ) → m < l.from → component_key l.parts l.slots m ≡ component_key l.parts l.others m

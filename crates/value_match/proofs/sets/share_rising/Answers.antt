@@ -13,7 +13,7 @@ returns-in-Held c =
     let x = c.member-item.result in
     let front : drop i xs ≡ x ∷ drop (i + 1) xs = drop_more xs i x (omega arith)
     ∙ ap (λ z. z ∷ drop (i + 1) xs) (search rules) in (
-      λ e. common_here i xs (drop (i + 1) xs) x (listed c.args.held.now) front c.in-Held.ensures,
+      λ e. common_here i xs (drop (i + 1) xs) x (listed c.args.held.now) front c.in-Held.ensures.known,
       λ h. refl,
     )
 
@@ -25,10 +25,12 @@ loop-member-preserved c =
     let x = c.member-item.result in
     let key = member_key c.args.syntax.now in
     let front : drop i xs ≡ x ∷ drop (i + 1) xs = drop_more xs i x (omega arith)
-    ∙ ap (λ z. z ∷ drop (i + 1) xs) (search rules) in (
-      λ common. common_later (drop i xs) (drop (i + 1) xs) x (listed ys) front c.in-Passed.ensures.0
-          (c.loop-member.invariant.0 common),
-      front_on key ys c.in-Passed.at x (drop i xs) (drop (i + 1) xs) front
-          (rising_drop key i xs c.requires.asserted) c.in-Passed.ensures.1,
-      c.in-Passed.ensures.2,
-    )
+    ∙ ap (λ z. z ∷ drop (i + 1) xs) (search rules) in
+    record {
+      common = λ common. common_later (drop i xs) (drop (i + 1) xs) x (listed ys) front c.in-Passed.ensures.known.0
+          (c.loop-member.invariant.common common);
+      front = front_on key ys c.in-Passed.at x (drop i xs) (drop (i + 1) xs) front
+          (rising_drop key i xs c.requires.asserted) c.in-Passed.ensures.known.1;
+      within = c.in-Passed.ensures.known.2;
+      measured = c.in-Passed.ensures.measured;
+    }

@@ -1,6 +1,6 @@
 use Rattle.std.proofs.Common.{[], ◌∷◌, sym}
 use Rattle.value_match.proofs.OrderLaws.{tells_lists}
-use Rattle.value_match.proofs.member_order.order_of_next.Goals as goal
+use Rattle.value_match.proofs.next_marks.order_of_next.Goals as goal
 
 pub returns-in-Some-next_mark : goal.returns-in-Some-next_mark
 returns-in-Some-next_mark c =
