@@ -14,10 +14,10 @@ use Rattle.rose_frames.specs.Framing.{Framing, announced, fault_of, fault_in, fr
 pub true_not_false : true ≡ false → ⊥
 true_not_false e = absurd (cc)
 
-both : (p q : Bool) → p ≡ true → q ≡ true → (p && q) ≡ true
+pub both : (p q : Bool) → p ≡ true → q ≡ true → (p && q) ≡ true
 both p q e f = rw (e, f) refl
 
-take_all : (xs : List ℕ) (n : ℕ) → length xs ≤ n → take n xs ≡ xs
+pub take_all : (xs : List ℕ) (n : ℕ) → length xs ≤ n → take n xs ≡ xs
 take_all xs n h = sym (take_min n xs) ∙ (ap (λ k. take k xs) (omega arith) ∙ take-length xs)
 
 longer : (head rest : List ℕ) → length head ≡ 4 → 4 ≤ length (head ++ rest)
@@ -184,10 +184,10 @@ fault_before {now = now} {place = place} {filled = filled} {apdu = apdu} {full =
     | inl short ↦ inl (fault_short now.place now.octets (held_length l short)) ]
 
 -- a length that is wrong
-faulty_size : (place size : ℕ) (refusal : FrameRefusal) → fault_of place size ≡ Some refusal → (size ≡ 0) ⊎ (1048576 < size)
+pub faulty_size : (place size : ℕ) (refusal : FrameRefusal) → fault_of place size ≡ Some refusal → (size ≡ 0) ⊎ (1048576 < size)
 faulty_size place size refusal e = grind (arith, e)
 
-sound_size : (place size : ℕ) → fault_of place size ≡ None → (0 < size) × (size ≤ 1048576)
+pub sound_size : (place size : ℕ) → fault_of place size ≡ None → (0 < size) × (size ≤ 1048576)
 sound_size place size e = grind (arith, e)
 
 none_left : (xs : List ℕ) → length xs ≡ 0 → xs ≡ []

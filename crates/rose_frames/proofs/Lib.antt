@@ -1,1 +1,3 @@
+mod CuttingLaws
 mod FramingLaws
+mod StreamLaws

@@ -3,6 +3,7 @@
 
 pub mod frame_refusal;
 pub mod framer;
+pub mod pieces;
 
 pub use frame_refusal::FrameRefusal;
 pub use framer::Framer;
