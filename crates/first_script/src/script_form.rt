@@ -114,10 +114,14 @@ fn is_written_get(alloc: Global, octets: &[u8], class: &Oid) -> Result<bool, All
         None => Ok(false),
         Some(invocation) => {
             let Request::Get { head } = &invocation.request;
-            let IdRef::Global(id) = &head.class;
             let Named::Object(name) = &head.base.named;
-            let written = write_get(alloc, i64::from(invocation.id), id, &name.parts)?;
-            Ok(*id == *class && written.as_slice() == octets)
+            match &head.class {
+                IdRef::Global(id) => {
+                    let written = write_get(alloc, i64::from(invocation.id), id, &name.parts)?;
+                    Ok(*id == *class && written.as_slice() == octets)
+                }
+                IdRef::Local(_) => Ok(false),
+            }
         }
     }
 }

@@ -7,6 +7,7 @@ pub mod MapLaws
 pub mod ObjectLaws
 pub mod PlaceLaws
 pub mod ScriptLaws
+mod ScopeFacts
 mod StandardFacts
 pub mod StepLaws
 pub mod StoringLaws

@@ -6,8 +6,10 @@ use term_values::{Bytes, Oid};
 /// An identifier as a request has it: X.711, types ObjectClass and AttributeId.
 #[derive(Drop)]
 pub enum IdRef {
-    /// globalForm
+    /// globalForm: the identifier under which it is registered.
     Global(Oid),
+    /// localForm: a number of the manager's own, which names nothing here.
+    Local(i64),
 }
 
 /// What an ObjectInstance names.
