@@ -9,3 +9,4 @@ pub mod TemplateValues
 pub mod SameUses
 pub mod SameTemplates
 pub mod StandardFacts
+pub mod TemplateFacts

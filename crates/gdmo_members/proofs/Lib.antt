@@ -10,3 +10,4 @@ pub mod FurtherValues
 pub mod SameTrees
 pub mod FurtherSameTrees
 pub mod StandardFacts
+pub mod TemplateFacts
