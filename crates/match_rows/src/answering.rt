@@ -5,6 +5,8 @@ use ber_tree::tree_reading::read_front_tree;
 use ber_values::{DecodeRefusal, decode};
 use std::alloc::{AllocError, Global};
 use term_values::{Rules, Syntax, Value};
+use value_match::member_order::order_of_members;
+use value_match::told::MemberOrder;
 use value_match::{NotMatched, contains_text, equal, meets, orders, subset};
 
 /// The rules whose letters stand in the word: e EQUALITY, o ORDERING, s SUBSTRINGS, c SET-COMPARISON and
@@ -45,6 +47,16 @@ fn shown(answer: Result<bool, NotMatched>) -> &'static str {
     }
 }
 
+/// What is printed for the order of two members.
+fn shown_order(told: MemberOrder) -> &'static str {
+    match told {
+        MemberOrder::Before => "before",
+        MemberOrder::Alike => "alike",
+        MemberOrder::After => "after",
+        MemberOrder::Untold => "untold",
+    }
+}
+
 /// What the call of this name answers.
 fn called(
     call: &str,
@@ -59,6 +71,7 @@ fn called(
         "contains_text" => shown(contains_text(syntax, rules, asserted, held)),
         "subset" => shown(subset(syntax, rules, asserted, held)),
         "meets" => shown(meets(syntax, rules, asserted, held)),
+        "order_of_members" => shown_order(order_of_members(syntax, asserted, held)),
         _ => "no such call",
     }
 }

@@ -36,34 +36,111 @@ fn part(alloc: Global, name: &[u8], syntax: Syntax, optional: bool) -> Result<Pa
     })
 }
 
-/// a INTEGER and b BOOLEAN, which may be OPTIONAL.
-fn two_parts(alloc: Global, optional: bool) -> Result<Parts, AllocError> {
-    let mut items = Vec::new(alloc);
-    items.push(part(alloc, b"a", whole(alloc), false)?)?;
-    items.push(part(alloc, b"b", plain(SyntaxForm::Bool), optional)?)?;
+fn parts(items: Vec<Part>) -> Result<Parts, AllocError> {
     match Parts::from_items(items) {
         Some(parts) => Ok(parts),
         None => Err(AllocError),
     }
 }
 
-/// a INTEGER DEFAULT 5, b BOOLEAN OPTIONAL and c [0] INTEGER OPTIONAL.
-fn parts_with_default(alloc: Global) -> Result<Parts, AllocError> {
+/// a INTEGER and b BOOLEAN, which may be OPTIONAL.
+fn two_parts(alloc: Global, optional: bool) -> Result<Parts, AllocError> {
     let mut items = Vec::new(alloc);
-    items.push(Part {
-        name: Bytes::from_slice(alloc, b"a")?,
+    items.push(part(alloc, b"a", whole(alloc), false)?)?;
+    items.push(part(alloc, b"b", plain(SyntaxForm::Bool), optional)?)?;
+    parts(items)
+}
+
+/// An INTEGER of this name, DEFAULT 5.
+fn part_with_default(alloc: Global, name: &[u8]) -> Result<Part, AllocError> {
+    Ok(Part {
+        name: Bytes::from_slice(alloc, name)?,
         syntax: whole(alloc),
         optional: false,
         default: Some(Value {
             form: ValueForm::Int(5),
         }),
-    })?;
+    })
+}
+
+/// a INTEGER DEFAULT 5, b BOOLEAN OPTIONAL and c [0] INTEGER OPTIONAL.
+fn parts_with_default(alloc: Global) -> Result<Parts, AllocError> {
+    let mut items = Vec::new(alloc);
+    items.push(part_with_default(alloc, b"a")?)?;
     items.push(part(alloc, b"b", plain(SyntaxForm::Bool), true)?)?;
     items.push(part(alloc, b"c", tagged(alloc, 0, false, whole(alloc))?, true)?)?;
-    match Parts::from_items(items) {
-        Some(parts) => Ok(parts),
-        None => Err(AllocError),
+    parts(items)
+}
+
+/// x BOOLEAN and y [3] INTEGER.
+fn chosen_parts(alloc: Global) -> Result<Parts, AllocError> {
+    let mut items = Vec::new(alloc);
+    items.push(part(alloc, b"x", plain(SyntaxForm::Bool), false)?)?;
+    items.push(part(alloc, b"y", tagged(alloc, 3, false, whole(alloc))?, false)?)?;
+    parts(items)
+}
+
+/// a [1] EXPLICIT INTEGER, b [2] INTEGER OPTIONAL, c CHOICE OPTIONAL of x BOOLEAN and y [3] INTEGER, and d INTEGER
+/// DEFAULT 5. By rising octets of their tags: c.x, d, b, c.y, a.
+fn mixed_parts(alloc: Global) -> Result<Parts, AllocError> {
+    let mut items = Vec::new(alloc);
+    items.push(part(alloc, b"a", tagged(alloc, 1, true, whole(alloc))?, false)?)?;
+    items.push(part(alloc, b"b", tagged(alloc, 2, false, whole(alloc))?, true)?)?;
+    let chosen = plain(SyntaxForm::Choice(chosen_parts(alloc)?));
+    items.push(part(alloc, b"c", chosen, true)?)?;
+    items.push(part_with_default(alloc, b"d")?)?;
+    parts(items)
+}
+
+/// a [31] INTEGER OPTIONAL, b [200] INTEGER OPTIONAL and c [30] INTEGER OPTIONAL. By rising octets of their tags:
+/// c, a, b.
+fn numbered_parts(alloc: Global) -> Result<Parts, AllocError> {
+    let mut items = Vec::new(alloc);
+    items.push(part(alloc, b"a", tagged(alloc, 31, false, whole(alloc))?, true)?)?;
+    items.push(part(alloc, b"b", tagged(alloc, 200, false, whole(alloc))?, true)?)?;
+    items.push(part(alloc, b"c", tagged(alloc, 30, false, whole(alloc))?, true)?)?;
+    parts(items)
+}
+
+/// f CMISFilter, a INTEGER and b [12] BOOLEAN, each OPTIONAL where they may be absent.
+fn filter_parts(alloc: Global, optional: bool) -> Result<Parts, AllocError> {
+    let mut items = Vec::new(alloc);
+    items.push(part(alloc, b"f", plain(SyntaxForm::Filter), optional)?)?;
+    items.push(part(alloc, b"a", whole(alloc), optional)?)?;
+    let last = tagged(alloc, 12, false, plain(SyntaxForm::Bool))?;
+    items.push(part(alloc, b"b", last, optional)?)?;
+    parts(items)
+}
+
+/// x ANY, OPTIONAL where it may be absent, and maybe a INTEGER in front.
+fn any_parts(alloc: Global, led: bool, optional: bool) -> Result<Parts, AllocError> {
+    let mut items = Vec::new(alloc);
+    if led {
+        items.push(part(alloc, b"a", whole(alloc), false)?)?;
     }
+    items.push(part(alloc, b"x", plain(SyntaxForm::Any), optional)?)?;
+    parts(items)
+}
+
+/// a INTEGER, s SET of a INTEGER and b BOOLEAN, and l [0] SET OF the same SET.
+fn nested_parts(alloc: Global) -> Result<Parts, AllocError> {
+    let inner = plain(SyntaxForm::Unordered(two_parts(alloc, false)?));
+    let member = Box::new(alloc, inner.copy(alloc)?)?;
+    let list = plain(SyntaxForm::SetOf(member, Ranges::new(alloc)));
+    let mut items = Vec::new(alloc);
+    items.push(part(alloc, b"a", whole(alloc), false)?)?;
+    items.push(part(alloc, b"s", inner, true)?)?;
+    items.push(part(alloc, b"l", tagged(alloc, 0, false, list)?, true)?)?;
+    parts(items)
+}
+
+/// n INTEGER and l SEQUENCE OF INTEGER.
+fn listed_parts(alloc: Global) -> Result<Parts, AllocError> {
+    let list = plain(SyntaxForm::ListOf(Box::new(alloc, whole(alloc))?, Ranges::new(alloc)));
+    let mut items = Vec::new(alloc);
+    items.push(part(alloc, b"n", whole(alloc), false)?)?;
+    items.push(part(alloc, b"l", list, false)?)?;
+    parts(items)
 }
 
 /// The syntax under a context-specific tag.
@@ -98,13 +175,26 @@ pub fn pieces_of(alloc: Global, syntax: &Syntax) -> Result<Syntax, AllocError> {
         tagged(alloc, 2, false, syntax.copy(alloc)?)?,
         false,
     )?)?;
-    match Parts::from_items(items) {
-        Some(parts) => {
-            let piece = Box::new(alloc, plain(SyntaxForm::Choice(parts)))?;
-            Ok(plain(SyntaxForm::ListOf(piece, Ranges::new(alloc))))
-        }
-        None => Err(AllocError),
-    }
+    let piece = Box::new(alloc, plain(SyntaxForm::Choice(parts(items)?)))?;
+    Ok(plain(SyntaxForm::ListOf(piece, Ranges::new(alloc))))
+}
+
+/// SETs of several components, and what holds an ANY or a CMISFilter.
+fn further(alloc: Global, name: &str) -> Result<Option<Syntax>, AllocError> {
+    Ok(Some(plain(match name {
+        "mixed" => SyntaxForm::Unordered(mixed_parts(alloc)?),
+        "defaults" => SyntaxForm::Unordered(parts_with_default(alloc)?),
+        "numbered" => SyntaxForm::Unordered(numbered_parts(alloc)?),
+        "filtered" => SyntaxForm::Unordered(filter_parts(alloc, true)?),
+        "led" => SyntaxForm::Seq(filter_parts(alloc, true)?),
+        "either" => SyntaxForm::Choice(filter_parts(alloc, false)?),
+        "opened" => SyntaxForm::Unordered(any_parts(alloc, false, true)?),
+        "trailed" => SyntaxForm::Seq(any_parts(alloc, true, true)?),
+        "anything" => SyntaxForm::Choice(any_parts(alloc, false, false)?),
+        "nested" => SyntaxForm::Unordered(nested_parts(alloc)?),
+        "listed" => SyntaxForm::Choice(listed_parts(alloc)?),
+        _ => return Ok(None),
+    })))
 }
 
 /// Structured syntaxes.
@@ -124,7 +214,7 @@ fn structured(alloc: Global, name: &str) -> Result<Option<Syntax>, AllocError> {
         "defaulted" => plain(SyntaxForm::Seq(parts_with_default(alloc)?)),
         "any" => plain(SyntaxForm::Any),
         "filter" => plain(SyntaxForm::Filter),
-        _ => return Ok(None),
+        _ => return further(alloc, name),
     }))
 }
 

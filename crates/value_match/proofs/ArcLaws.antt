@@ -1,25 +1,10 @@
 -- The order of arcs, place by place.
-use Rattle.std.proofs.Common.{◌≡◌, ◌<◌, ◌≤◌, ◌+◌, ℕ, Bool, true, false, cond, nat_lt, List, [], ◌∷◌, drop, length, get_or, map, sym, ap, ◌∙◌, subst, arith}
+use Rattle.std.proofs.Common.{◌≡◌, ◌<◌, ◌≤◌, ◌+◌, ℕ, List, ◌∷◌, drop, length, get_or, map, sym, ap, ◌∙◌, subst}
 use Rattle.std.proofs.lemmas.List.{drop_more, drop_all}
-use Rattle.value_match.specs.LeafKeys.{arc_place, arc_size, arcs_size}
+use Rattle.value_match.specs.LeafKeys.{arc_place}
 use Rattle.value_match.specs.MemberOrder.{StandsBefore, TellsOrder}
 use Rattle.value_match.specs.declared.told.MemberOrder.{MemberOrder}
 use Rattle.value_match.proofs.OrderLaws.{before_first, tells_behind, tells_lists}
-
-one_octet : (a b c d : Bool) → 1 ≤ cond a 1 (cond b 2 (cond c 3 (cond d 4 5)))
-one_octet true b c d = omega arith
-one_octet false true c d = omega arith
-one_octet false false true d = omega arith
-one_octet false false false true = omega arith
-one_octet false false false false = omega arith
-
-filled : (n : ℕ) → 1 ≤ arc_size n
-filled n = one_octet (nat_lt n 128) (nat_lt n 16384) (nat_lt n 2097152) (nat_lt n 268435456)
-
--- each arc has an octet at least
-pub arcs_fill : (xs : List ℕ) → length xs ≤ arcs_size xs
-arcs_fill [] = omega arith
-arcs_fill (x ∷ xs) = omega (arith, filled x, arcs_fill xs)
 
 pub places_front : (i : ℕ) (xs : List ℕ) → i < length xs
     → map arc_place (drop i xs) ≡ arc_place (get_or xs i 0) ∷ map arc_place (drop (i + 1) xs)

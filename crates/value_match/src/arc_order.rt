@@ -5,7 +5,7 @@ ghost use Rattle.term_values.specs.Typed.TypedValue.{Identifier};
 ghost use Rattle.value_match.specs.LeafKeys.{arc_place, arc_size, arcs_size, five, leaf_key};
 ghost use Rattle.value_match.specs.MemberOrder.{TellsOrder};
 
-use crate::told::{MemberOrder, order_of_numbers, order_then, turned};
+use crate::told::{MemberOrder, order_of_numbers, order_then};
 use term_values::Oid;
 
 /// How many octets a subidentifier has.
@@ -103,18 +103,14 @@ fn order_of_arcs(arcs: &[u32], others: &[u32]) -> MemberOrder
     }
 }
 
-/// The order of identifiers whose first two arcs make these subidentifiers, where the second has as many arcs at least.
-fn order_of_shorter(first: u64, arcs: &[u32], other: u64, others: &[u32]) -> MemberOrder
+/// The order of identifiers whose first two arcs make these subidentifiers.
+fn order_behind(first: u64, arcs: &[u32], other: u64, others: &[u32]) -> MemberOrder
     requires first { first < 8589934592 }
     requires other { other < 8589934592 }
     ensures { TellsOrder result (arcs_size (first ∷ arcs.now) ∷ map arc_place (first ∷ arcs.now))
         (arcs_size (other ∷ others.now) ∷ map arc_place (other ∷ others.now)) }
 {
     let size = arc_size(first) as u128 + arcs_size(arcs);
-    // each arc has an octet at least, so the others need not all be looked at
-    if size < others.len() as u128 {
-        return MemberOrder::Before;
-    }
     let other_size = arc_size(other) as u128 + arcs_size(others);
     order_then(
         order_of_sizes(size, other_size),
@@ -123,21 +119,6 @@ fn order_of_shorter(first: u64, arcs: &[u32], other: u64, others: &[u32]) -> Mem
             order_of_arcs(arcs, others),
         ),
     )
-}
-
-/// The order of identifiers whose first two arcs make these subidentifiers. Takes time linear in the one that has the
-/// fewer arcs.
-fn order_behind(first: u64, arcs: &[u32], other: u64, others: &[u32]) -> MemberOrder
-    requires first { first < 8589934592 }
-    requires other { other < 8589934592 }
-    ensures { TellsOrder result (arcs_size (first ∷ arcs.now) ∷ map arc_place (first ∷ arcs.now))
-        (arcs_size (other ∷ others.now) ∷ map arc_place (other ∷ others.now)) }
-{
-    if others.len() < arcs.len() {
-        turned(order_of_shorter(other, others, first, arcs))
-    } else {
-        order_of_shorter(first, arcs, other, others)
-    }
 }
 
 /// The order of identifiers.

@@ -30,18 +30,6 @@ pub fn order_then(first: MemberOrder, next: MemberOrder) -> MemberOrder
     }
 }
 
-/// The order of the second list and the first.
-pub fn turned(told: MemberOrder) -> MemberOrder
-    ensures { (xs ys : List ℕ) → TellsOrder told xs ys → TellsOrder result ys xs }
-{
-    match told {
-        MemberOrder::Before => MemberOrder::After,
-        MemberOrder::Alike => MemberOrder::Alike,
-        MemberOrder::After => MemberOrder::Before,
-        MemberOrder::Untold => MemberOrder::Untold,
-    }
-}
-
 /// The order of two numbers.
 pub fn order_of_numbers(number: u64, other: u64) -> MemberOrder
     ensures { TellsOrder result (number ∷ []) (other ∷ []) }

@@ -1,15 +1,7 @@
-use Rattle.std.proofs.Common.{◌≡◌, ◌<◌, ◌+◌, [], ◌∷◌, map, arith}
+use Rattle.std.proofs.Common.{◌≡◌, ◌+◌, [], ◌∷◌, map}
 use Rattle.value_match.specs.LeafKeys.{arc_place, arc_size, arcs_size}
-use Rattle.value_match.proofs.ArcLaws.{arcs_fill}
-use Rattle.value_match.proofs.OrderLaws.{before_first, tells_as}
-use Rattle.value_match.proofs.arc_order.order_of_shorter.Goals as goal
-
-pub returns-then-size-others : goal.returns-then-size-others
-returns-then-size-others c =
-    let shorter : c.arc_size.result + c.arcs_size.result < arc_size c.args.other + arcs_size c.args.others.now =
-    omega (arith, arcs_fill c.args.others.now) in
-    before_first (arc_size c.args.first + arcs_size c.args.arcs.now) (arc_size c.args.other + arcs_size c.args.others.now)
-    _ _ (omega (arith, shorter, c.arc_size.ensures.exact, c.arcs_size.ensures.exact))
+use Rattle.value_match.proofs.OrderLaws.{tells_as}
+use Rattle.value_match.proofs.arc_order.order_behind.Goals as goal
 
 pub returns : goal.returns
 returns c =
