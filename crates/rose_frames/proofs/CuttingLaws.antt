@@ -20,9 +20,10 @@ hand_grows : (held rest : List ℕ) (n : ℕ) → length held + n ≡ length (in
 hand_grows held rest n e =
     let k = frame_size (held ++ rest) in
     let size : length (in_hand (held ++ rest)) ≡ min k (length (held ++ rest)) = length-take k (held ++ rest) in
-    let both_size = length-append held rest in
-    (sym (take_min k (held ++ rest)) ∙ (ap (λ m. take m (held ++ rest)) (sym size ∙ sym e) ∙ take-append-add held rest n),
-    omega (arith, size, both_size, e))
+    let both_size = length-append held rest in (
+      sym (take_min k (held ++ rest)) ∙ (ap (λ m. take m (held ++ rest)) (sym size ∙ sym e) ∙ take-append-add held rest n),
+      omega (arith, size, both_size, e),
+    )
 
 pub is_held : (octets : List ℕ) (size : ℕ) → announced octets ≡ size → length octets ≡ 4 + size → 0 < size → size ≤ 1048576 →
     is_whole octets ≡ true
@@ -39,20 +40,22 @@ pub not_whole_all : (place : ℕ) (octets : List ℕ) → fault_in place octets 
     in_hand octets ≡ octets
 not_whole_all place octets sound partial =
     elim (cases_lt (length octets) 4) [
-      inl short ↦ hand_short octets short
-    | inr there ↦
-      elim (cases_lt (length octets) (4 + announced octets)) [
-        inl less ↦
-        take_all octets (frame_size octets) (rw (le-ltb (length octets) 4 there) (omega (arith, less)))
-      | inr enough ↦
-        let size : frame_size octets ≡ 4 + announced octets = rw (le-ltb (length octets) 4 there) refl in
-        let right : fault_of place (announced octets) ≡ None = rw (le-ltb (length octets) 4 there) at sound in
-        let s = sound_size place (announced octets) right in
-        let long : length (in_hand octets) ≡ 4 + announced octets =
-        ap (λ n. length (take n octets)) size ∙ length-take-le (4 + announced octets) octets enough in
-        let same : announced (in_hand octets) ≡ announced octets =
-        ap number (ap (λ n. take 4 (take n octets)) size ∙ take-take 4 (4 + announced octets) octets (omega arith)) in
-        absurd (true_not_false (sym (is_held (in_hand octets) (announced octets) same long s.0 s.1) ∙ partial)) ] ]
+      | inl short ↦ hand_short octets short
+      | inr there ↦
+          elim (cases_lt (length octets) (4 + announced octets)) [
+            | inl less ↦
+                take_all octets (frame_size octets) (rw (le-ltb (length octets) 4 there) (omega (arith, less)))
+            | inr enough ↦
+                let size : frame_size octets ≡ 4 + announced octets = rw (le-ltb (length octets) 4 there) refl in
+                let right : fault_of place (announced octets) ≡ None = rw (le-ltb (length octets) 4 there) at sound in
+                let s = sound_size place (announced octets) right in
+                let long : length (in_hand octets) ≡ 4 + announced octets =
+                ap (λ n. length (take n octets)) size ∙ length-take-le (4 + announced octets) octets enough in
+                let same : announced (in_hand octets) ≡ announced octets =
+                ap number (ap (λ n. take 4 (take n octets)) size ∙ take-take 4 (4 + announced octets) octets (omega arith)) in
+                absurd (true_not_false (sym (is_held (in_hand octets) (announced octets) same long s.0 s.1) ∙ partial))
+          ]
+    ]
 
 pub hand_again : (octets : List ℕ) → in_hand octets ≡ octets → in_hand (in_hand octets) ≡ in_hand octets
 hand_again octets e = ap in_hand e
@@ -63,10 +66,11 @@ sound_fault place size s = grind (arith, s)
 pub sound_anywhere : (place other : ℕ) (octets : List ℕ) → fault_in place octets ≡ None → fault_in other octets ≡ None
 sound_anywhere place other octets sound =
     elim (cases_lt (length octets) 4) [
-      inl short ↦ rw (lt-ltb (length octets) 4 short) refl
-    | inr there ↦
-      let right : fault_of place (announced octets) ≡ None = rw (le-ltb (length octets) 4 there) at sound in
-      rw (le-ltb (length octets) 4 there) (sound_fault other (announced octets) (sound_size place (announced octets) right)) ]
+      | inl short ↦ rw (lt-ltb (length octets) 4 short) refl
+      | inr there ↦
+          let right : fault_of place (announced octets) ≡ None = rw (le-ltb (length octets) 4 there) at sound in
+          rw (le-ltb (length octets) 4 there) (sound_fault other (announced octets) (sound_size place (announced octets) right))
+    ]
 
 -- So much of a piece was fed, and these frames were handed out since.
 pub record Feeding (start now : Framing) (piece : List ℕ) (at : ℕ) (old new : List (List ℕ)) : Type 0 where
@@ -83,8 +87,12 @@ pub feeding_start : (start : Framing) (piece : List ℕ) (old : List (List ℕ))
     Feeding start start piece 0 old old
 feeding_start start piece old small =
     record {
-      found = []; apdus = sym (append-nil old); begins = record { whole = refl; each = all_none };
-      placed = omega (arith, small); within = omega arith }
+      found = [];
+      apdus = sym (append-nil old);
+      begins = record { whole = refl; each = all_none };
+      placed = omega (arith, small);
+      within = omega arith;
+    }
 
 drop_none : (n : ℕ) → drop {A = ℕ} n [] ≡ []
 drop_none zero = refl
@@ -111,12 +119,15 @@ fed_on start now later piece part at n old new f rest taken count =
     ∙ (ap (λ xs. xs ++ drop n part) (sym (octets_are ∙ g.0))
     ∙ ap (λ xs. later.octets ++ xs) (ap (drop n) rest ∙ dropped n at piece))) in
     record {
-      found = f.found; apdus = f.apdus;
+      found = f.found;
+      apdus = f.apdus;
       begins = record {
         whole = f.begins.whole ∙ ap (λ xs. flat_map frame f.found ++ xs) (ap (λ xs. now.octets ++ xs) (sym rest) ∙ whole);
-        each = f.begins.each };
+        each = f.begins.each;
+      };
       placed = ap (λ (v : Framing). v.place) taken ∙ f.placed;
-      within = omega (arith, g.1, size, f.within) }
+      within = omega (arith, g.1, size, f.within);
+    }
 
 pub place_on : (start one more : ℕ) → place_behind (place_behind start one) more ≡ place_behind start (one + more)
 place_on start one more = omega arith
@@ -143,14 +154,16 @@ handed_on start now later piece apdu at old new further f is framed after more =
       apdus = more ∙ (ap (λ xs. xs ++ apdu ∷ []) f.apdus ∙ append_assoc old f.found (apdu ∷ []));
       begins = record {
         whole = f.begins.whole ∙ (sym (append_assoc (flat_map frame f.found) now.octets (drop at piece))
-        ∙ (ap (λ xs. xs ++ drop at piece) (sym front)
-        ∙ ap (λ (v : Framing). flat_map frame (f.found ++ apdu ∷ []) ++ (v.octets ++ drop at piece)) (sym after)));
-        each = All-append IsFramed f.found (apdu ∷ []) f.begins.each (one_framed apdu framed) };
+            ∙ (ap (λ xs. xs ++ drop at piece) (sym front)
+            ∙ ap (λ (v : Framing). flat_map frame (f.found ++ apdu ∷ []) ++ (v.octets ++ drop at piece)) (sym after)));
+        each = All-append IsFramed f.found (apdu ∷ []) f.begins.each (one_framed apdu framed);
+      };
       placed = ap (λ (v : Framing). v.place) after
-      ∙ (ap (λ p. place_behind p (length now.octets)) f.placed
-      ∙ (place_on start.place (length (flat_map frame f.found)) (length now.octets)
-      ∙ ap (λ n. place_behind start.place n) (sym size)));
-      within = f.within }
+          ∙ (ap (λ p. place_behind p (length now.octets)) f.placed
+          ∙ (place_on start.place (length (flat_map frame f.found)) (length now.octets)
+          ∙ ap (λ n. place_behind start.place n) (sym size)));
+      within = f.within;
+    }
 
 -- a piece is at its end where no frame is held
 pub record Ended (now later : Framing) (piece : List ℕ) (at : ℕ) : Type 0 where
@@ -169,7 +182,8 @@ ended now later piece part at rest taken sound partial =
     record {
       all = ap (λ xs. now.octets ++ xs) (sym rest) ∙ sym same;
       again = ap in_hand same ∙ (all ∙ sym same);
-      sound = ap (fault_in 0) same ∙ sound_anywhere now.place 0 (now.octets ++ part) sound }
+      sound = ap (fault_in 0) same ∙ sound_anywhere now.place 0 (now.octets ++ part) sound;
+    }
 
 pub frame_some : (now : Framing) (apdu : List ℕ) → now.octets ≡ frame apdu → 0 < length now.octets
 frame_some now apdu e = let size : length now.octets ≡ 4 + length apdu = ap length e ∙ omega arith in omega (arith, size)
@@ -187,6 +201,11 @@ pub refusal_of : (start now : Framing) (piece part : List ℕ) (at : ℕ) (old n
     IsRefusedAt start piece old new refusal
 refusal_of start now piece part at old new refusal f rest (inl memory) = inl memory
 refusal_of start now piece part at old new refusal f rest (inr fault) =
-    inr (f.found, now.octets ++ drop at piece, f.apdus, f.begins,
-    ap (λ p. fault_in p (now.octets ++ drop at piece)) (sym f.placed)
-    ∙ (ap (λ xs. fault_in now.place (now.octets ++ xs)) (sym rest) ∙ fault))
+    inr (
+      f.found,
+      now.octets ++ drop at piece,
+      f.apdus,
+      f.begins,
+      ap (λ p. fault_in p (now.octets ++ drop at piece)) (sym f.placed)
+          ∙ (ap (λ xs. fault_in now.place (now.octets ++ xs)) (sym rest) ∙ fault),
+    )

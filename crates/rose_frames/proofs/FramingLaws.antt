@@ -1,5 +1,5 @@
 -- What is held of a stream, by the four octets of the length and what stands behind them.
-use Rattle.std.proofs.Common.{◌≡◌, ◌⊎◌, inl, inr, ℕ, ◌+◌, ◌-◌, ◌<◌, ◌≤◌, Bool, true, false, not, All,  ◌&&◌, ◌==◌, List, [], ◌∷◌, ◌++◌, length, take, drop, min, Option, Some, None, refl, sym, ap, ◌∙◌, subst, arith, zero, suc, append_assoc, take-append-drop, length-append, length-take}
+use Rattle.std.proofs.Common.{◌≡◌, ◌⊎◌, inl, inr, ℕ, ◌+◌, ◌-◌, ◌<◌, ◌≤◌, Bool, true, false, not, All, ◌&&◌, ◌==◌, List, [], ◌∷◌, ◌++◌, length, take, drop, min, Option, Some, None, refl, sym, ap, ◌∙◌, subst, arith, zero, suc, append_assoc, take-append-drop, length-append, length-take}
 use Rattle.std.proofs.Math.Dec.{ltb, leb}
 use Rattle.std.proofs.Math.Seq.{take-length, take-append-add}
 use Rattle.std.proofs.lemmas.Bool.{le-ltb, lt-ltb, ltb-true, le-leb, lt-leb, leb-true, eqb-true, eq-eqb, cases_lt, and_parts}
@@ -82,9 +82,11 @@ still_short filled more size apdu piece size-2 f short is count =
     let nothing : apdu ≡ [] = f.none_yet (omega arith) in
     let all : length piece ≡ more = omega (arith, f.within) in
     let front : held_octets filled size apdu ≡ take filled size =
-    ap (λ xs. take filled size ++ xs) nothing ∙ append-nil (take filled size) in
-    (ap (λ xs. xs ++ piece) front ∙ (ap (λ xs. take filled size ++ xs) (sym (take_all piece more (omega arith))) ∙ sym is),
-    ap length front ∙ length_filled filled size apdu f, all)
+    ap (λ xs. take filled size ++ xs) nothing ∙ append-nil (take filled size) in (
+      ap (λ xs. xs ++ piece) front ∙ (ap (λ xs. take filled size ++ xs) (sym (take_all piece more (omega arith))) ∙ sym is),
+      ap length front ∙ length_filled filled size apdu f,
+      all,
+    )
 
 abbrev pub IsSame : Framing → Framing → Type 0
 IsSame one other = one ≡ other
@@ -154,9 +156,11 @@ same_length : {now : Framing} {place filled more : ℕ} {size apdu piece full : 
     4 ≤ filled → (more ≡ 0) × (full ≡ size)
 same_length {filled = filled} {more = more} {size = size} {piece = piece} l there =
     let nothing : more ≡ 0 = omega (arith, exactly l) in
-    let four = l.fields.four in
-    (nothing, front l ∙ (ap (λ n. take filled size ++ take n piece) nothing
-    ∙ (append-nil (take filled size) ∙ take_all size filled (omega (arith, four, there)))))
+    let four = l.fields.four in (
+      nothing,
+      front l ∙ (ap (λ n. take filled size ++ take n piece) nothing
+          ∙ (append-nil (take filled size) ∙ take_all size filled (omega (arith, four, there)))),
+    )
 
 held_length : {now : Framing} {place filled more : ℕ} {size apdu piece full : List ℕ} → Long now place filled more size apdu piece full →
     filled < 4 → length now.octets < 4
@@ -179,9 +183,13 @@ pub fault_before : {now : Framing} {place filled more : ℕ} {size apdu piece fu
     (fault_in now.place now.octets ≡ None) ⊎ ((4 ≤ filled) × (fault_in now.place now.octets ≡ fault_of place (number full)))
 fault_before {now = now} {place = place} {filled = filled} {apdu = apdu} {full = full} l =
     elim (cases_lt filled 4) [
-      inr there ↦ inr (there, ap (λ p. fault_in p now.octets) (placed l)
-      ∙ (ap (fault_in place) (held_long l there) ∙ fault_long place full apdu l.four))
-    | inl short ↦ inl (fault_short now.place now.octets (held_length l short)) ]
+      | inr there ↦ inr (
+        there,
+        ap (λ p. fault_in p now.octets) (placed l)
+            ∙ (ap (fault_in place) (held_long l there) ∙ fault_long place full apdu l.four),
+      )
+      | inl short ↦ inl (fault_short now.place now.octets (held_length l short))
+    ]
 
 -- a length that is wrong
 pub faulty_size : (place size : ℕ) (refusal : FrameRefusal) → fault_of place size ≡ Some refusal → (size ≡ 0) ⊎ (1048576 < size)
@@ -198,22 +206,27 @@ pub faulty_empty : {now : Framing} {place filled more : ℕ} {size apdu piece fu
     (refusal : FrameRefusal) → fault_of place (number full) ≡ Some refusal → apdu ≡ []
 faulty_empty {place = place} {filled = filled} {apdu = apdu} {full = full} l refusal e =
     elim (cases_lt filled 4) [
-      inl short ↦ l.fields.none_yet short
-    | inr there ↦ elim l.fields.some [
-        inl empty ↦ empty
-      | inr few ↦ none_left apdu (elim (faulty_size place (number full) refusal e) [
-          inl zero_size ↦ omega (arith, few.0, ap number (same_length l there).1, zero_size)
-        | inr large ↦ absurd (omega (arith, few.1, ap number (same_length l there).1, large)) ]) ] ]
+      | inl short ↦ l.fields.none_yet short
+      | inr there ↦ elim l.fields.some [
+        | inl empty ↦ empty
+        | inr few ↦ none_left apdu (elim (faulty_size place (number full) refusal e) [
+          | inl zero_size ↦ omega (arith, few.0, ap number (same_length l there).1, zero_size)
+          | inr large ↦ absurd (omega (arith, few.1, ap number (same_length l there).1, large))
+        ])
+      ]
+    ]
 
 -- as much of the length as there is has an APDU that is at most as long
 pub due_within : {now : Framing} {place filled more : ℕ} {size apdu piece full : List ℕ} → Long now place filled more size apdu piece full →
     length apdu ≤ number full
 due_within {filled = filled} {apdu = apdu} {full = full} l =
     elim (cases_lt filled 4) [
-      inl short ↦ omega (arith, ap length (l.fields.none_yet short))
-    | inr there ↦ elim l.fields.some [
-        inl empty ↦ omega (arith, ap length empty)
-      | inr few ↦ omega (arith, few.0, ap number (same_length l there).1) ] ]
+      | inl short ↦ omega (arith, ap length (l.fields.none_yet short))
+      | inr there ↦ elim l.fields.some [
+        | inl empty ↦ omega (arith, ap length empty)
+        | inr few ↦ omega (arith, few.0, ap number (same_length l there).1)
+      ]
+    ]
 
 due_taken : (n due : ℕ) (xs : List ℕ) → due ≡ min (length xs) n → take due xs ≡ take n xs
 due_taken n due xs e = ap (λ k. take k xs) (e ∙ omega arith) ∙ take_min n xs
@@ -243,9 +256,10 @@ fed {now = now} {place = place} {filled = filled} {more = more} {apdu = apdu} {p
     ∙ ap (λ n. length apdu + n) (length-take-le due (drop more piece) few)) in
     let whole_size : length (take 4 full ++ grown) ≡ 4 + length grown =
     length-append (take 4 full) grown ∙ ap (λ xs. length xs + length grown) whole
-    ∙ ap (λ n. n + length grown) l.four in
-    (λ i. record { place = sym (placed l) i; octets = hand i },
-    omega (arith, whole_size, grown_size, held_size l, exactly l))
+    ∙ ap (λ n. n + length grown) l.four in (
+      λ i. record { place = sym (placed l) i; octets = hand i },
+      omega (arith, whole_size, grown_size, held_size l, exactly l),
+    )
 
 -- the tests of a whole frame
 same_test : (p q : Bool) → (p ≡ true → q ≡ true) → (q ≡ true → p ≡ true) → p ≡ q
@@ -265,9 +279,11 @@ whole_fields now place filled size apdu f view there =
     let four = f.four in
     let is : now.octets ≡ size ++ apdu =
     ap (λ (v : Framing). v.octets) (sym view) ∙ ap (λ xs. xs ++ apdu) (take_all size filled (omega (arith, four, there))) in
-    let long : length (size ++ apdu) ≡ 4 + length apdu = length-append size apdu ∙ ap (λ n. n + length apdu) f.four in
-    (is, ap is_whole is ∙ (whole_long size apdu f.four
-    ∙ ap (λ b. is_size (number size) && b) (shifted (length (size ++ apdu)) (length apdu) (number size) long)))
+    let long : length (size ++ apdu) ≡ 4 + length apdu = length-append size apdu ∙ ap (λ n. n + length apdu) f.four in (
+      is,
+      ap is_whole is ∙ (whole_long size apdu f.four
+          ∙ ap (λ b. is_size (number size) && b) (shifted (length (size ++ apdu)) (length apdu) (number size) long)),
+    )
 
 -- nothing is taken exactly where a frame is held or nothing comes
 pub nothing_taken : {now : Framing} {place filled more : ℕ} {size apdu piece full : List ℕ} → Long now place filled more size apdu piece full →
@@ -278,12 +294,13 @@ nothing_taken {now = now} {place = place} {filled = filled} {more = more} {size 
     (none_more, omega (arith, ap (λ n. length (drop n piece)) none_more, ap length empty))
 nothing_taken {now = now} {place = place} {filled = filled} {more = more} {size = size} {apdu = apdu} {piece = piece} {full = full} l (inl whole) =
     elim (cases_lt filled 4) [
-      inl short ↦ absurd (true_not_false (sym whole ∙ whole_short now.octets (held_length l short)))
-    | inr there ↦
-      let w = whole_fields now place filled size apdu l.fields l.view there in
-      let equal : length apdu ≡ number size =
-      eqb-true (length apdu) (number size) (and_parts (is_size (number size)) (length apdu == number size) (sym w.1 ∙ whole)).1 in
-      ((same_length l there).0, omega (arith, equal, ap number (same_length l there).1)) ]
+      | inl short ↦ absurd (true_not_false (sym whole ∙ whole_short now.octets (held_length l short)))
+      | inr there ↦
+          let w = whole_fields now place filled size apdu l.fields l.view there in
+          let equal : length apdu ≡ number size =
+          eqb-true (length apdu) (number size) (and_parts (is_size (number size)) (length apdu == number size) (sym w.1 ∙ whole)).1 in
+          ((same_length l there).0, omega (arith, equal, ap number (same_length l there).1))
+    ]
 
 pub none_taken : {now : Framing} {place filled more : ℕ} {size apdu piece full : List ℕ} → Long now place filled more size apdu piece full →
     more + min (length (drop more piece)) (number full - length apdu) ≡ 0 → fault_of place (number full) ≡ None →
@@ -295,13 +312,14 @@ none_taken {now = now} {place = place} {filled = filled} {more = more} {size = s
     let same : number full ≡ number size = ap number (same_length l there).1 in
     let none_more : length (drop more piece) ≡ length piece = ap (λ n. length (drop n piece)) (same_length l there).0 in
     elim (cases_lt 0 (length piece)) [
-      inr empty ↦ inr (none_left piece (omega (arith, empty)))
-    | inl some ↦
-      let equal : length apdu ≡ number size = omega (arith, none_now, some, none_more, same, due_within l) in
-      inl (w.1 ∙ both (is_size (number size)) (length apdu == number size)
-      (both (ltb 0 (number size)) (leb (number size) 1048576) (lt-ltb 0 (number size) (omega (arith, s.0, same)))
-      (le-leb (number size) 1048576 (omega (arith, s.1, same))))
-      (eq-eqb (length apdu) (number size) equal)) ]
+      | inr empty ↦ inr (none_left piece (omega (arith, empty)))
+      | inl some ↦
+          let equal : length apdu ≡ number size = omega (arith, none_now, some, none_more, same, due_within l) in
+          inl (w.1 ∙ both (is_size (number size)) (length apdu == number size)
+          (both (ltb 0 (number size)) (leb (number size) 1048576) (lt-ltb 0 (number size) (omega (arith, s.0, same)))
+          (le-leb (number size) 1048576 (omega (arith, s.1, same))))
+          (eq-eqb (length apdu) (number size) equal))
+    ]
 
 -- what is wrong now was right before, where nothing is wrong now
 pub sound_before : {now : Framing} {place filled more : ℕ} {size apdu piece full : List ℕ} → Long now place filled more size apdu piece full →
@@ -351,17 +369,19 @@ pub framed : (now : Framing) (place filled : ℕ) (size apdu : List ℕ) → Fie
     All (λ x. x < 256) size → (now.octets ≡ frame apdu) × IsFramed apdu × (length now.octets ≡ 4 + length apdu)
 framed now place filled size apdu f view whole each =
     elim (cases_lt filled 4) [
-      inl short ↦
-      let none_yet = ap length (f.none_yet short) in
-      let few : length now.octets < 4 = omega (arith, fields_size now place filled size apdu f view, none_yet, short) in
-      absurd (true_not_false (sym whole ∙ whole_short now.octets few))
-    | inr there ↦
-      let w = whole_fields now place filled size apdu f view there in
-      let parts = and_parts (is_size (number size)) (length apdu == number size) (sym w.1 ∙ whole) in
-      let equal : length apdu ≡ number size = eqb-true (length apdu) (number size) parts.1 in
-      let bounds = and_parts (ltb 0 (number size)) (leb (number size) 1048576) parts.0 in
-      let head : octets 4 (length apdu) ≡ size =
-      ap (octets 4) equal ∙ (ap (λ n. octets n (number size)) (sym f.four) ∙ octets-number size each) in
-      (w.0 ∙ ap (λ xs. xs ++ apdu) (sym head),
-      (omega (arith, ltb-true 0 (number size) bounds.0, equal), omega (arith, leb-true (number size) 1048576 bounds.1, equal)),
-      ap length w.0 ∙ (length-append size apdu ∙ ap (λ n. n + length apdu) f.four)) ]
+      | inl short ↦
+          let none_yet = ap length (f.none_yet short) in
+          let few : length now.octets < 4 = omega (arith, fields_size now place filled size apdu f view, none_yet, short) in
+          absurd (true_not_false (sym whole ∙ whole_short now.octets few))
+      | inr there ↦
+          let w = whole_fields now place filled size apdu f view there in
+          let parts = and_parts (is_size (number size)) (length apdu == number size) (sym w.1 ∙ whole) in
+          let equal : length apdu ≡ number size = eqb-true (length apdu) (number size) parts.1 in
+          let bounds = and_parts (ltb 0 (number size)) (leb (number size) 1048576) parts.0 in
+          let head : octets 4 (length apdu) ≡ size =
+          ap (octets 4) equal ∙ (ap (λ n. octets n (number size)) (sym f.four) ∙ octets-number size each) in (
+            w.0 ∙ ap (λ xs. xs ++ apdu) (sym head),
+            (omega (arith, ltb-true 0 (number size) bounds.0, equal), omega (arith, leb-true (number size) 1048576 bounds.1, equal)),
+            ap length w.0 ∙ (length-append size apdu ∙ ap (λ n. n + length apdu) f.four),
+          )
+    ]

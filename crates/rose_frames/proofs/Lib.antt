@@ -1,3 +1,4 @@
 mod CuttingLaws
 mod FramingLaws
+mod RowLaws
 mod StreamLaws

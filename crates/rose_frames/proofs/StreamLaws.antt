@@ -24,9 +24,10 @@ whole_frame apdu rest framed =
     let size : number head ≡ length apdu = number-octets_all 4 (length apdu) (omega (arith, framed.1)) in
     let hand : in_hand (frame apdu ++ rest) ≡ head ++ take (number head - 0) (apdu ++ rest) =
     ap in_hand (append_assoc head apdu rest) ∙ hand_long head [] (apdu ++ rest) refl (omega arith) in
-    let taken : take (number head - 0) (apdu ++ rest) ≡ apdu = take_at apdu rest (number head - 0) (omega (arith, size)) in
-    (hand ∙ ap (λ xs. head ++ xs) taken,
-    is_held (frame apdu) (length apdu) (announced_is head apdu refl ∙ size) (length-append head apdu) framed.0 framed.1)
+    let taken : take (number head - 0) (apdu ++ rest) ≡ apdu = take_at apdu rest (number head - 0) (omega (arith, size)) in (
+      hand ∙ ap (λ xs. head ++ xs) taken,
+      is_held (frame apdu) (length apdu) (announced_is head apdu refl ∙ size) (length-append head apdu) framed.0 framed.1,
+    )
 
 same_apdu : (apdu other : List ℕ) → frame apdu ≡ frame other → apdu ≡ other
 same_apdu apdu other e = ap (drop 4) e
@@ -82,24 +83,25 @@ pub faulty_stops : (place : ℕ) (rest more : List ℕ) (refusal : FrameRefusal)
     (is_whole (in_hand (rest ++ more)) ≡ false) × (fault_in place (rest ++ more) ≡ Some refusal)
 faulty_stops place rest more refusal fault =
     elim (cases_lt (length rest) 4) [
-      inl short ↦ let never : None ≡ Some refusal = sym (fault_short place rest short) ∙ fault in absurd (cc)
-    | inr there ↦
-      let whole = rest ++ more in
-      let long : 4 ≤ length whole = omega (arith, length-append rest more, there) in
-      let same : announced whole ≡ announced rest = ap number (take-append-le 4 rest more there) in
-      let wrong : fault_of place (announced rest) ≡ Some refusal = rw (le-ltb (length rest) 4 there) at fault in
-      let size : frame_size whole ≡ 4 + announced rest = rw (le-ltb (length whole) 4 long, same) refl in
-      let hand : announced (in_hand whole) ≡ announced rest =
-      ap number (ap (λ n. take 4 (take n whole)) size ∙ take-take 4 (4 + announced rest) whole (omega arith)) ∙ same in
-      (stops_by (in_hand whole) (ap is_size hand ∙ not_size (announced rest) (faulty_size place (announced rest) refusal wrong)),
-      rw (le-ltb (length whole) 4 long, same) wrong) ]
+      | inl short ↦ let never : None ≡ Some refusal = sym (fault_short place rest short) ∙ fault in absurd (cc)
+      | inr there ↦
+          let whole = rest ++ more in
+          let long : 4 ≤ length whole = omega (arith, length-append rest more, there) in
+          let same : announced whole ≡ announced rest = ap number (take-append-le 4 rest more there) in
+          let wrong : fault_of place (announced rest) ≡ Some refusal = rw (le-ltb (length rest) 4 there) at fault in
+          let size : frame_size whole ≡ 4 + announced rest = rw (le-ltb (length whole) 4 long, same) refl in
+          let hand : announced (in_hand whole) ≡ announced rest =
+          ap number (ap (λ n. take 4 (take n whole)) size ∙ take-take 4 (4 + announced rest) whole (omega arith)) ∙ same in (
+            stops_by (in_hand whole) (ap is_size hand ∙ not_size (announced rest) (faulty_size place (announced rest) refusal wrong)),
+            rw (le-ltb (length whole) 4 long, same) wrong,
+          )
+    ]
 
 -- what an answer says of a stream, where it was refused
 abbrev pub IsRefusedIn : List (List ℕ) → List (List ℕ) → List (List ℕ) → FrameRefusal → Type 0
 IsRefusedIn pieces old new refusal =
     (refusal ≡ Memory) ⊎ ((found : List (List ℕ)) × (rest : List ℕ) × (new ≡ old ++ found)
     × IsCut (joined pieces) found rest × (fault_in (place_after found) rest ≡ Some refusal))
-
 
 -- So many pieces were fed, and these frames were handed out.
 pub record Cutting (pieces : List (List ℕ)) (i : ℕ) (now : Framing) (old new : List (List ℕ)) : Type 0 where
@@ -115,20 +117,24 @@ pub cutting_start : (pieces : List (List ℕ)) (now : Framing) (old : List (List
     IsSame now (record { place = 0; octets = [] }) → Cutting pieces 0 now old old
 cutting_start pieces now old e =
     record {
-      found = []; apdus = sym (append-nil old);
+      found = [];
+      apdus = sym (append-nil old);
       begins = record { whole = ap (λ (v : Framing). v.octets) (sym e); each = all_none };
       again = ap (λ (v : Framing). in_hand v.octets) e ∙ ap (λ (v : Framing). v.octets) (sym e);
-      partial = ap (λ (v : Framing). is_whole v.octets) e; sound = ap (λ (v : Framing). fault_in 0 v.octets) e;
-      placed = ap (λ (v : Framing). v.place) e }
+      partial = ap (λ (v : Framing). is_whole v.octets) e;
+      sound = ap (λ (v : Framing). fault_in 0 v.octets) e;
+      placed = ap (λ (v : Framing). v.place) e;
+    }
 
 begins_on : (bytes piece held rest : List ℕ) (apdus more : List (List ℕ)) → Begins bytes apdus held →
     Begins (held ++ piece) more rest → Begins (bytes ++ piece) (apdus ++ more) rest
 begins_on bytes piece held rest apdus more b c =
     record {
       whole = ap (λ xs. xs ++ piece) b.whole ∙ (append_assoc (flat_map frame apdus) held piece
-      ∙ (ap (λ xs. flat_map frame apdus ++ xs) c.whole ∙ (sym (append_assoc (flat_map frame apdus) (flat_map frame more) rest)
-      ∙ ap (λ xs. xs ++ rest) (sym (flat_map-append frame apdus more)))));
-      each = All-append IsFramed apdus more b.each c.each }
+          ∙ (ap (λ xs. flat_map frame apdus ++ xs) c.whole ∙ (sym (append_assoc (flat_map frame apdus) (flat_map frame more) rest)
+          ∙ ap (λ xs. xs ++ rest) (sym (flat_map-append frame apdus more)))));
+      each = All-append IsFramed apdus more b.each c.each;
+    }
 
 one_more : (pieces : List (List ℕ)) (i : ℕ) (d : List ℕ) → i < length pieces →
     joined (take (i + 1) pieces) ≡ joined (take i pieces) ++ get_or pieces i d
@@ -154,10 +160,13 @@ cutting_on pieces i now later old new further piece d within is c more stops =
       found = c.found ++ more.0;
       apdus = more.1 ∙ (ap (λ xs. xs ++ more.0) c.apdus ∙ append_assoc old c.found more.0);
       begins = subst (λ bytes. Begins bytes (c.found ++ more.0) later.octets)
-      (ap (λ xs. joined (take i pieces) ++ xs) is ∙ sym (one_more pieces i d within))
-      (begins_on (joined (take i pieces)) piece now.octets later.octets c.found more.0 c.begins more.2);
-      again = stops.0; partial = stops.1; sound = stops.2;
-      placed = more.3 ∙ (ap (λ p. place_behind p (length (flat_map frame more.0))) c.placed ∙ places_on c.found more.0) }
+          (ap (λ xs. joined (take i pieces) ++ xs) is ∙ sym (one_more pieces i d within))
+          (begins_on (joined (take i pieces)) piece now.octets later.octets c.found more.0 c.begins more.2);
+      again = stops.0;
+      partial = stops.1;
+      sound = stops.2;
+      placed = more.3 ∙ (ap (λ p. place_behind p (length (flat_map frame more.0))) c.placed ∙ places_on c.found more.0);
+    }
 
 pub small_place : (pieces : List (List ℕ)) (i : ℕ) (now : Framing) (old new : List (List ℕ)) → Cutting pieces i now old new →
     now.place < 2 ^ 64
@@ -181,23 +190,32 @@ refused_in pieces i now old new further piece d refusal within is c (inr r) =
     let whole : joined pieces ≡ (joined (take i pieces) ++ piece) ++ more =
     joined_apart pieces (i + 1) ∙ ap (λ xs. xs ++ more)
     (one_more pieces i d within ∙ ap (λ xs. joined (take i pieces) ++ xs) (sym is)) in
-    inr (c.found ++ r.0, r.1 ++ more,
-    r.2 ∙ (ap (λ xs. xs ++ r.0) c.apdus ∙ append_assoc old c.found r.0),
-    record {
-      begins = record {
-        whole = whole ∙ (ap (λ xs. xs ++ more) b.whole ∙ append_assoc (flat_map frame (c.found ++ r.0)) r.1 more);
-        each = b.each };
-      stops = stop.0 },
-    stop.1)
+    inr (
+      c.found ++ r.0,
+      r.1 ++ more,
+      r.2 ∙ (ap (λ xs. xs ++ r.0) c.apdus ∙ append_assoc old c.found r.0),
+      record {
+        begins = record {
+          whole = whole ∙ (ap (λ xs. xs ++ more) b.whole ∙ append_assoc (flat_map frame (c.found ++ r.0)) r.1 more);
+          each = b.each;
+        };
+        stops = stop.0;
+      },
+      stop.1,
+    )
 
 pub all_cut : (pieces : List (List ℕ)) (i : ℕ) (now : Framing) (old new : List (List ℕ)) → length pieces ≤ i →
     Cutting pieces i now old new →
     (found : List (List ℕ)) × (new ≡ old ++ found) × IsCut (joined pieces) found now.octets
     × (fault_in 0 now.octets ≡ None) × (now.place ≡ place_after found)
 all_cut pieces i now old new past c =
-    let all : take i pieces ≡ pieces = sym (take_min i pieces) ∙ (ap (λ n. take n pieces) (omega (arith, past)) ∙ take-length pieces) in
-    (c.found, c.apdus,
-    record {
-      begins = subst (λ ps. Begins (joined ps) c.found now.octets) all c.begins;
-      stops = ap is_whole c.again ∙ c.partial },
-    c.sound, c.placed)
+    let all : take i pieces ≡ pieces = sym (take_min i pieces) ∙ (ap (λ n. take n pieces) (omega (arith, past)) ∙ take-length pieces) in (
+      c.found,
+      c.apdus,
+      record {
+        begins = subst (λ ps. Begins (joined ps) c.found now.octets) all c.begins;
+        stops = ap is_whole c.again ∙ c.partial;
+      },
+      c.sound,
+      c.placed,
+    )

@@ -12,11 +12,7 @@ use std::alloc::Global;
 use term_values::Bytes;
 
 /// Feeds a whole piece, and appends the APDU of each frame as soon as it is held. No frame is held then.
-fn feed_piece(
-    framer: &mut Framer,
-    piece: &[u8],
-    apdus: &mut Vec<Bytes>,
-) -> Result<(), FrameRefusal>
+fn feed_piece(framer: &mut Framer, piece: &[u8], apdus: &mut Vec<Bytes>) -> Result<(), FrameRefusal>
     requires { framer.old.place < 2 ^ 64 }
     ensures fed { OnOk result ((found : List (List ℕ)) × (apdus.new.items ≡ apdus.old.items ++ found)
         × Begins (framer.old.octets ++ piece.now) found framer.new.octets

@@ -1,6 +1,9 @@
 -- The definitions that the contracts of this crate cite.
 pub mod AgentLimits
 pub mod AgentState
+pub mod Apdu
+pub mod ApduReading
+pub mod ApduWriting
 pub mod Arriving
 pub mod Bind
 pub mod Comparing

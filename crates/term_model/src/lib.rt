@@ -4,6 +4,7 @@
 
 pub mod actions;
 pub mod agent_state;
+pub mod apdu;
 pub mod attribute_records;
 pub mod class_records;
 pub mod entry;
@@ -29,6 +30,7 @@ pub use agent_state::{
     AgentState, Association, AssociationState, Associations, Operation, OperationState, Operations,
     Work,
 };
+pub use apdu::Apdu;
 pub use attribute_records::AttrRecs;
 pub use class_records::ClassRecs;
 pub use entry::{Entries, Entry, Why};

@@ -23,23 +23,28 @@ pub returns-in-None-clause-fed : goal.returns-in-None-clause-fed
 returns-in-None-clause-fed c =
     let f = c.frames.invariant in
     let e = ended c.frames.framer c.feed.new.self c.args.piece.now _ c.frames.at (take_rest c.args.piece.now c.frames.at)
-    c.in_ok-at.ensures.taken.0 c.in_ok-at.ensures.sound (c.next_frame.ensures.none.0 c.in-None.is) in
-    (f.found, f.apdus,
-    record {
-      whole = f.begins.whole
-      ∙ ap (λ xs. flat_map frame f.found ++ xs) (e.all ∙ ap (λ (v : Framing). v.octets) (sym c.in-None.ensures.kept));
-      each = f.begins.each },
-    ap (λ (v : Framing). v.place) c.in-None.ensures.kept
-    ∙ (ap (λ (v : Framing). v.place) c.in_ok-at.ensures.taken.0 ∙ f.placed))
+    c.in_ok-at.ensures.taken.0 c.in_ok-at.ensures.sound (c.next_frame.ensures.none.0 c.in-None.is) in (
+      f.found,
+      f.apdus,
+      record {
+        whole = f.begins.whole
+            ∙ ap (λ xs. flat_map frame f.found ++ xs) (e.all ∙ ap (λ (v : Framing). v.octets) (sym c.in-None.ensures.kept));
+        each = f.begins.each;
+      },
+      ap (λ (v : Framing). v.place) c.in-None.ensures.kept
+          ∙ (ap (λ (v : Framing). v.place) c.in_ok-at.ensures.taken.0 ∙ f.placed),
+    )
 
 pub returns-in-None-clause-stops : goal.returns-in-None-clause-stops
 returns-in-None-clause-stops c =
     let whole = c.next_frame.ensures.none.0 c.in-None.is in
     let e = ended c.frames.framer c.feed.new.self c.args.piece.now _ c.frames.at (take_rest c.args.piece.now c.frames.at)
     c.in_ok-at.ensures.taken.0 c.in_ok-at.ensures.sound whole in
-    let kept = c.in-None.ensures.kept in
-    (ap (λ (v : Framing). in_hand v.octets) kept ∙ (e.again ∙ ap (λ (v : Framing). v.octets) (sym kept)),
-    ap (λ (v : Framing). is_whole v.octets) kept ∙ whole, ap (λ (v : Framing). fault_in 0 v.octets) kept ∙ e.sound)
+    let kept = c.in-None.ensures.kept in (
+      ap (λ (v : Framing). in_hand v.octets) kept ∙ (e.again ∙ ap (λ (v : Framing). v.octets) (sym kept)),
+      ap (λ (v : Framing). is_whole v.octets) kept ∙ whole,
+      ap (λ (v : Framing). fault_in 0 v.octets) kept ∙ e.sound,
+    )
 
 pub frames-smaller : goal.frames-smaller
 frames-smaller c =

@@ -11,8 +11,12 @@ returns-in-Some-clause-faulty c = λ refusal is.
     let l : Long c.args.self.now c.self.inside.place c.self.inside.filled c.lengthened-more.result.1 c.self.inside.size
     c.self.inside.apdu.items c.args.piece.now c.lengthened-more.result.0 = record {
       fields = record { four = c.self.invariant.0; within = c.self.invariant.1; none_yet = c.self.invariant.2; some = c.self.invariant.3 };
-      view = c.self.view_is; whole = omega arith; four = search rules; is = c.lengthened-more.ensures.octets;
-      count = c.lengthened-more.ensures.count } in
+      view = c.self.view_is;
+      whole = omega arith;
+      four = search rules;
+      is = c.lengthened-more.ensures.octets;
+      count = c.lengthened-more.ensures.count;
+    } in
     let found : fault_in c.args.self.now.place (c.args.self.now.octets ++ c.args.piece.now) ≡ Some c.in-Some.refusal =
     fault_now l ∙ (ap (fault_of c.self.inside.place) (sym c.size_of-size.ensures) ∙ (sym c.fault_of.ensures ∙ c.in-Some.is)) in
     let wrong : fault_of c.self.inside.place (number c.lengthened-more.result.0) ≡ Some c.in-Some.refusal =
@@ -26,8 +30,12 @@ returns-in-Some-clause-fault c =
     let l : Long c.args.self.now c.self.inside.place c.self.inside.filled c.lengthened-more.result.1 c.self.inside.size
     c.self.inside.apdu.items c.args.piece.now c.lengthened-more.result.0 = record {
       fields = record { four = c.self.invariant.0; within = c.self.invariant.1; none_yet = c.self.invariant.2; some = c.self.invariant.3 };
-      view = c.self.view_is; whole = omega arith; four = search rules; is = c.lengthened-more.ensures.octets;
-      count = c.lengthened-more.ensures.count } in
+      view = c.self.view_is;
+      whole = omega arith;
+      four = search rules;
+      is = c.lengthened-more.ensures.octets;
+      count = c.lengthened-more.ensures.count;
+    } in
     let found : fault_in c.args.self.now.place (c.args.self.now.octets ++ c.args.piece.now) ≡ Some c.in-Some.refusal =
     fault_now l ∙ (ap (fault_of c.self.inside.place) (sym c.size_of-size.ensures) ∙ (sym c.fault_of.ensures ∙ c.in-Some.is)) in
     inr found
@@ -37,22 +45,31 @@ returns-in_err-append-clause-nothing c =
     let l : Long c.args.self.now c.self.inside.place c.self.inside.filled c.lengthened-more.result.1 c.self.inside.size
     c.self.inside.apdu.items c.args.piece.now c.lengthened-more.result.0 = record {
       fields = record { four = c.self.invariant.0; within = c.self.invariant.1; none_yet = c.self.invariant.2; some = c.self.invariant.3 };
-      view = c.self.view_is; whole = omega arith; four = search rules; is = c.lengthened-more.ensures.octets;
-      count = c.lengthened-more.ensures.count } in
+      view = c.self.view_is;
+      whole = omega arith;
+      four = search rules;
+      is = c.lengthened-more.ensures.octets;
+      count = c.lengthened-more.ensures.count;
+    } in
     let due : c.min-due.result ≡ min (length (drop c.lengthened-more.result.1 c.args.piece.now))
     (number c.lengthened-more.result.0 - length c.self.inside.apdu.items) =
     due_is c.args.piece.now c.self.inside.apdu.items c.lengthened-more.result.0 c.lengthened-more.result.1 c.min-due.result
-    c.size_of-size.result _ c.min-due.ensures c.size_of-size.ensures (ap length c.as_slice.ensures.value) in
-    (λ e. absurd (true_not_false (sym (subst IsErr e c.from_residual.ensures.0))),
-    λ p. absurd (no_fewer c.min-due.result _ (due ∙ (nothing_taken l p.1).1) c.in_err-append.ensures.some))
+    c.size_of-size.result _ c.min-due.ensures c.size_of-size.ensures (ap length c.as_slice.ensures.value) in (
+      λ e. absurd (true_not_false (sym (subst IsErr e c.from_residual.ensures.0))),
+      λ p. absurd (no_fewer c.min-due.result _ (due ∙ (nothing_taken l p.1).1) c.in_err-append.ensures.some),
+    )
 
 pub returns-in_err-append-clause-faulty : goal.returns-in_err-append-clause-faulty
 returns-in_err-append-clause-faulty c = λ refusal is.
     let l : Long c.args.self.now c.self.inside.place c.self.inside.filled c.lengthened-more.result.1 c.self.inside.size
     c.self.inside.apdu.items c.args.piece.now c.lengthened-more.result.0 = record {
       fields = record { four = c.self.invariant.0; within = c.self.invariant.1; none_yet = c.self.invariant.2; some = c.self.invariant.3 };
-      view = c.self.view_is; whole = omega arith; four = search rules; is = c.lengthened-more.ensures.octets;
-      count = c.lengthened-more.ensures.count } in
+      view = c.self.view_is;
+      whole = omega arith;
+      four = search rules;
+      is = c.lengthened-more.ensures.octets;
+      count = c.lengthened-more.ensures.count;
+    } in
     let right : fault_of c.self.inside.place (number c.lengthened-more.result.0) ≡ None =
     ap (fault_of c.self.inside.place) (sym c.size_of-size.ensures) ∙ (sym c.fault_of.ensures ∙ c.in-None.is) in
     let sound : fault_in c.args.self.now.place (c.args.self.now.octets ++ c.args.piece.now) ≡ None = fault_now l ∙ right in
@@ -63,8 +80,12 @@ returns-in_err-append-clause-again c = λ refusal is.
     let l : Long c.args.self.now c.self.inside.place c.self.inside.filled c.lengthened-more.result.1 c.self.inside.size
     c.self.inside.apdu.items c.args.piece.now c.lengthened-more.result.0 = record {
       fields = record { four = c.self.invariant.0; within = c.self.invariant.1; none_yet = c.self.invariant.2; some = c.self.invariant.3 };
-      view = c.self.view_is; whole = omega arith; four = search rules; is = c.lengthened-more.ensures.octets;
-      count = c.lengthened-more.ensures.count } in
+      view = c.self.view_is;
+      whole = omega arith;
+      four = search rules;
+      is = c.lengthened-more.ensures.octets;
+      count = c.lengthened-more.ensures.count;
+    } in
     let right : fault_of c.self.inside.place (number c.lengthened-more.result.0) ≡ None =
     ap (fault_of c.self.inside.place) (sym c.size_of-size.ensures) ∙ (sym c.fault_of.ensures ∙ c.in-None.is) in
     let before = sound_before l right in
@@ -75,8 +96,12 @@ returns-clause-taken c =
     let l : Long c.args.self.now c.self.inside.place c.self.inside.filled c.lengthened-more.result.1 c.self.inside.size
     c.self.inside.apdu.items c.args.piece.now c.lengthened-more.result.0 = record {
       fields = record { four = c.self.invariant.0; within = c.self.invariant.1; none_yet = c.self.invariant.2; some = c.self.invariant.3 };
-      view = c.self.view_is; whole = omega arith; four = search rules; is = c.lengthened-more.ensures.octets;
-      count = c.lengthened-more.ensures.count } in
+      view = c.self.view_is;
+      whole = omega arith;
+      four = search rules;
+      is = c.lengthened-more.ensures.octets;
+      count = c.lengthened-more.ensures.count;
+    } in
     let due : c.min-due.result ≡ min (length (drop c.lengthened-more.result.1 c.args.piece.now))
     (number c.lengthened-more.result.0 - length c.self.inside.apdu.items) =
     due_is c.args.piece.now c.self.inside.apdu.items c.lengthened-more.result.0 c.lengthened-more.result.1 c.min-due.result
@@ -89,27 +114,36 @@ returns-clause-nothing c =
     let l : Long c.args.self.now c.self.inside.place c.self.inside.filled c.lengthened-more.result.1 c.self.inside.size
     c.self.inside.apdu.items c.args.piece.now c.lengthened-more.result.0 = record {
       fields = record { four = c.self.invariant.0; within = c.self.invariant.1; none_yet = c.self.invariant.2; some = c.self.invariant.3 };
-      view = c.self.view_is; whole = omega arith; four = search rules; is = c.lengthened-more.ensures.octets;
-      count = c.lengthened-more.ensures.count } in
+      view = c.self.view_is;
+      whole = omega arith;
+      four = search rules;
+      is = c.lengthened-more.ensures.octets;
+      count = c.lengthened-more.ensures.count;
+    } in
     let right : fault_of c.self.inside.place (number c.lengthened-more.result.0) ≡ None =
     ap (fault_of c.self.inside.place) (sym c.size_of-size.ensures) ∙ (sym c.fault_of.ensures ∙ c.in-None.is) in
     let due : c.min-due.result ≡ min (length (drop c.lengthened-more.result.1 c.args.piece.now))
     (number c.lengthened-more.result.0 - length c.self.inside.apdu.items) =
     due_is c.args.piece.now c.self.inside.apdu.items c.lengthened-more.result.0 c.lengthened-more.result.1 c.min-due.result
     c.size_of-size.result _ c.min-due.ensures c.size_of-size.ensures (ap length c.as_slice.ensures.value) in
-    let more = c.lengthened-more.result.1 in
-    (λ e.
-    let nothing : more + c.min-due.result ≡ 0 = cc in
-    (sound_before l right, none_taken l (ap (λ n. more + n) (sym due) ∙ nothing) right),
-    λ p. let t = nothing_taken l p.1 in ap Ok (ap (λ n. more + n) due ∙ omega (arith, t.0, t.1)))
+    let more = c.lengthened-more.result.1 in (
+      λ e.
+          let nothing : more + c.min-due.result ≡ 0 = cc in
+          (sound_before l right, none_taken l (ap (λ n. more + n) (sym due) ∙ nothing) right),
+      λ p. let t = nothing_taken l p.1 in ap Ok (ap (λ n. more + n) due ∙ omega (arith, t.0, t.1)),
+    )
 
 pub returns-clause-sound : goal.returns-clause-sound
 returns-clause-sound c =
     let l : Long c.args.self.now c.self.inside.place c.self.inside.filled c.lengthened-more.result.1 c.self.inside.size
     c.self.inside.apdu.items c.args.piece.now c.lengthened-more.result.0 = record {
       fields = record { four = c.self.invariant.0; within = c.self.invariant.1; none_yet = c.self.invariant.2; some = c.self.invariant.3 };
-      view = c.self.view_is; whole = omega arith; four = search rules; is = c.lengthened-more.ensures.octets;
-      count = c.lengthened-more.ensures.count } in
+      view = c.self.view_is;
+      whole = omega arith;
+      four = search rules;
+      is = c.lengthened-more.ensures.octets;
+      count = c.lengthened-more.ensures.count;
+    } in
     let right : fault_of c.self.inside.place (number c.lengthened-more.result.0) ≡ None =
     ap (fault_of c.self.inside.place) (sym c.size_of-size.ensures) ∙ (sym c.fault_of.ensures ∙ c.in-None.is) in
     let sound : fault_in c.args.self.now.place (c.args.self.now.octets ++ c.args.piece.now) ≡ None = fault_now l ∙ right in
@@ -120,8 +154,12 @@ returns-clause-faulty c = λ refusal is.
     let l : Long c.args.self.now c.self.inside.place c.self.inside.filled c.lengthened-more.result.1 c.self.inside.size
     c.self.inside.apdu.items c.args.piece.now c.lengthened-more.result.0 = record {
       fields = record { four = c.self.invariant.0; within = c.self.invariant.1; none_yet = c.self.invariant.2; some = c.self.invariant.3 };
-      view = c.self.view_is; whole = omega arith; four = search rules; is = c.lengthened-more.ensures.octets;
-      count = c.lengthened-more.ensures.count } in
+      view = c.self.view_is;
+      whole = omega arith;
+      four = search rules;
+      is = c.lengthened-more.ensures.octets;
+      count = c.lengthened-more.ensures.count;
+    } in
     let right : fault_of c.self.inside.place (number c.lengthened-more.result.0) ≡ None =
     ap (fault_of c.self.inside.place) (sym c.size_of-size.ensures) ∙ (sym c.fault_of.ensures ∙ c.in-None.is) in
     let sound : fault_in c.args.self.now.place (c.args.self.now.octets ++ c.args.piece.now) ≡ None = fault_now l ∙ right in
@@ -132,8 +170,12 @@ returns-clause-again c = λ refusal is.
     let l : Long c.args.self.now c.self.inside.place c.self.inside.filled c.lengthened-more.result.1 c.self.inside.size
     c.self.inside.apdu.items c.args.piece.now c.lengthened-more.result.0 = record {
       fields = record { four = c.self.invariant.0; within = c.self.invariant.1; none_yet = c.self.invariant.2; some = c.self.invariant.3 };
-      view = c.self.view_is; whole = omega arith; four = search rules; is = c.lengthened-more.ensures.octets;
-      count = c.lengthened-more.ensures.count } in
+      view = c.self.view_is;
+      whole = omega arith;
+      four = search rules;
+      is = c.lengthened-more.ensures.octets;
+      count = c.lengthened-more.ensures.count;
+    } in
     let right : fault_of c.self.inside.place (number c.lengthened-more.result.0) ≡ None =
     ap (fault_of c.self.inside.place) (sym c.size_of-size.ensures) ∙ (sym c.fault_of.ensures ∙ c.in-None.is) in
     let before = sound_before l right in

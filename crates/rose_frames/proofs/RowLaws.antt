@@ -1,0 +1,10 @@
+-- Values in a row that are not two.
+use Rattle.std.proofs.Common.{◌≡◌, ℕ, List, [], ◌∷◌, length, None, refl}
+use Rattle.term_values.specs.Tree.{TreeValue, listed}
+use Rattle.term_model.specs.Parts.{two}
+
+pub not_two : (xs : List TreeValue) → (length xs ≡ 2 → ⊥) → None ≡ two (listed xs)
+not_two [] other = refl
+not_two (a ∷ []) other = refl
+not_two (a ∷ b ∷ []) other = absurd (other refl)
+not_two (a ∷ b ∷ c ∷ xs) other = refl
