@@ -1,0 +1,6 @@
+pub mod BaseLaws
+pub mod EntryLaws
+pub mod ListLaws
+pub mod PrefixLaws
+pub mod RangeLaws
+pub mod WalkLaws

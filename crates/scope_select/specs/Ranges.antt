@@ -1,0 +1,27 @@
+-- Names behind another one, in the order of names; docs/PROFILE.md, section 4.
+use Rattle.std.specs.Prelude.{◌≡◌, ℕ, Bool, List, MatchOption, None, Option, Some, filter, find}
+use Rattle.std.specs.Ordering.{is_lt}
+use Rattle.term_model.specs.declared.name.Rdn.{Rdn}
+use Rattle.term_model.specs.NameOrder.{name_cmp}
+use Rattle.term_model.specs.Scope.{level_below}
+
+-- the second name stands behind the first
+abbrev pub follows : List Rdn → List Rdn → Bool
+follows here name = is_lt (name_cmp here name)
+
+-- those of the names that stand behind this one
+abbrev pub names_behind : List Rdn → List (List Rdn) → List (List Rdn)
+names_behind here names = filter (follows here) names
+
+-- the first of the names that stands behind this one
+abbrev pub next_name : List Rdn → List (List Rdn) → Option (List Rdn)
+next_name here names = find (follows here) names
+
+-- the next name, at this level below the base
+pub record IsNext (base here : List Rdn) (names : List (List Rdn)) (next : List Rdn) (level : ℕ) : Type 0 where
+  pub next_is : next_name here names ≡ Some next
+  pub level_is : level_below base next ≡ Some level
+
+-- behind this name stands no other, or one that the base doesn't begin
+abbrev pub IsLast : List Rdn → List Rdn → List (List Rdn) → Type 0
+IsLast base here names = MatchOption (next_name here names) (Unit {0}) (λ next. level_below base next ≡ None)
