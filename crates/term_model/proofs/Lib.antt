@@ -3,9 +3,12 @@ pub mod FindingLaws
 pub mod FrameLaws
 pub mod HistoryLaws
 mod ObeyingFacts
+mod MapFacts
 pub mod MapLaws
 pub mod ObjectLaws
+mod OperationFacts
 pub mod PlaceLaws
+mod RequestFacts
 pub mod ScriptLaws
 mod ScopeFacts
 mod StandardFacts
