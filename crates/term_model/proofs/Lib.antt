@@ -2,6 +2,7 @@ pub mod ExampleNetwork
 pub mod FindingLaws
 pub mod FrameLaws
 pub mod HistoryLaws
+mod InheritanceFacts
 mod ObeyingFacts
 mod MapFacts
 pub mod MapLaws
