@@ -13,7 +13,7 @@ use Rattle.term_model.specs.declared.request.Request.{Request}
 use Rattle.term_model.specs.declared.request.Request.TheVariants.{Get}
 use Rattle.term_model.specs.AgentState.{granted_moment, operation_of}
 use Rattle.term_model.specs.GetRequest.{m_get}
-use Rattle.term_model.specs.Moment.{moment_text}
+use Rattle.term_values.specs.Moment.{moment_text}
 use Rattle.term_model.specs.NamedObjects.{object_at}
 use Rattle.term_model.specs.Operation.{get_reply, name_of}
 use Rattle.term_model.specs.Step.{carried_out, changed_association, counted, ended, is_legal, step, with_replies}

@@ -10,7 +10,7 @@ use Rattle.term_model.specs.declared.agent_state.Operation.{Operation}
 use Rattle.term_model.specs.declared.entry.Entry.{Entry}
 use Rattle.term_model.specs.AgentState.{granted_moment, operation_of, outstanding}
 use Rattle.term_model.specs.History.{is_legal_journal, replay}
-use Rattle.term_model.specs.Moment.{moment_text}
+use Rattle.term_values.specs.Moment.{moment_text}
 use Rattle.term_model.specs.Played.{ScriptLine}
 use Rattle.term_model.specs.Played.ScriptLine.{Open, Send}
 use Rattle.term_model.specs.Step.{last_moment}

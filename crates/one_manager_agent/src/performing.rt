@@ -3,7 +3,7 @@
 ghost use Rattle.std.specs.Prelude.{ℕ, ◌≡◌, ◌+◌, ◌^◌, ◌<◌, ◌≤◌, ◌∷◌, [], Some, length, IfOk, OnErr, OnOk};
 ghost use Rattle.term_model.specs.declared.agent_state.Operation.{Operation};
 ghost use Rattle.term_model.specs.AgentState.{numbered, operation_of};
-ghost use Rattle.term_model.specs.Moment.{moment_text};
+ghost use Rattle.term_values.specs.Moment.{moment_text};
 ghost use Rattle.term_model.specs.Operation.{get_reply, name_of, no_such_object_instance};
 ghost use Rattle.term_model.specs.NamedObjects.{object_at};
 ghost use Rattle.term_model.specs.Step.{carried_out, changed_association, step, with_replies};

@@ -5,7 +5,7 @@ ghost use Rattle.std.specs.List.{All};
 ghost use Rattle.term_model.specs.AgentState.{start, with_opened};
 ghost use Rattle.term_model.specs.Bind.{title_in};
 ghost use Rattle.term_model.specs.History.{came, is_legal_journal, replay};
-ghost use Rattle.term_model.specs.Moment.{moment_text};
+ghost use Rattle.term_values.specs.Moment.{moment_text};
 ghost use Rattle.term_model.specs.Played.{answered, beginning, closed, line_played, played, taken_all, with_entry};
 ghost use Rattle.term_model.specs.Played.ScriptLine.{Open, Send};
 ghost use Rattle.term_model.specs.Settled.{IsSettled};

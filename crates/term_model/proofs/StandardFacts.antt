@@ -18,7 +18,7 @@ use Rattle.term_model.specs.declared.entry.Why.TheVariants as why
 use Rattle.term_model.specs.AgentLimits.{shipped}
 use Rattle.term_model.specs.AgentState.{start}
 use Rattle.term_model.specs.JournalLaws.{frames_of}
-use Rattle.term_model.specs.Moment.{moment_text}
+use Rattle.term_values.specs.Moment.{moment_text, date_from, date_in_year}
 use Rattle.term_model.specs.Played.{ScriptLine, played, run_text}
 use Rattle.term_model.specs.Played.ScriptLine.{Open, Send}
 use Rattle.term_model.specs.Settled.{IsDone, IsSettled}
@@ -39,7 +39,7 @@ get_root =
 
 run_of_the_root : run_text network shipped (Open bind_octets ∷ Send 1 get_root ∷ []) ≡
     codes "opened 1 3006060488370B01\ntaken 1 12\narrived 1 A1100201010201033008800488370301A400\ngranted 1 0\ncommitted 1\ntaken 1 65\nfinished 1\nclosed 1 end\n--\nout 1 0000000830060A01000201010000003DA23B02010130360201033031800488370301A400850F31393730303130313030303030305AA61630098004883707010201013009800488370702020107\nobjects 1\n"
-unfolding digits encode_with subidentifier oid_in integer_contents integer_in identifier_octets length_octets identifier_of length_at front_of moment_text played step
+unfolding digits encode_with subidentifier oid_in integer_contents integer_in identifier_octets length_octets identifier_of length_at front_of moment_text date_from date_in_year played step
 run_of_the_root = refl
 
 -- m-Get of the object 5 with invoke id 1, which is not there
@@ -49,7 +49,7 @@ get_five =
 
 run_of_five : run_text network shipped (Open bind_octets ∷ Send 1 get_five ∷ []) ≡
     codes "opened 1 3006060488370B01\ntaken 1 12\narrived 1 A11D0201010201033015800488370301A40D310B3009060488370701020105\ngranted 1 0\ncommitted 1\ntaken 1 27\nfinished 1\nclosed 1 end\n--\nout 1 0000000830060A010002010100000017A315020101020101A40D310B3009060488370701020105\nobjects 1\n"
-unfolding digits encode_with subidentifier oid_in integer_contents integer_in identifier_octets length_octets identifier_of length_at front_of moment_text played step
+unfolding digits encode_with subidentifier oid_in integer_contents integer_in identifier_octets length_octets identifier_of length_at front_of moment_text date_from date_in_year played step
 run_of_five = refl
 
 -- of a script with two associations, the frames of each, and none of one that is never opened and to which nothing is sent
@@ -83,11 +83,6 @@ not_settled_while_live settled = absurd (let done = settled 1 _ refl in false≢
 
 not_settled_with_octets_left : IsSettled (one_association (Closed why.End) 1) → ⊥
 not_settled_with_octets_left settled = absurd (let done = settled 1 _ refl in cc)
-
--- the last second that the text can tell
-end_of_9998 : moment_text 253370764799 ≡ codes "99981231235959Z"
-unfolding moment_text
-end_of_9998 = refl
 
 -- the line of an association that is closed for a bad frame
 bad_frame_line : line (entry.Closed 1 (why.BadFrame 12)) ≡ codes "closed 1 badframe 12\n"

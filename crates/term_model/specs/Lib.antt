@@ -21,7 +21,6 @@ pub mod Inheritance
 pub mod JournalLaws
 pub mod MapLaws
 pub mod MatchTests
-pub mod Moment
 pub mod NameLaws
 pub mod NameOrder
 pub mod NamedObjects

@@ -14,7 +14,7 @@ use Rattle.term_model.specs.declared.request.Request.{Request}
 use Rattle.term_model.specs.declared.request.Request.TheVariants.{Get}
 use Rattle.term_model.specs.declared.schema.Set.{Set}
 use Rattle.term_model.specs.GetRequest.{m_get}
-use Rattle.term_model.specs.Moment.{moment_text}
+use Rattle.term_values.specs.Moment.{moment_text}
 use Rattle.term_model.specs.NamedObjects.{object_at}
 use Rattle.term_model.specs.ObjectOperation.{get_one}
 use Rattle.term_model.specs.RemoteOperation.{frame, result_apdu, empty_result_apdu, linked_apdu, error_apdu}

@@ -1,5 +1,6 @@
 -- Examples of GeneralizedTime: X.680, section 46, and its edges.
 use Rattle.std.specs.Prelude.{◌≡◌, true, false, refl, codes}
+use Rattle.term_values.specs.Moment.{moment_text, date_from, date_in_year}
 use Rattle.term_values.specs.Times.{is_time, is_leap_year, days_in}
 
 -- X.680, section 46.4: local time, UTC, and local time with its difference from UTC
@@ -69,3 +70,26 @@ three = refl
 
 empty : is_time (codes "") ≡ false
 empty = refl
+
+-- the first second of 1970
+first_moment : moment_text 0 ≡ codes "19700101000000Z"
+unfolding moment_text date_from date_in_year
+first_moment = refl
+
+-- a leap day, the one of a year of a fourth century, and none in 2100
+leap_day_of_1972 : moment_text 68169600 ≡ codes "19720229000000Z"
+unfolding moment_text date_from date_in_year
+leap_day_of_1972 = refl
+
+leap_day_of_2000 : moment_text 951827696 ≡ codes "20000229123456Z"
+unfolding moment_text date_from date_in_year
+leap_day_of_2000 = refl
+
+day_behind_february_2100 : moment_text 4107542400 ≡ codes "21000301000000Z"
+unfolding moment_text date_from date_in_year
+day_behind_february_2100 = refl
+
+-- the last second that the text can tell
+end_of_9998 : moment_text 253370764799 ≡ codes "99981231235959Z"
+unfolding moment_text date_from date_in_year
+end_of_9998 = refl

@@ -16,6 +16,7 @@ pub mod Lengths
 pub mod Matching
 pub mod MatchingKinds
 pub mod MatchingPieces
+pub mod Moment
 pub mod Octets
 pub mod Oid
 pub mod PartsView

@@ -1,7 +1,7 @@
 use Rattle.std.proofs.Common.{◌≡◌, ◌<◌, Some, true, length, sym, ap, ◌∙◌, rules, arith, subst}
 use Rattle.std.specs.Option.{option_map}
 use Rattle.term_model.specs.declared.entry.Entry.TheVariants.{Granted}
-use Rattle.term_model.specs.Moment.{moment_text}
+use Rattle.term_values.specs.Moment.{moment_text}
 use Rattle.term_model.specs.Played.{Play, with_entry}
 use Rattle.term_model.specs.Step.{is_legal}
 use Rattle.term_model.proofs.StepLaws.{granted_then}

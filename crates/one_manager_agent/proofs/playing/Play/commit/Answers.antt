@@ -2,7 +2,7 @@ use Rattle.std.proofs.Common.{◌≡◌, ◌++◌, [], ◌∷◌, ap, ◌∙◌,
 use Rattle.term_model.specs.declared.entry.Entry.TheVariants.{Committed}
 use Rattle.term_model.specs.Played.{Play}
 use Rattle.term_model.specs.Step.{is_legal}
-use Rattle.term_model.specs.Moment.{moment_text}
+use Rattle.term_values.specs.Moment.{moment_text}
 use Rattle.one_manager_agent.proofs.CommitLaws.{commit_legal}
 use Rattle.one_manager_agent.proofs.JournalLaws.{journaled_more}
 use Rattle.one_manager_agent.proofs.playing.Play.commit.Goals as goal

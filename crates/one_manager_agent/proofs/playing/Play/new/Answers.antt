@@ -1,14 +1,14 @@
 use Rattle.std.proofs.Common.{◌≡◌, [], arith, refl, sym, ◌∙◌, subst}
 use Rattle.std.specs.Prelude.{codes}
 use Rattle.term_model.specs.AgentState.{start}
-use Rattle.term_model.specs.Moment.{moment_text}
+use Rattle.term_values.specs.Moment.{moment_text, date_from, date_in_year}
 use Rattle.one_manager_agent.specs.Playing.{IsJournaled}
 use Rattle.one_manager_agent.proofs.JournalLaws.{start_journaled}
 use Rattle.one_manager_agent.proofs.playing.Play.new.Goals as goal
 
 -- the first second of 1970
 first_moment : codes "19700101000000Z" ≡ moment_text 0
-unfolding moment_text
+unfolding moment_text date_from date_in_year
 first_moment = refl
 
 pub invariant_of-result : goal.invariant_of-result

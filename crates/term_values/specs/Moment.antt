@@ -1,16 +1,9 @@
 -- A moment as GeneralizedTime in UTC, YYYYMMDDHHMMSSZ: X.680, section 46; the calendar is that of ISO 8601.
-use Rattle.std.specs.Prelude.{ℕ, zero, suc, ◌+◌, ◌-◌, ◌/◌, ◌%◌, ◌==◌, ◌&&◌, ◌||◌, Bool, List, [], ◌∷◌, ◌++◌, nat_lt, if◌then◌else◌}
-
-abbrev pub is_leap_year : ℕ → Bool
-is_leap_year year = year % 4 == 0 && (if year % 100 == 0 then year % 400 == 0 else year % 4 == 0)
+use Rattle.std.specs.Prelude.{ℕ, zero, suc, ◌+◌, ◌-◌, ◌/◌, ◌%◌, List, [], ◌∷◌, ◌++◌, nat_lt, if◌then◌else◌}
+use Rattle.term_values.specs.Times.{is_leap_year, days_in}
 
 abbrev pub days_of_year : ℕ → ℕ
 days_of_year year = if is_leap_year year then 366 else 365
-
-abbrev pub days_of_month : ℕ → ℕ → ℕ
-days_of_month year month =
-    if month == 2 then (if is_leap_year year then 29 else 28)
-    else (if month == 4 || month == 6 || month == 9 || month == 11 then 30 else 31)
 
 -- a date: year, month from 1, day from 1
 pub record Date : Type 0 where
@@ -19,14 +12,14 @@ pub record Date : Type 0 where
   pub day : ℕ
 
 -- so many days behind the first of a month, with at most so many months to go
-abbrev pub date_in_year : ℕ → ℕ → ℕ → ℕ → Date
+unfoldable pub date_in_year : ℕ → ℕ → ℕ → ℕ → Date
 date_in_year zero year month days = record { year = year; month = month; day = days + 1 }
 date_in_year (suc months) year month days =
-    if nat_lt days (days_of_month year month) then record { year = year; month = month; day = days + 1 }
-    else date_in_year months year (month + 1) (days - days_of_month year month)
+    if nat_lt days (days_in year month) then record { year = year; month = month; day = days + 1 }
+    else date_in_year months year (month + 1) (days - days_in year month)
 
 -- so many days behind the first of January, with at most so many years to go
-abbrev pub date_from : ℕ → ℕ → ℕ → Date
+unfoldable pub date_from : ℕ → ℕ → ℕ → Date
 date_from zero year days = date_in_year 11 year 1 days
 date_from (suc years) year days =
     if nat_lt days (days_of_year year) then date_in_year 11 year 1 days
