@@ -19,7 +19,7 @@ use Rattle.term_model.specs.NamedObjects.{IsByName, names, object_at, stored, st
 
 -- ---- names
 
-rdn_Decides : (x y : Rdn) → Decides (is_same_rdn x y) (x ≡ y)
+pub rdn_Decides : (x y : Rdn) → Decides (is_same_rdn x y) (x ≡ y)
 rdn_Decides x y = (
   λ e.
       let parts = and_parts (is_same_oid x.attribute y.attribute) (is_same_octets x.value y.value) e in

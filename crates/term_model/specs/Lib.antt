@@ -15,6 +15,7 @@ pub mod FilterTrees
 pub mod FilterTruth
 pub mod FilterView
 pub mod FiltersDepth
+pub mod Following
 pub mod GetRequest
 pub mod History
 pub mod Inheritance
@@ -34,6 +35,8 @@ pub mod Scope
 pub mod Selection
 pub mod Settled
 pub mod Step
+pub mod StepCounts
+pub mod Superiors
 pub mod TextLaws
 pub mod Texts
 pub mod WellFormedMib

@@ -19,11 +19,13 @@ pub mod object;
 pub mod objects;
 pub mod packages;
 pub(crate) mod places;
+pub mod ranged;
 pub mod reply;
 pub mod request;
 pub mod rule;
 pub mod schema;
 pub mod scope;
+pub mod steps;
 
 pub use actions::{ActRec, ActRecs, AttributeField, AttributeFields, NoteRec, NoteRecs};
 pub use agent_state::{
@@ -45,8 +47,10 @@ pub use objects::{NamedObject, Objects};
 pub use packages::{
     GroupUse, GroupUses, PackageRec, PackageRecs, Properties, Property, Syntaxes, TypeNames,
 };
+pub use ranged::Ranged;
 pub use reply::{CmisError, Reply};
 pub use request::{Head, IdRef, Instance, Invocation, Named, Request};
 pub use rule::{RuleRec, RuleRecs, RuleStep, RuleSteps};
 pub use schema::{AttrRec, ClassRec, GroupRec, GroupRecs, InstRec, InstRecs, Set, SystemName};
 pub use scope::{Names, Scope};
+pub use steps::{StepLedger, Steps, Tally};

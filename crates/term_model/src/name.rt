@@ -1,6 +1,6 @@
 //! Distinguished names relative to the root of the naming tree: X.501 and X.720.
 
-ghost use Rattle.std.specs.Prelude.{◌≡◌, ◌==◌, [], IfOk};
+ghost use Rattle.std.specs.Prelude.{◌≡◌, ◌==◌, ◌↔◌, [], IfOk, IsTrue, MatchOption};
 ghost use Rattle.std.specs.Cmp.Lexicographic.{pointwise, slice_cmp};
 ghost use Rattle.std.specs.Cmp.Rules.{comparing};
 ghost use Rattle.std.specs.Cmp.{partial_order_from_own_ties, partial_order_from_total};
@@ -9,6 +9,7 @@ ghost use Rattle.std.proofs.Common.{rules};
 ghost use Rattle.term_model.specs.Comparing.{is_same_rdn};
 ghost use Rattle.term_model.specs.NameOrder.{name_cmp, rdn_cmp};
 ghost use Rattle.term_model.specs.NameLaws.{name_ties, name_total, rdn_ties, rdn_total};
+ghost use Rattle.term_model.specs.Superiors.{BeginsWith, IsSuperior};
 
 use std::alloc::{AllocError, Global};
 use std::cmp::Ordering;
@@ -95,12 +96,41 @@ impl Name {
     pub fn copy(&self, alloc: Global) -> Result<Name, AllocError>
         ensures { IfOk result (λ name. name ≡ self.now) }
     {
-        let mut parts = Vec::new(alloc);
-        for rdn in &self.parts {
-            parts.push(rdn.copy(alloc)?)?;
-        }
+        let parts = copied(alloc, self.parts.as_slice())?;
         Ok(Name { parts })
     }
+
+    /// The name of the superior, which is this one without its last part: none exactly for the root.
+    pub fn parent(&self, alloc: Global) -> Result<Option<Name>, AllocError>
+        ensures { IfOk result
+            (λ parent. MatchOption parent (self.now ≡ []) (λ superior. IsSuperior superior self.now)) }
+    {
+        match self.parts.as_slice().split_last() {
+            None => Ok(None),
+            Some((_, front)) => {
+                let parts = copied(alloc, front)?;
+                Ok(Some(Name { parts }))
+            }
+        }
+    }
+
+    /// Whether the name begins with the parts of another one: whether its object is the other one's, or is below it.
+    pub fn starts_with(&self, front: &Name) -> bool
+        ensures { IsTrue result ↔ BeginsWith self.now front.now }
+    {
+        self.parts.as_slice().starts_with(front.parts.as_slice())
+    }
+}
+
+/// Copies of these parts.
+fn copied(alloc: Global, parts: &[Rdn]) -> Result<Vec<Rdn>, AllocError>
+    ensures { IfOk result (λ copies. copies.items ≡ parts.now) }
+{
+    let mut copies = Vec::new(alloc);
+    for rdn in parts {
+        copies.push(rdn.copy(alloc)?)?;
+    }
+    Ok(copies)
 }
 
 impl PartialEq for Name {

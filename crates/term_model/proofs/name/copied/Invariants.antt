@@ -1,6 +1,6 @@
 use Rattle.std.proofs.Common.{◌≡◌, take}
-use Rattle.term_model.proofs.name.Name.copy.Given as goal
+use Rattle.term_model.proofs.name.copied.Given as goal
 
 -- what was copied so far is the front of what there is
 abbrev pub invariant-loop-rdn : goal.invariant-loop-rdn
-invariant-loop-rdn l = (l.rdn-items ≡ l.self) × (l.parts.items ≡ take l.rdn-index l.rdn-items)
+invariant-loop-rdn l = l.copies.items ≡ take l.rdn-index l.parts
