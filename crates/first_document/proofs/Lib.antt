@@ -1,5 +1,6 @@
 -- The lemmas of this crate.
 pub mod Consistency
+mod ElementFacts
 pub mod Ends
 pub mod IndexLaws
 pub mod LabelLaws
