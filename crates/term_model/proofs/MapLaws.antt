@@ -36,24 +36,24 @@ rdn_Decides x y = (
 name_Decides : (xs ys : List Rdn) → Decides (is_same_name xs ys) (xs ≡ ys)
 name_Decides xs ys = slice_eq-Decides rdn_Decides xs ys (is_same_name xs ys) refl
 
-same_itself : (xs : List Rdn) → is_same_name xs xs ≡ true
+pub same_itself : (xs : List Rdn) → is_same_name xs xs ≡ true
 same_itself xs = (name_Decides xs xs).1 refl
 
-not_same : (xs ys : List Rdn) (o : Ordering) → name_cmp xs ys ≡ o → is_eq o ≡ false → is_same_name xs ys ≡ false
+pub not_same : (xs ys : List Rdn) (o : Ordering) → name_cmp xs ys ≡ o → is_eq o ≡ false → is_same_name xs ys ≡ false
 not_same xs ys o e h = name_ties xs ys ∙ ap is_eq e ∙ h
 
-turned : (xs ys : List Rdn) (o : Ordering) → name_cmp xs ys ≡ o → name_cmp ys xs ≡ ordering_reverse o
+pub turned : (xs ys : List Rdn) (o : Ordering) → name_cmp xs ys ≡ o → name_cmp ys xs ≡ ordering_reverse o
 turned xs ys o e = name_total.antisymm ys xs ∙ ap ordering_reverse e
 
-same_place : (xs ys : List Rdn) → name_cmp xs ys ≡ Equal → xs ≡ ys
+pub same_place : (xs ys : List Rdn) → name_cmp xs ys ≡ Equal → xs ≡ ys
 same_place xs ys e = (name_Decides xs ys).0 (name_ties xs ys ∙ ap is_eq e)
 
 -- ---- what is found
 
-here : (x : NamedObject) (xs : List NamedObject) (name : List Rdn) → is_same_name x.name name ≡ true → object_at (x ∷ xs) name ≡ Some x.object
+pub here : (x : NamedObject) (xs : List NamedObject) (name : List Rdn) → is_same_name x.name name ≡ true → object_at (x ∷ xs) name ≡ Some x.object
 here x xs name h = rw h refl
 
-later : (x : NamedObject) (xs : List NamedObject) (name : List Rdn) → is_same_name x.name name ≡ false → object_at (x ∷ xs) name ≡ object_at xs name
+pub later : (x : NamedObject) (xs : List NamedObject) (name : List Rdn) → is_same_name x.name name ≡ false → object_at (x ∷ xs) name ≡ object_at xs name
 later x xs name h = rw h refl
 
 found : (entry : NamedObject) (objects : List NamedObject) → object_at (stored entry objects) entry.name ≡ Some entry.object
@@ -101,7 +101,7 @@ all_stored P entry (x ∷ xs) one all = by (all_stored P entry xs one all.1) (na
     by rest Equal = (one, all.1)
     by rest Greater = (all.0, rest)
 
-all_by : (P Q : List Rdn → Type 0) (ns : List (List Rdn)) → ((n : List Rdn) → P n → Q n) → AllByRecursion P ns → AllByRecursion Q ns
+pub all_by : (P Q : List Rdn → Type 0) (ns : List (List Rdn)) → ((n : List Rdn) → P n → Q n) → AllByRecursion P ns → AllByRecursion Q ns
 all_by P Q [] f all = tt
 all_by P Q (n ∷ ns) f all = (f n all.0, all_by P Q ns f all.1)
 
@@ -120,7 +120,7 @@ names_rise = rise
 
 -- ---- equal maps
 
-nothing_below : (xs : List NamedObject) (name : List Rdn) → AllByRecursion (λ n. name_cmp name n ≡ Less) (names xs) → object_at xs name ≡ None
+pub nothing_below : (xs : List NamedObject) (name : List Rdn) → AllByRecursion (λ n. name_cmp name n ≡ Less) (names xs) → object_at xs name ≡ None
 nothing_below [] name all = refl
 nothing_below (x ∷ xs) name all = later x xs name (not_same x.name name Greater (turned name x.name Less all.0) refl) ∙ nothing_below xs name all.1
 

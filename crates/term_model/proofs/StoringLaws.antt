@@ -13,14 +13,14 @@ use Rattle.term_model.specs.NameOrder.{name_cmp}
 use Rattle.term_model.specs.NamedObjects.{is_named_at, stored, stored_by}
 
 -- what stands at an index begins what is left from there on
-left_there : (xs : List NamedObject) (i : ℕ) (x : NamedObject) → slice_get xs i ≡ Some x → drop i xs ≡ x ∷ drop (i + 1) xs
+pub left_there : (xs : List NamedObject) (i : ℕ) (x : NamedObject) → slice_get xs i ≡ Some x → drop i xs ≡ x ∷ drop (i + 1) xs
 left_there xs i x h =
     let within = slice_get_within xs i x h in
     drop_more xs i x within
     ∙ ap (λ y. y ∷ drop (i + 1) xs) (same_Some (get_or xs i x) x (sym (slice_get-get_or xs i x within) ∙ h))
 
 -- nothing stands at an index behind the end
-left_none : (xs : List NamedObject) (i : ℕ) → slice_get xs i ≡ None → length xs ≤ i
+pub left_none : (xs : List NamedObject) (i : ℕ) → slice_get xs i ≡ None → length xs ≤ i
 left_none [] i h = omega arith
 left_none (x ∷ xs) zero h = absurd cc
 left_none (x ∷ xs) (suc i) h = let k = left_none xs i h in omega arith

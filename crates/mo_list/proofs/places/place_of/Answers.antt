@@ -1,0 +1,29 @@
+use Rattle.std.proofs.Common.{◌≡◌, ◌∙◌, ℕ, ◌+◌, ◌-◌, ◌/◌, ap, sym, subst, refl, arith}
+use Rattle.std.specs.Arc.{arc_value}
+use Rattle.std.specs.Ordering.{is_gt}
+use Rattle.term_model.specs.declared.objects.NamedObject.{NamedObject}
+use Rattle.term_model.specs.NameOrder.{name_cmp}
+use Rattle.mo_list.proofs.PlaceLaws.{Entry, IsSearched, searched_behind, searched_in_front}
+use Rattle.mo_list.proofs.places.place_of.Goals as goal
+
+pub search-preserved-then-is_behind : goal.search-preserved-then-is_behind
+search-preserved-then-is_behind g c =
+    let entries = c.args.entries.now in
+    let name = c.args.name.now in
+    let middle = c.search.low + (c.search.high - c.search.low) / 2 in
+    let there = c.deref.ensures ∙ ap (λ (e : Entry). arc_value e) c.index-entries-middle.is in
+    subst (λ n. IsSearched entries name c.args.steps.now (middle + 1) c.search.high n) (sym c.visit.ensures)
+    (searched_behind entries name c.args.steps.now c.search.low c.search.high c.search.steps middle _ c.requires
+    c.search.invariant (omega arith) refl
+    (ap (λ (o : NamedObject). is_gt (name_cmp name o.name)) (sym there) ∙ sym c.is_behind.ensures ∙ c.if-is_behind.true))
+
+pub search-preserved : goal.search-preserved
+search-preserved g c =
+    let entries = c.args.entries.now in
+    let name = c.args.name.now in
+    let middle = c.search.low + (c.search.high - c.search.low) / 2 in
+    let there = c.deref.ensures ∙ ap (λ (e : Entry). arc_value e) c.index-entries-middle.is in
+    subst (λ n. IsSearched entries name c.args.steps.now c.search.low middle n) (sym c.visit.ensures)
+    (searched_in_front entries name c.args.steps.now c.search.low c.search.high c.search.steps middle _ c.requires
+    c.search.invariant (omega arith) refl
+    (ap (λ (o : NamedObject). is_gt (name_cmp name o.name)) (sym there) ∙ sym c.is_behind.ensures ∙ c.if-is_behind.false))

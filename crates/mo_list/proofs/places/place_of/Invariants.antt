@@ -1,0 +1,12 @@
+use Rattle.std.proofs.Common.{◌≡◌, ℕ, ◌+◌, ◌-◌, ◌^◌, ◌<◌, ◌≤◌, length, take, drop}
+use Rattle.mo_list.specs.Entries.{objects_in}
+use Rattle.mo_list.specs.Places.{AllInFront, NoneInFront}
+use Rattle.mo_list.proofs.PlaceLaws.{IsSearched}
+use Rattle.mo_list.proofs.places.place_of.Given as goal
+
+-- the place lies between the two ends, and the visits so far are those of as many halves
+abbrev pub invariant-search : goal.invariant-search
+invariant-search g l = IsSearched l.entries l.name l.fn.steps l.low l.high l.steps
+
+abbrev pub decreases-search : goal.decreases-search
+decreases-search g l = l.high - l.low
