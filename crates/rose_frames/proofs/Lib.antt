@@ -1,4 +1,6 @@
+mod Backwards
 mod CuttingLaws
 mod FramingLaws
+mod LengthLaws
 mod RowLaws
 mod StreamLaws

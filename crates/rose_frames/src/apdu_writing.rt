@@ -12,15 +12,17 @@ ghost use Rattle.term_model.specs.ApduWriting.{any_octets, apdu_octets, invoke_a
 ghost use Rattle.term_model.specs.RemoteOperation.{empty_result_apdu, error_apdu, frame, integer, reject_apdu, rejected_id, result_apdu};
 
 use crate::apdu_reading::{ERROR, INVOKE, REJECT, RESULT};
+use crate::framer::LENGTH_OCTETS;
 use crate::parts::LINKED_ID;
-use ber_tree::tree_writing::{reverse_from, write_header_backwards, write_octets, write_tree};
+use ber_tree::tree_writing::{reverse_from, write_header_backwards, write_tree};
 use ber_tree::value_writing::{write_integer_backwards, write_value_backwards};
+use byteorder::{BigEndian, ByteOrder};
 use std::alloc::AllocError;
 use term_model::Apdu;
 use term_values::{Tag, Tree};
 
-/// The octets of a frame's length.
-const LENGTH_OCTETS: u32 = 4;
+/// How many numbers the octets of a length hold.
+const LENGTHS: usize = 4_294_967_296;
 
 /// Appends the identifier and length octets of the constructed value whose contents stand behind the place `start`, all
 /// with the last octet first.
@@ -41,7 +43,9 @@ fn write_frame_length(size: usize, into: &mut Vec<u8>) -> Result<(), AllocError>
     ensures begun { Extends into.old.items into.new.items }
 {
     let start = into.as_slice().len();
-    write_octets(LENGTH_OCTETS, size as u64, false, into)?;
+    let mut octets = [0; LENGTH_OCTETS];
+    BigEndian::write_u32(&mut octets, (size % LENGTHS) as u32);
+    into.extend_from_slice(&octets)?;
     reverse_from(start, into);
     Ok(())
 }
@@ -126,12 +130,7 @@ fn write_result_body(op: i64, value: &Tree, into: &mut Vec<u8>) -> Result<(), Al
 }
 
 /// Appends a Result with an operation and a value, the last octet first.
-fn write_full_result(
-    id: i32,
-    op: i64,
-    value: &Tree,
-    into: &mut Vec<u8>,
-) -> Result<(), AllocError>
+fn write_full_result(id: i32, op: i64, value: &Tree, into: &mut Vec<u8>) -> Result<(), AllocError>
     ensures written { OnOk result
         (into.new.items ≡ into.old.items ++ reverse (result_apdu id op (written value.now))) }
     ensures begun { Extends into.old.items into.new.items }

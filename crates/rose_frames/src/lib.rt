@@ -3,6 +3,7 @@
 
 pub mod apdu_reading;
 pub mod apdu_refusal;
+pub mod apdu_writing;
 pub mod frame_refusal;
 pub mod framer;
 pub mod parts;
@@ -11,6 +12,7 @@ pub mod tree_copying;
 
 pub use apdu_reading::read_apdu;
 pub use apdu_refusal::ApduRefusal;
+pub use apdu_writing::write_apdu;
 pub use frame_refusal::FrameRefusal;
 pub use framer::Framer;
 pub use term_model::Apdu;

@@ -1,0 +1,16 @@
+-- The parts in a row, the last one first.
+use Rattle.std.proofs.Common.{rules, ◌≡◌, ◌++◌, false, true, pos, reverse, w64}
+use Rattle.std.proofs.Math.Facts.{to_z-of_z}
+use Rattle.term_values.specs.Der.{encoded, written}
+use Rattle.term_values.specs.Octets.{integer_contents}
+use Rattle.term_values.specs.Tag.{context}
+use Rattle.term_model.specs.ApduWriting.{any_octets, linked_octets}
+use Rattle.term_model.specs.RemoteOperation.{integer, linked_id, rejected_id}
+use Rattle.rose_frames.proofs.Backwards.{before}
+use Rattle.rose_frames.proofs.apdu_writing.write_result_body.Goals as goal
+
+pub returns-clause-written : goal.returns-clause-written
+returns-clause-written c =
+    let op = rw (to_z-of_z c.ranges.op) at c.in_ok-write_integer_backwards.ensures.written in
+    c.in_ok-close_value.ensures.written c.args.into.now.items _ (search rules)
+    (before c.args.into.now.items (integer c.args.op) _ op c.in_ok-write_tree_turned.ensures.written)
