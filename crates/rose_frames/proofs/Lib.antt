@@ -1,3 +1,5 @@
+mod ApduTold
+mod ApduTrees
 mod Backwards
 mod CuttingLaws
 mod FramingLaws

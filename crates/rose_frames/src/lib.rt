@@ -6,6 +6,7 @@ pub mod apdu_refusal;
 pub mod apdu_writing;
 pub mod frame_refusal;
 pub mod framer;
+pub mod laws;
 pub mod parts;
 pub mod pieces;
 pub mod tree_copying;

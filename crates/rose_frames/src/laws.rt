@@ -1,0 +1,16 @@
+//! Laws of APDUs, as contracts: X.229, section 9.
+
+ghost use Rattle.rose_frames.specs.ApduLaws.{ReadIsApdu, ApduIsRead, WrittenIsApdu, WrittenIsReadBack};
+
+/// The APDU that is read from a tree is the one that the tree is: the tree denotes, by the syntax of the APDU, the value
+/// whose components are its fields. Does nothing.
+pub fn reading_is_denoting()
+    ensures read { ReadIsApdu }
+    ensures denoted { ApduIsRead }
+{}
+
+/// What is written for an APDU is read back as it, whatever follows. Does nothing.
+pub fn written_is_read_back()
+    ensures apdu { WrittenIsApdu }
+    ensures read_back { WrittenIsReadBack }
+{}
