@@ -3,7 +3,6 @@
 
 pub mod laws;
 pub mod levels;
-pub mod ranged;
 pub mod refusal;
 pub mod walking;
 

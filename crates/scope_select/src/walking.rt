@@ -3,13 +3,14 @@
 ghost use Rattle.std.specs.Prelude.{◌≡◌, ◌++◌, ◌∷◌, ◌<◌, ◌≤◌, [], IfOk, MatchOption, OnOk, if◌then◌else◌, length, true};
 ghost use Rattle.term_model.specs.NamedObjects.{names};
 ghost use Rattle.term_model.specs.Scope.{has_level, names_in_scope};
+ghost use Rattle.term_model.specs.StepCounts.{IsOneCall};
 ghost use Rattle.scope_select.specs.Ranges.{IsLast, IsNext};
 
 use crate::levels::{has_level, level_below};
-use crate::ranged::Ranged;
 use crate::refusal::ScopeRefusal;
 use std::alloc::Global;
-use term_model::{Name, Names, Scope};
+use term_model::ranged::Ranged;
+use term_model::{Name, Names, Scope, StepLedger, Steps};
 
 /// Adds a name of this level, where the scope reaches it.
 fn add_reached(
@@ -36,11 +37,17 @@ fn add_reached(
 }
 
 /// The next name behind this one, with its level, where the base begins it.
-fn next_below<'a, M: Ranged>(mib: &'a M, base: &Name, here: &Name) -> Option<(&'a Name, usize)>
-    ensures { MatchOption result (IsLast base.now here.now (names (M.entries mib.now)))
-        (λ next. IsNext base.now here.now (names (M.entries mib.now)) next.0.now next.1) }
+fn next_below<'a, L: StepLedger, M: Ranged<L>>(
+    mib: &'a M,
+    base: &Name,
+    here: &Name,
+    steps: &mut Steps<L>,
+) -> Option<(&'a Name, usize)>
+    ensures found { MatchOption result (IsLast base.now here.now (names (M.objects mib.now)))
+        (λ next. IsNext base.now here.now (names (M.objects mib.now)) next.0.now next.1) }
+    ensures visits { IsOneCall (M.objects mib.now) steps.old steps.new }
 {
-    match mib.after(here) {
+    match mib.after(here, steps) {
         None => None,
         Some((next, _)) => match level_below(base.parts.as_slice(), next.parts.as_slice()) {
             None => None,
@@ -50,29 +57,30 @@ fn next_below<'a, M: Ranged>(mib: &'a M, base: &Name, here: &Name) -> Option<(&'
 }
 
 /// The names in scope by the order of names.
-pub fn in_scope<M: Ranged>(
+pub fn in_scope<L: StepLedger, M: Ranged<L>>(
     alloc: Global,
     mib: &M,
     base: &Name,
     scope: &Scope,
     limit: u64,
+    steps: &mut Steps<L>,
 ) -> Result<Names, ScopeRefusal>
     // the names in scope by their order
-    ensures names { IfOk result (λ names. names ≡ names_in_scope (M.entries mib.now) base.now scope.now) }
+    ensures names { IfOk result (λ names. names ≡ names_in_scope (M.objects mib.now) base.now scope.now) }
 
     // refused exactly where there are more than the limit
-    ensures few { OnOk result (length (names_in_scope (M.entries mib.now) base.now scope.now) ≤ limit) }
+    ensures few { OnOk result (length (names_in_scope (M.objects mib.now) base.now scope.now) ≤ limit) }
     ensures many { result ≡ Err ScopeRefusal.TooMany
-        → limit < length (names_in_scope (M.entries mib.now) base.now scope.now) }
+        → limit < length (names_in_scope (M.objects mib.now) base.now scope.now) }
 {
     let mut reached = Names {
         items: Vec::new(alloc),
     };
-    if mib.at(base).is_some() {
+    if mib.at(base, steps).is_some() {
         add_reached(alloc, &mut reached, base, 0, scope, limit)?;
     }
     let mut here = base;
-    while let Some((next, level)) = next_below(mib, base, here) {
+    while let Some((next, level)) = next_below(mib, base, here, steps) {
         add_reached(alloc, &mut reached, next, level, scope, limit)?;
         here = next;
     }

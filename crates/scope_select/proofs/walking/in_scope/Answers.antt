@@ -11,7 +11,7 @@ use Rattle.scope_select.proofs.walking.in_scope.Goals.{then-is_some+in_ok-add_re
 
 pub returns-in_err-add_reached-clause-many : goal.returns-in_err-add_reached-clause-many
 returns-in_err-add_reached-clause-many g c = λ e.
-    let entries = g.M.Ranged.entries c.args.mib.now in
+    let entries = g.M.Ranged.objects c.args.mib.now in
     let refused : c.add_reached.result ≡ Err TooMany = first_of (search rules, grind arith) in
     let many = c.add_reached.ensures.many refused in
     let some : is_some (object_at entries c.args.base.now) ≡ true = first_of (search rules, grind (arith, common_steps)) in
@@ -23,7 +23,7 @@ pub loop-next-init : goal.loop-next-init
 loop-next-init g c =
     let base = c.args.base.now in
     let scope = c.args.scope.now in
-    let entries = g.M.Ranged.entries c.args.mib.now in
+    let entries = g.M.Ranged.objects c.args.mib.now in
     elim c.if-is_some.branch [
       | then-is_some+in_ok-add_reached w ↦
           (let some : is_some (object_at entries base) ≡ true = first_of (search rules, grind (arith, common_steps)) in
@@ -50,10 +50,10 @@ loop-next-init g c =
 
 pub returns-in_err-add_reached-2-clause-many : goal.returns-in_err-add_reached-2-clause-many
 returns-in_err-add_reached-2-clause-many g c = λ e.
-    let entries = g.M.Ranged.entries c.args.mib.now in
+    let entries = g.M.Ranged.objects c.args.mib.now in
     let refused : c.add_reached-in-Some.result ≡ Err TooMany = first_of (search rules, grind arith) in
     let many = c.add_reached-in-Some.ensures.many refused in
-    let next : IsNext c.args.base.now c.loop-next.here.now (names entries) c.in-Some.next.now c.in-Some.level = c.in-Some.ensures in
+    let next : IsNext c.args.base.now c.loop-next.here.now (names entries) c.in-Some.next.now c.in-Some.level = c.in-Some.ensures.found in
     let more =
     step_many c.args.base.now c.loop-next.here.now c.in-Some.next.now c.args.scope.now (names entries)
     c.loop-next.reached c.in-Some.level c.at.ensures.rising next c.loop-next.invariant.0 many.0 in
@@ -61,32 +61,32 @@ returns-in_err-add_reached-2-clause-many g c = λ e.
 
 pub loop-next-smaller : goal.loop-next-smaller
 loop-next-smaller g c =
-    step_shorter c.args.base.now c.loop-next.here.now c.in-Some.next.now (names (g.M.Ranged.entries c.args.mib.now))
-    c.in-Some.level c.at.ensures.rising c.in-Some.ensures
+    step_shorter c.args.base.now c.loop-next.here.now c.in-Some.next.now (names (g.M.Ranged.objects c.args.mib.now))
+    c.in-Some.level c.at.ensures.rising c.in-Some.ensures.found
 
 pub loop-next-preserved : goal.loop-next-preserved
 loop-next-preserved g c =
-    let entries = g.M.Ranged.entries c.args.mib.now in
+    let entries = g.M.Ranged.objects c.args.mib.now in
     let added : c.add_reached-in-Some.new.names ≡ c.loop-next.reached ++ one_reached c.args.scope.now c.in-Some.level c.in-Some.next.now =
     first_of (search rules, grind (arith, common_steps, c.in_ok-add_reached-2.ensures.added)) in
     let few : length c.add_reached-in-Some.new.names ≤ c.args.limit =
     first_of (search rules, grind (arith, common_steps, c.in_ok-add_reached-2.ensures.few)) in (
       step_reached c.args.base.now c.loop-next.here.now c.in-Some.next.now c.args.scope.now (names entries)
-          c.loop-next.reached c.add_reached-in-Some.new.names c.in-Some.level c.at.ensures.rising c.in-Some.ensures
+          c.loop-next.reached c.add_reached-in-Some.new.names c.in-Some.level c.at.ensures.rising c.in-Some.ensures.found
           c.loop-next.invariant.0 added,
       inr (next_from c.args.base.now c.loop-next.here.now c.in-Some.next.now (names entries) c.in-Some.level
-          c.loop-next.invariant.1 c.in-Some.ensures),
+          c.loop-next.invariant.1 c.in-Some.ensures.found),
       few,
     )
 
 pub returns-clause-names : goal.returns-clause-names
 returns-clause-names g c =
-    all_reached c.args.base.now c.loop-next.here.now c.args.scope.now (names (g.M.Ranged.entries c.args.mib.now))
-    c.loop-next.reached c.at.ensures.rising c.loop-next.invariant.1 c.in_default.ensures c.loop-next.invariant.0
+    all_reached c.args.base.now c.loop-next.here.now c.args.scope.now (names (g.M.Ranged.objects c.args.mib.now))
+    c.loop-next.reached c.at.ensures.rising c.loop-next.invariant.1 c.in_default.ensures.found c.loop-next.invariant.0
 
 pub returns-clause-few : goal.returns-clause-few
 returns-clause-few g c =
     let all =
-    all_reached c.args.base.now c.loop-next.here.now c.args.scope.now (names (g.M.Ranged.entries c.args.mib.now))
-    c.loop-next.reached c.at.ensures.rising c.loop-next.invariant.1 c.in_default.ensures c.loop-next.invariant.0 in
+    all_reached c.args.base.now c.loop-next.here.now c.args.scope.now (names (g.M.Ranged.objects c.args.mib.now))
+    c.loop-next.reached c.at.ensures.rising c.loop-next.invariant.1 c.in_default.ensures.found c.loop-next.invariant.0 in
     omega (arith, ap length all, c.loop-next.invariant.2)
