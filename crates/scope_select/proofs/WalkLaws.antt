@@ -1,7 +1,7 @@
 -- One step of the way through the names that a base begins, and its end.
-use Rattle.std.proofs.Common.{◌≡◌, ◌⊎◌, ◌<◌, ℕ, Bool, true, false, List, [], ◌∷◌, ◌++◌, Option, None, Some, length, refl, sym, ap, ◌∙◌}
+use Rattle.std.proofs.Common.{◌≡◌, ◌+◌, ◌⊎◌, ◌<◌, ℕ, Bool, true, false, List, [], ◌∷◌, ◌++◌, Option, None, Some, length, refl, sym, ap, ◌∙◌}
 use Rattle.std.proofs.Common.{append_assoc, arith, length-append, ⊎_elim}
-use Rattle.std.specs.Prelude.{MatchOption, filter, if◌then◌else◌}
+use Rattle.std.specs.Prelude.{is_some, MatchOption, filter, if◌then◌else◌}
 use Rattle.std.specs.List.Sorted.{IsStrictlySortedBy}
 use Rattle.std.specs.declared.cmp.Ordering.TheVariants.{Less}
 use Rattle.std.proofs.lemmas.List.{append-nil}
@@ -10,7 +10,7 @@ use Rattle.term_model.specs.declared.scope.Scope.{Scope}
 use Rattle.term_model.specs.NameLaws.{name_total}
 use Rattle.term_model.specs.NameOrder.{name_cmp}
 use Rattle.term_model.specs.Scope.{has_level, is_within, level_below}
-use Rattle.scope_select.specs.Ranges.{IsLast, IsNext, names_behind, next_name}
+use Rattle.scope_select.specs.Ranges.{IsLast, IsNext, begins, begun_behind, names_behind, next_name}
 use Rattle.scope_select.proofs.BaseLaws.{base_there, is_there}
 use Rattle.scope_select.proofs.ListLaws.{kept, left_out}
 use Rattle.scope_select.proofs.PrefixLaws.{is_level, level_within, none_within}
@@ -135,3 +135,13 @@ pub base_many : (base : List Rdn) (scope : Scope) (names : Names) → IsStrictly
 base_many base scope names sorted e f =
     one_more (within base scope names) [] (within base scope (names_behind base names)) scope 0 base
     (base_first base scope names sorted e) f
+
+-- one name fewer is left behind the next one
+pub step_fewer : (base here next : List Rdn) (names : Names) (level : ℕ)
+    → IsStrictlySortedBy name_cmp names → IsNext base here names next level
+    → length (begun_behind base here names) ≡ length (begun_behind base next names) + 1
+step_fewer base here next names level sorted is =
+    let all =
+        ap (filter (begins base)) (next_behind here next names sorted is.next_is)
+        ∙ kept (begins base) next (names_behind next names) (ap is_some is.level_is) in
+    omega (arith, ap length all)

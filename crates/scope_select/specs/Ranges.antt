@@ -1,7 +1,9 @@
 -- Names behind another one, in the order of names; docs/PROFILE.md, section 4.
-use Rattle.std.specs.Prelude.{◌≡◌, ℕ, Bool, List, MatchOption, None, Option, Some, filter, find}
+use Rattle.std.specs.Prelude.{◌≡◌, ◌≤◌, ◌+◌, ◌*◌, is_some, length, ℕ, Bool, List, MatchOption, None, Option, Some, filter, find}
 use Rattle.std.specs.Ordering.{is_lt}
 use Rattle.term_model.specs.declared.name.Rdn.{Rdn}
+use Rattle.term_model.specs.declared.objects.NamedObject.{NamedObject}
+use Rattle.term_model.specs.NamedObjects.{names}
 use Rattle.term_model.specs.NameOrder.{name_cmp}
 use Rattle.term_model.specs.Scope.{level_below}
 
@@ -25,3 +27,17 @@ pub record IsNext (base here : List Rdn) (names : List (List Rdn)) (next : List 
 -- behind this name stands no other, or one that the base doesn't begin
 abbrev pub IsLast : List Rdn → List Rdn → List (List Rdn) → Type 0
 IsLast base here names = MatchOption (next_name here names) (Unit {0}) (λ next. level_below base next ≡ None)
+
+-- the base begins the name
+abbrev pub begins : List Rdn → List Rdn → Bool
+begins base name = is_some (level_below base name)
+
+-- those of the names that stand behind this one and that the base begins
+abbrev pub begun_behind : List Rdn → List Rdn → List (List Rdn) → List (List Rdn)
+begun_behind base here names = filter (begins base) (names_behind here names)
+
+-- The visits before and after one way through the names that a base begins, in a map of up to 100,000 objects: of at most
+-- 128 for the base, for each name below it, and once more.
+abbrev pub IsOneWay : List NamedObject → List Rdn → ℕ → ℕ → Type 0
+IsOneWay objects base before after =
+    length objects ≤ 100000 → after ≤ before + 128 * (length (begun_behind base base (names objects)) + 2)

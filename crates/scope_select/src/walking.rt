@@ -4,7 +4,7 @@ ghost use Rattle.std.specs.Prelude.{◌≡◌, ◌++◌, ◌∷◌, ◌<◌, ◌
 ghost use Rattle.term_model.specs.NamedObjects.{names};
 ghost use Rattle.term_model.specs.Scope.{has_level, names_in_scope};
 ghost use Rattle.term_model.specs.StepCounts.{IsOneCall};
-ghost use Rattle.scope_select.specs.Ranges.{IsLast, IsNext};
+ghost use Rattle.scope_select.specs.Ranges.{IsLast, IsNext, IsOneWay};
 
 use crate::levels::{has_level, level_below};
 use crate::refusal::ScopeRefusal;
@@ -72,6 +72,9 @@ pub fn in_scope<L: StepLedger, M: Ranged<L>>(
     ensures few { OnOk result (length (names_in_scope (M.objects mib.now) base.now scope.now) ≤ limit) }
     ensures many { result ≡ Err ScopeRefusal.TooMany
         → limit < length (names_in_scope (M.objects mib.now) base.now scope.now) }
+
+    // whatever the rest of the map has
+    ensures visits { IsOneWay (M.objects mib.now) base.now steps.old steps.new }
 {
     let mut reached = Names {
         items: Vec::new(alloc),

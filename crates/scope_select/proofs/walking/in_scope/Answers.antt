@@ -5,7 +5,7 @@ use Rattle.scope_select.specs.declared.refusal.ScopeRefusal.TheVariants.{TooMany
 use Rattle.scope_select.specs.Ranges.{IsNext, names_behind}
 use Rattle.scope_select.proofs.BaseLaws.{base_missing}
 use Rattle.scope_select.proofs.EntryLaws.{entry_there}
-use Rattle.scope_select.proofs.WalkLaws.{all_reached, base_first, base_many, next_from, one_reached, step_many, step_reached, step_shorter, within}
+use Rattle.scope_select.proofs.WalkLaws.{all_reached, base_first, base_many, next_from, one_reached, step_fewer, step_many, step_reached, step_shorter, within}
 use Rattle.scope_select.proofs.walking.in_scope.Goals as goal
 use Rattle.scope_select.proofs.walking.in_scope.Goals.{then-is_some+in_ok-add_reached, else-is_some}
 
@@ -36,6 +36,7 @@ loop-next-init g c =
                 ∙ ap (λ ns. ns ++ within base scope (names_behind base (names entries))) (sym added),
             inl refl,
             few,
+            λ small. (let visited = c.at.ensures.visits.few small in omega arith),
           ))
       | else-is_some w ↦
           (let none : is_some (object_at entries base) ≡ false = first_of (search rules, grind (arith, common_steps)) in
@@ -45,6 +46,7 @@ loop-next-init g c =
                 ∙ ap (λ ns. ns ++ within base scope (names_behind base (names entries))) (sym empty),
             inl refl,
             omega (arith, ap length empty),
+            λ small. (let visited = c.at.ensures.visits.few small in omega arith),
           ))
     ]
 
@@ -77,6 +79,13 @@ loop-next-preserved g c =
       inr (next_from c.args.base.now c.loop-next.here.now c.in-Some.next.now (names entries) c.in-Some.level
           c.loop-next.invariant.1 c.in-Some.ensures.found),
       few,
+      λ small.
+          (let before = c.loop-next.invariant.3 small in
+          let visited = c.in-Some.ensures.visits.few small in
+          let fewer =
+              step_fewer c.args.base.now c.loop-next.here.now c.in-Some.next.now (names entries) c.in-Some.level
+              c.at.ensures.rising c.in-Some.ensures.found in
+          omega arith),
     )
 
 pub returns-clause-names : goal.returns-clause-names
@@ -90,3 +99,20 @@ returns-clause-few g c =
     all_reached c.args.base.now c.loop-next.here.now c.args.scope.now (names (g.M.Ranged.objects c.args.mib.now))
     c.loop-next.reached c.at.ensures.rising c.loop-next.invariant.1 c.in_default.ensures.found c.loop-next.invariant.0 in
     omega (arith, ap length all, c.loop-next.invariant.2)
+
+pub returns-in_err-add_reached-clause-visits : goal.returns-in_err-add_reached-clause-visits
+returns-in_err-add_reached-clause-visits g c = λ small.
+    let visited = c.at.ensures.visits.few small in
+    omega arith
+
+pub returns-in_err-add_reached-2-clause-visits : goal.returns-in_err-add_reached-2-clause-visits
+returns-in_err-add_reached-2-clause-visits g c = λ small.
+    let before = c.loop-next.invariant.3 small in
+    let visited = c.in-Some.ensures.visits.few small in
+    omega arith
+
+pub returns-clause-visits : goal.returns-clause-visits
+returns-clause-visits g c = λ small.
+    let before = c.loop-next.invariant.3 small in
+    let visited = c.in_default.ensures.visits.few small in
+    omega arith
