@@ -18,7 +18,7 @@ use Rattle.term_model.specs.declared.request.Request.TheVariants.{Get}
 use Rattle.term_model.specs.AgentLimits.{shipped}
 use Rattle.term_model.specs.AgentState.{start}
 use Rattle.term_model.specs.History.{came, is_legal_journal, out, replay, taken}
-use Rattle.term_values.specs.Moment.{moment_text}
+use Rattle.term_values.specs.Moment.{moment_text, date_from, date_in_year}
 use Rattle.term_model.specs.ObjectOperation.{attribute_octets, is_readable, object_octets, readable, value_octets}
 use Rattle.term_model.specs.Operation.{exec, no_such_object_instance, own_after, own_behind, replied, reply_frame}
 use Rattle.term_model.specs.Step.{step}
@@ -65,7 +65,7 @@ root_result =
 
 root_example : exec network objects (Get (record { class = Global element_oid; base = root_instance })) 0
     ≡ record { objects = objects; replies = reply.Single root_result ∷ []; events = [] }
-unfolding subidentifier identifier_octets length_octets integer_contents moment_text
+unfolding subidentifier identifier_octets length_octets integer_contents moment_text date_from date_in_year
 root_example = refl
 
 -- a Get of elementId = 5, which isn't there, answers noSuchObjectInstance with the instance
