@@ -1,5 +1,5 @@
--- The attributes of the objects of a class that derives from none and has one package, where a schema has no other class:
--- X.722, sections 8.3 and 8.4.
+-- The attributes of the objects of a class that derives from none and has one package, where a schema has no other
+-- class: X.722, sections 8.3 and 8.4.
 use Rattle.std.proofs.Common.{◌≡◌, ◌⊎◌, ℕ, List, [], ◌∷◌, Contains, Some, map, refl, sym, ap, subst, inl, inr}
 use Rattle.term_model.specs.declared.packages.PackageRec.{PackageRec}
 use Rattle.term_model.specs.declared.packages.Property.{Property}
@@ -38,7 +38,8 @@ module _ (schema : Set) (class : ClassRec) (of_package : PackageRec) (chosen : L
     (sole : schema.classes ≡ class ∷ []) (top : class.superclasses ≡ []) (mandatory : class.mandatory ≡ of_package ∷ [])
     (none : class.conditional ≡ []) where
   is_the_class : (id : List ℕ) (of_class : ClassRec) → HasRecord schema id of_class → class ≡ of_class
-  is_the_class id of_class h = the_one class of_class (subst (λ (cs : List ClassRec). Contains cs of_class) sole h.known)
+  is_the_class id of_class h =
+      the_one class of_class (subst (λ (cs : List ClassRec). Contains cs of_class) sole h.known)
 
   derives_from_none : (id above : List ℕ) → Derives schema id above → ⊥
   derives_from_none id above h =

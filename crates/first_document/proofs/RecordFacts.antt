@@ -27,7 +27,13 @@ registered n last = digits (codes "2") ∷ digits (codes "999") ∷ digits n ∷
 
 -- an attribute of the type Net.Id, with its rules
 abbrev attribute : List ℕ → List ℕ → AttributeContents
-attribute label last = record { label = word label; module_name = word (codes "Net"); type_name = word (codes "Id"); matches = true; arcs = registered (codes "7") last }
+attribute label last = record {
+  label = word label;
+  module_name = word (codes "Net");
+  type_name = word (codes "Id");
+  matches = true;
+  arcs = registered (codes "7") last;
+}
 
 abbrev used : List ℕ → List ℕ → AttributeUse
 used label access = record { label = word label; access = word access }
@@ -46,7 +52,12 @@ element = record {
     uses = used (codes "elementId") (codes "GET") ∷ used (codes "load") (codes "GET-REPLACE") ∷ [];
     arcs = registered (codes "3") (codes "1");
   };
-  root = record { class = word (codes "element"); named_by = given (codes "load") (codes "7"); others = given (codes "elementId") (codes "1") ∷ [] };
+  root = record {
+    class = word (codes "element");
+    named_by = given (codes "load") (codes "7");
+    others =
+        given (codes "elementId") (codes "1") ∷ [];
+  };
 }
 
 abbrev element_id : List ℕ
@@ -117,5 +128,6 @@ unfolding identifier_octets length_octets integer_contents
 records_example = refl
 
 -- an attribute with an identifier that stands there takes its value
-placed_example : placed (record { id = element_id; value = Int (pos 1) } ∷ []) (record { id = element_id; value = Int (pos 2) }) ≡ record { id = element_id; value = Int (pos 2) } ∷ []
+placed_example : placed (record { id = element_id; value = Int (pos 1) } ∷ [])
+    (record { id = element_id; value = Int (pos 2) }) ≡ record { id = element_id; value = Int (pos 2) } ∷ []
 placed_example = refl

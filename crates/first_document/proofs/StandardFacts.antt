@@ -11,21 +11,38 @@ use Rattle.first_document.specs.DocumentTree.{module_tree, rules_tree, given_tre
 
 -- Net DEFINITIONS ::= BEGIN Id ::= INTEGER END
 abbrev module_tokens : List Token
-module_tokens = token_of WORD 0 (codes "Net") ∷ token_of WORD 4 (codes "DEFINITIONS") ∷ token_of SIGN 16 (codes "::=") ∷ token_of WORD 20 (codes "BEGIN") ∷ token_of WORD 26 (codes "Id") ∷ token_of SIGN 29 (codes "::=") ∷ token_of WORD 33 (codes "INTEGER") ∷ token_of WORD 41 (codes "END") ∷ []
+module_tokens = token_of WORD 0 (codes "Net") ∷ token_of WORD 4 (codes "DEFINITIONS") ∷ token_of SIGN 16 (codes "::=")
+    ∷ token_of WORD 20 (codes "BEGIN") ∷ token_of WORD 26 (codes "Id") ∷ token_of SIGN 29 (codes "::=") ∷ token_of WORD
+    33 (codes "INTEGER") ∷ token_of WORD 41 (codes "END") ∷ []
 
-module_example : Spells module_tokens no_names module_form 0 8 (module_tree (record { name = token_of WORD 0 (codes "Net"); type_name = token_of WORD 26 (codes "Id") }))
-module_example = S.both (S.keep refl refl refl) (S.both (S.marks (record { passed = refl }) (S.marks (record { passed = refl }) (S.marks (record { passed = refl }) S.no_marks))) (S.both (S.keep refl refl refl) (S.marks (record { passed = refl }) (S.marks (record { passed = refl }) (S.marks (record { passed = refl }) S.no_marks)))))
+module_example : Spells module_tokens no_names module_form 0 8
+    (module_tree (record { name = token_of WORD 0 (codes "Net"); type_name = token_of WORD 26 (codes "Id") }))
+module_example = S.both (S.keep refl refl refl)
+    (S.both (S.marks (record { passed = refl })
+    (S.marks (record { passed = refl }) (S.marks (record { passed = refl }) S.no_marks)))
+    (S.both (S.keep refl refl refl)
+    (S.marks (record { passed = refl })
+    (S.marks (record { passed = refl }) (S.marks (record { passed = refl }) S.no_marks)))))
 
 -- MATCHES FOR EQUALITY, ORDERING;
 abbrev rules_tokens : List Token
-rules_tokens = token_of WORD 0 (codes "MATCHES") ∷ token_of WORD 8 (codes "FOR") ∷ token_of WORD 12 (codes "EQUALITY") ∷ token_of SIGN 20 (codes ",") ∷ token_of WORD 22 (codes "ORDERING") ∷ token_of SIGN 30 (codes ";") ∷ []
+rules_tokens = token_of WORD 0 (codes "MATCHES") ∷ token_of WORD 8 (codes "FOR") ∷ token_of WORD 12 (codes "EQUALITY")
+    ∷ token_of SIGN 20 (codes ",") ∷ token_of WORD 22 (codes "ORDERING") ∷ token_of SIGN 30 (codes ";") ∷ []
 
 rules_example : Spells rules_tokens no_names (Maybe rules_form) 0 6 (rules_tree true)
-rules_example = S.present (S.marks (record { passed = refl }) (S.marks (record { passed = refl }) (S.marks (record { passed = refl }) (S.marks (record { passed = refl }) (S.marks (record { passed = refl }) (S.marks (record { passed = refl }) S.no_marks))))))
+rules_example = S.present
+    (S.marks (record { passed = refl })
+    (S.marks (record { passed = refl })
+    (S.marks (record { passed = refl })
+    (S.marks (record { passed = refl })
+    (S.marks (record { passed = refl }) (S.marks (record { passed = refl }) S.no_marks))))))
 
 -- load = 7
-given_example : Spells (token_of WORD 0 (codes "load") ∷ token_of SIGN 5 (codes "=") ∷ token_of NUMBER 7 (codes "7") ∷ []) no_names given_form 0 3 (given_tree (record { label = token_of WORD 0 (codes "load"); number = token_of NUMBER 7 (codes "7") }))
-given_example = S.both (S.keep refl refl refl) (S.both (S.marks (record { passed = refl }) S.no_marks) (S.keep refl refl refl))
+given_example : Spells (token_of WORD 0 (codes "load") ∷ token_of SIGN 5 (codes "=") ∷ token_of NUMBER 7 (codes "7")
+    ∷ []) no_names given_form 0 3
+    (given_tree (record { label = token_of WORD 0 (codes "load"); number = token_of NUMBER 7 (codes "7") }))
+given_example = S.both (S.keep refl refl refl)
+    (S.both (S.marks (record { passed = refl }) S.no_marks) (S.keep refl refl refl))
 
 -- a text is a word's or a sign's, and no number's
 mark_example : (at : ℕ) → is_mark_of (codes "}") (token_of SIGN at (codes "}")) ≡ true

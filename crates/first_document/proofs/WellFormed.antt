@@ -1,5 +1,6 @@
 -- The root of a document that keeps the conditions obeys its template.
-use Rattle.std.proofs.Common.{◌≡◌, ℕ, ◌+◌, ◌<◌, ◌≤◌, ◌^◌, Bool, true, false, pos, List, [], ◌∷◌, ◌++◌, All, Contains, get_or, length, map, refl, sym, ap, ◌∙◌, subst, arith, if◌then◌else◌, nat_lt}
+use Rattle.std.proofs.Common.{◌≡◌, ℕ, ◌+◌, ◌<◌, ◌≤◌, ◌^◌, Bool, true, false, pos, List, [], ◌∷◌, ◌++◌, All, Contains}
+use Rattle.std.proofs.Common.{get_or, length, map, refl, sym, ap, ◌∙◌, subst, arith, if◌then◌else◌, nat_lt}
 use Rattle.std.specs.Option.{option_map_or}
 use Rattle.std.proofs.lemmas.Bool.Decides.{Decides-ltb}
 use Rattle.std.proofs.lemmas.List.{length-append}
@@ -25,7 +26,9 @@ use Rattle.first_document.specs.declared.parts.AttributeUse.{AttributeUse}
 use Rattle.first_document.specs.declared.parts.GivenValue.{GivenValue}
 use Rattle.first_document.specs.Contents.{AttributeContents, DocumentContents}
 use Rattle.first_document.specs.FirstDocument.{IsConsistent, IsNumberBelow, given_labels, used_labels, attribute_labels}
-use Rattle.first_document.specs.Records.{attribute_record, class_record, given_attribute, given_values, identifier_of, number_of, package_of, property_record, records_of, root_attributes, root_record}
+use Rattle.first_document.specs.Records.{attribute_record, class_record, given_attribute, given_values, identifier_of}
+use Rattle.first_document.specs.Records.{number_of, package_of, property_record, records_of, root_attributes}
+use Rattle.first_document.specs.Records.{root_record}
 use Rattle.first_document.proofs.Labelled.{found, id_of, map-map}
 use Rattle.first_document.proofs.Loops.{All-unmap}
 use Rattle.first_document.proofs.OneClass.{attribute_ids, has_attribute, only_attributes}
@@ -38,7 +41,8 @@ unfolding length_octets
 short_length n small =
     by (nat_lt n 128) ((Decides-ltb n 128).1 small)
   where
-    by : (b : Bool) → b ≡ true → length (if b then n ∷ [] else (128 + count_unsigned n) ∷ octets (count_unsigned n) n) ≡ 1
+    by : (b : Bool) → b ≡ true
+        → length (if b then n ∷ [] else (128 + count_unsigned n) ∷ octets (count_unsigned n) n) ≡ 1
     by true e = refl
     by false e = absurd (cc e)
 
@@ -82,12 +86,16 @@ class_ids document =
     ∙ sym (map-map (identifier_of document.attributes) (λ (one : AttributeUse). one.label.text) document.class.uses)
 
 -- the identifiers of the given values are those under their labels
-pub given_ids : (document : DocumentContents) → identifiers (map (given_attribute document.attributes) (given_values document.root)) ≡ map (identifier_of document.attributes) (given_labels document)
+pub given_ids : (document : DocumentContents)
+    → identifiers (map (given_attribute document.attributes) (given_values document.root)) ≡ map
+    (identifier_of document.attributes) (given_labels document)
 given_ids document =
     map-map (λ (attribute : Attribute). attribute.id) (given_attribute document.attributes) (given_values document.root)
-    ∙ sym (map-map (identifier_of document.attributes) (λ (one : GivenValue). one.label.text) (given_values document.root))
+    ∙ sym (map-map (identifier_of document.attributes) (λ (one : GivenValue). one.label.text)
+    (given_values document.root))
 
-given_fine : (document : DocumentContents) → IsConsistent document → (one : GivenValue) → Contains (used_labels document) one.label.text → IsNumberBelow (2 ^ 63) one.number
+given_fine : (document : DocumentContents) → IsConsistent document → (one : GivenValue)
+    → Contains (used_labels document) one.label.text → IsNumberBelow (2 ^ 63) one.number
     → Fine (IsOfClass document) IsSmall (given_attribute document.attributes one)
 given_fine document consistent one used below =
     let q = one.label.text in
@@ -96,7 +104,8 @@ given_fine document consistent one used below =
     let named : identifier_of document.attributes q ≡ id_of at.attribute = ap (λ o. option_map_or id_of o []) at.is in
     record {
       id = record {
-        member = subst (λ l. Contains l (identifier_of document.attributes q)) (sym (class_ids document)) (Contains-map (identifier_of document.attributes) (used_labels document) q used);
+        member = subst (λ l. Contains l (identifier_of document.attributes q)) (sym (class_ids document))
+            (Contains-map (identifier_of document.attributes) (used_labels document) q used);
         template = at.attribute;
         known = at.among;
         named = sym named;
@@ -107,17 +116,20 @@ given_fine document consistent one used below =
       };
     }
 
-root_fine : (document : DocumentContents) → IsConsistent document → All (Fine (IsOfClass document) IsSmall) (root_attributes document)
+root_fine : (document : DocumentContents) → IsConsistent document
+    → All (Fine (IsOfClass document) IsSmall) (root_attributes document)
 root_fine document consistent =
     let P = Fine (IsOfClass document) IsSmall in
     let gs = given_values document.root in
     let used = All-unmap (Contains (used_labels document)) (λ (one : GivenValue). one.label.text) gs consistent.given in
     rising_fine (IsOfClass document) IsSmall (map (given_attribute document.attributes) gs)
-    (All-map P (given_attribute document.attributes) gs (λ k d within. given_fine document consistent (get_or gs k d) (used k d within) (consistent.values k d within)))
+    (All-map P (given_attribute document.attributes) gs
+    (λ k d within. given_fine document consistent (get_or gs k d) (used k d within) (consistent.values k d within)))
 
 -- ---- the root
 
-root_obeys : (document : DocumentContents) → IsConsistent document → ObeysTemplates (records_of document) (opened_object (root_record document)).object
+root_obeys : (document : DocumentContents) → IsConsistent document
+    → ObeysTemplates (records_of document) (opened_object (root_record document)).object
 root_obeys document consistent =
     let attributes = root_attributes document in
     let given = map (given_attribute document.attributes) (given_values document.root) in
@@ -125,8 +137,11 @@ root_obeys document consistent =
     let class = class_record document in
     let schema = records_of document in
     let of_package = class_package document in
-    let given_there : (q : List ℕ) → Contains (given_labels document) q → Contains (identifiers attributes) (identifier_of document.attributes q) =
-    λ q at. rising_has given (identifier_of document.attributes q) (subst (λ l. Contains l (identifier_of document.attributes q)) (sym (given_ids document)) (Contains-map (identifier_of document.attributes) (given_labels document) q at)) in
+    let given_there : (q : List ℕ) → Contains (given_labels document) q
+    → Contains (identifiers attributes) (identifier_of document.attributes q) =
+    λ q at. rising_has given (identifier_of document.attributes q)
+    (subst (λ l. Contains l (identifier_of document.attributes q)) (sym (given_ids document))
+    (Contains-map (identifier_of document.attributes) (given_labels document) q at)) in
     let all_there : All (Contains (identifiers attributes)) (attribute_ids of_package) =
     subst (All (Contains (identifiers attributes))) (sym (class_ids document))
     (All-map (Contains (identifiers attributes)) (identifier_of document.attributes) (used_labels document)
@@ -166,5 +181,6 @@ well_formed document consistent =
       root = here [] [];
       few = omega arith;
       by_name = (tt, tt);
-      each = All-cons (λ (entry : NamedObject). ObeysTemplates schema entry.object) root [] (root_obeys document consistent) (All-nil (λ (entry : NamedObject). ObeysTemplates schema entry.object));
+      each = All-cons (λ (entry : NamedObject). ObeysTemplates schema entry.object) root []
+          (root_obeys document consistent) (All-nil (λ (entry : NamedObject). ObeysTemplates schema entry.object));
     }

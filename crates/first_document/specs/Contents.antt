@@ -36,7 +36,14 @@ pub record DocumentContents : Type 0 where
   pub root : RootContents
 
 abbrev pub attribute_contents : AttributePart → AttributeContents
-attribute_contents x = record { label = x.label; module_name = x.module_name; type_name = x.type_name; matches = x.matches; arcs = x.arcs.items }
+attribute_contents x = record {
+  label = x.label;
+  module_name = x.module_name;
+  type_name = x.type_name;
+  matches =
+      x.matches;
+  arcs = x.arcs.items;
+}
 
 abbrev pub class_contents : ClassPart → ClassContents
 class_contents x = record { label = x.label; package_label = x.package; uses = x.uses.items; arcs = x.arcs.items }
@@ -45,7 +52,13 @@ abbrev pub root_contents : RootPart → RootContents
 root_contents x = record { class = x.class; named_by = x.named_by; others = x.others.items }
 
 abbrev pub document_contents : DocumentParts → DocumentContents
-document_contents x = record { module_part = x.module; attributes = map attribute_contents x.attributes.items; class = class_contents x.class; root = root_contents x.root }
+document_contents x = record {
+  module_part = x.module;
+  attributes = map attribute_contents x.attributes.items;
+  class =
+      class_contents x.class;
+  root = root_contents x.root;
+}
 
 -- parts with one tree have the same contents
 abbrev pub OneContents : Type 0

@@ -24,7 +24,9 @@ comma = is_sign_of (codes ",")
 
 -- M DEFINITIONS ::= BEGIN T ::= INTEGER END
 abbrev pub module_form : Form
-module_form = Then (Keep is_word) (Then (Marks (marks (codes "DEFINITIONS" ∷ codes "::=" ∷ codes "BEGIN" ∷ []))) (Then (Keep is_word) (Marks (marks (codes "::=" ∷ codes "INTEGER" ∷ codes "END" ∷ [])))))
+module_form = Then (Keep is_word)
+    (Then (Marks (marks (codes "DEFINITIONS" ∷ codes "::=" ∷ codes "BEGIN" ∷ [])))
+    (Then (Keep is_word) (Marks (marks (codes "::=" ∷ codes "INTEGER" ∷ codes "END" ∷ [])))))
 
 -- M.T;
 abbrev pub syntax_form : Form
@@ -32,7 +34,8 @@ syntax_form = Then (Keep is_word) (Then (sign (codes ".")) (Then (Keep is_word) 
 
 -- MATCHES FOR EQUALITY, ORDERING;
 abbrev pub rules_form : Form
-rules_form = Marks (marks (codes "MATCHES" ∷ codes "FOR" ∷ codes "EQUALITY" ∷ codes "," ∷ codes "ORDERING" ∷ codes ";" ∷ []))
+rules_form = Marks (marks
+    (codes "MATCHES" ∷ codes "FOR" ∷ codes "EQUALITY" ∷ codes "," ∷ codes "ORDERING" ∷ codes ";" ∷ []))
 
 -- n n ..
 abbrev pub arcs_form : Form
@@ -40,11 +43,14 @@ arcs_form = Many Empty (Keep is_number)
 
 -- REGISTERED AS {n n ..};
 abbrev pub registration_form : Form
-registration_form = Then (Marks (marks (codes "REGISTERED" ∷ codes "AS" ∷ codes "{" ∷ []))) (Then arcs_form (Marks (marks (codes "}" ∷ codes ";" ∷ []))))
+registration_form = Then (Marks (marks (codes "REGISTERED" ∷ codes "AS" ∷ codes "{" ∷ [])))
+    (Then arcs_form (Marks (marks (codes "}" ∷ codes ";" ∷ []))))
 
 -- label ATTRIBUTE WITH ATTRIBUTE SYNTAX M.T; [MATCHES FOR EQUALITY, ORDERING;] REGISTERED AS {n n ..};
 abbrev pub attribute_form : Form
-attribute_form = Then (Keep is_label) (Then (Marks (words (codes "ATTRIBUTE" ∷ codes "WITH" ∷ codes "ATTRIBUTE" ∷ codes "SYNTAX" ∷ []))) (Then syntax_form (Then (Maybe rules_form) registration_form)))
+attribute_form = Then (Keep is_label)
+    (Then (Marks (words (codes "ATTRIBUTE" ∷ codes "WITH" ∷ codes "ATTRIBUTE" ∷ codes "SYNTAX" ∷ [])))
+    (Then syntax_form (Then (Maybe rules_form) registration_form)))
 
 -- label (GET or GET-REPLACE)
 abbrev pub use_form : Form
@@ -56,11 +62,15 @@ uses_form = Listed comma Empty use_form
 
 -- label PACKAGE ATTRIBUTES label (GET or GET-REPLACE), ..;;;
 abbrev pub package_form : Form
-package_form = Then (Keep is_label) (Then (Marks (words (codes "PACKAGE" ∷ codes "ATTRIBUTES" ∷ []))) (Then uses_form (Marks (marks (codes ";" ∷ codes ";" ∷ codes ";" ∷ [])))))
+package_form = Then (Keep is_label)
+    (Then (Marks (words (codes "PACKAGE" ∷ codes "ATTRIBUTES" ∷ [])))
+    (Then uses_form (Marks (marks (codes ";" ∷ codes ";" ∷ codes ";" ∷ [])))))
 
 -- label MANAGED OBJECT CLASS CHARACTERIZED BY label PACKAGE ATTRIBUTES ..;;; REGISTERED AS {n n ..};
 abbrev pub class_form : Form
-class_form = Then (Keep is_label) (Then (Marks (words (codes "MANAGED" ∷ codes "OBJECT" ∷ codes "CLASS" ∷ codes "CHARACTERIZED" ∷ codes "BY" ∷ []))) (Then package_form registration_form))
+class_form = Then (Keep is_label)
+    (Then (Marks (words (codes "MANAGED" ∷ codes "OBJECT" ∷ codes "CLASS" ∷ codes "CHARACTERIZED" ∷ codes "BY" ∷ [])))
+    (Then package_form registration_form))
 
 -- label = n
 abbrev pub given_form : Form
@@ -72,11 +82,14 @@ givens_form = Listed comma Empty given_form
 
 -- label = n} WITH label = n, ..; END
 abbrev pub values_form : Form
-values_form = Then given_form (Then (Marks (marks (codes "}" ∷ codes "WITH" ∷ []))) (Then givens_form (Marks (marks (codes ";" ∷ codes "END" ∷ [])))))
+values_form = Then given_form
+    (Then (Marks (marks (codes "}" ∷ codes "WITH" ∷ [])))
+    (Then givens_form (Marks (marks (codes ";" ∷ codes "END" ∷ [])))))
 
 -- INSTANCES ROOT label AT {label = n} WITH label = n, ..; END
 abbrev pub instances_form : Form
-instances_form = Then (Marks (words (codes "INSTANCES" ∷ codes "ROOT" ∷ []))) (Then (Keep is_label) (Then (Marks (marks (codes "AT" ∷ codes "{" ∷ []))) values_form))
+instances_form = Then (Marks (words (codes "INSTANCES" ∷ codes "ROOT" ∷ [])))
+    (Then (Keep is_label) (Then (Marks (marks (codes "AT" ∷ codes "{" ∷ []))) values_form))
 
 -- attribute attribute .. class instances, behind the attributes that came so far
 abbrev pub templates_form : Tree → Form

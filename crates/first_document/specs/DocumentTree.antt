@@ -32,7 +32,8 @@ abbrev pub registration_tree : Vec Token Global → Tree
 registration_tree arcs = Pair Bare (Pair (arcs_tree arcs) Bare)
 
 abbrev pub attribute_tree : AttributePart → Tree
-attribute_tree x = Pair (Leaf x.label) (Pair Bare (Pair (syntax_tree x.module_name x.type_name) (Pair (rules_tree x.matches) (registration_tree x.arcs))))
+attribute_tree x = Pair (Leaf x.label)
+    (Pair Bare (Pair (syntax_tree x.module_name x.type_name) (Pair (rules_tree x.matches) (registration_tree x.arcs))))
 
 abbrev pub use_tree : AttributeUse → Tree
 use_tree x = Pair (Leaf x.label) (Leaf x.access)

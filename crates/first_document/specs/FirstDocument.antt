@@ -1,4 +1,5 @@
--- FirstDocument: which tokens are a document in the first form, and the records that it defines: docs/PROFILE.md, section 6.
+-- FirstDocument: which tokens are a document in the first form, and the records that it defines: docs/PROFILE.md,
+-- section 6.
 use Rattle.std.specs.Prelude.{◌≡◌, ◌≢◌, ◌≤◌, ◌<◌, ◌^◌, ℕ, List, ◌∷◌, All, AllPairs, Contains, IsTrue, length, map}
 use Rattle.std.specs.Str.Parse.{IsNumeral}
 use Rattle.token_grammar.specs.declared.token.Token.{Token}

@@ -1,5 +1,7 @@
--- Gathering: identifiers by label, and what is gathered by them from the parts of a document (docs/PROFILE.md, section 6).
-use Rattle.std.specs.Prelude.{◌≡◌, ◌^◌, ℕ, ℤ, pos, true, false, not, ◌&&◌, ◌||◌, List, [], ◌∷◌, Option, IsSome, None, All, Contains, find, length, map}
+-- Gathering: identifiers by label, and what is gathered by them from the parts of a document (docs/PROFILE.md, section
+-- 6).
+use Rattle.std.specs.Prelude.{◌≡◌, ◌^◌, ℕ, ℤ, pos, true, false, not, ◌&&◌, ◌||◌, List, [], ◌∷◌, Option, IsSome, None}
+use Rattle.std.specs.Prelude.{All, Contains, find, length, map}
 use Rattle.std.specs.BTreeMap.{BTreeMap, get}
 use Rattle.std.specs.BTreeSet.{BTreeSet, contains}
 use Rattle.std.specs.Cmp.Lexicographic.{slice_cmp}

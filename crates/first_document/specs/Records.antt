@@ -104,7 +104,8 @@ class_record document =
 abbrev pub placed : List Attribute → Attribute → List Attribute
 placed [] new = new ∷ []
 placed (first ∷ others) new =
-    match_ordering (slice_cmp nat_cmp new.id first.id) (new ∷ first ∷ others) (record first { value = new.value } ∷ others)
+    match_ordering (slice_cmp nat_cmp new.id first.id) (new ∷ first ∷ others)
+    (record first { value = new.value } ∷ others)
     (first ∷ placed others new)
 
 abbrev pub by_rising_identifier : List Attribute → List Attribute

@@ -37,9 +37,9 @@ fn whole_parts(alloc: Global, tokens: &[Token]) -> Result<DocumentParts, Documen
     }
 }
 
-/// The records that the tokens of a document in the first form define: one class, its attributes, and the root's instance.
-/// `Outside`: the tokens are no such document. The tokens are read once, and labels and identifiers are compared in ordered
-/// maps.
+/// The records that the tokens of a document in the first form define: one class, its attributes, and the root's
+/// instance. `Outside`: the tokens are no such document. The tokens are read once, and labels and identifiers are
+/// compared in ordered maps.
 pub fn read_document(alloc: Global, tokens: &[Token]) -> Result<Set, DocumentRefusal>
     // The records are those of the document, and no others are.
     ensures found { IfOk result (IsFirstDocument tokens.now) }

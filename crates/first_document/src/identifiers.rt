@@ -102,8 +102,8 @@ fn check_identifiers(alloc: Global, class: &Oid, records: &[AttrRec]) -> Result<
     Ok(())
 }
 
-/// The identifiers of attributes by label, for a class with this identifier. `Outside`: two labels of the document are one,
-/// or two identifiers are.
+/// The identifiers of attributes by label, for a class with this identifier. `Outside`: two labels of the document are
+/// one, or two identifiers are.
 pub(crate) fn check_names(
     alloc: Global,
     class: &ClassPart,
@@ -111,7 +111,8 @@ pub(crate) fn check_names(
     records: &[AttrRec],
 ) -> Result<Identifiers, DocumentRefusal>
     ensures found { IfOk result (λ identifiers. IsIndex identifiers records.now) }
-    ensures labels { OnOk result (AreDistinct (class.now.label.text ∷ class.now.package.text ∷ record_labels records.now)) }
+    ensures labels { OnOk result
+        (AreDistinct (class.now.label.text ∷ class.now.package.text ∷ record_labels records.now)) }
     ensures identifiers { OnOk result (AreDistinct (id.now ∷ record_ids records.now)) }
     ensures outside { result ≡ Err DocumentRefusal.Outside
         → AreDistinct (class.now.label.text ∷ class.now.package.text ∷ record_labels records.now)

@@ -5,7 +5,8 @@ ghost use Rattle.std.specs.BTreeSet.{contains};
 ghost use Rattle.std.specs.Cmp.Lexicographic.{slice_cmp};
 ghost use Rattle.std.specs.Ordering.{nat_cmp};
 ghost use Rattle.first_document.specs.FirstDocument.{AreDistinct};
-ghost use Rattle.first_document.specs.Gathering.{Adds, GivesEach, HasExactly, Removes, all_given, given_texts, use_labels};
+ghost use Rattle.first_document.specs.Gathering.{Adds, GivesEach, HasExactly, Removes, all_given, given_texts};
+ghost use Rattle.first_document.specs.Gathering.{use_labels};
 
 use crate::document_refusal::DocumentRefusal;
 use crate::parts::{AttributeUse, GivenValue, RootPart};

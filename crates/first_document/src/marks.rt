@@ -46,7 +46,8 @@ pub(crate) fn skip_marks(
     at: usize,
     texts: &[&str],
 ) -> Result<usize, SyntaxRefusal>
-    ensures { (grammar : ℕ → Form) → Skips tokens.now grammar closed (Marks (map (λ text. is_mark_of text.now) texts.now)) at Bare result }
+    ensures { (grammar : ℕ → Form)
+        → Skips tokens.now grammar closed (Marks (map (λ text. is_mark_of text.now) texts.now)) at Bare result }
 {
     let mut next = at;
     for text in texts {

@@ -24,7 +24,8 @@ pub(crate) fn number_below(token: &Token, limit: u64) -> Option<u64>
 
 /// The numbers of arcs. `Outside`: one is no number, or is too great.
 fn read_arcs(alloc: Global, arcs: &[Token]) -> Result<Vec<u32>, DocumentRefusal>
-    ensures found { IfOk result (λ numbers. All (IsNumberBelow (2 ^ 32)) arcs.now × (numbers.items ≡ arcs_of arcs.now)) }
+    ensures found { IfOk result (λ numbers. All (IsNumberBelow (2 ^ 32)) arcs.now
+        × (numbers.items ≡ arcs_of arcs.now)) }
     ensures outside { result ≡ Err DocumentRefusal.Outside → All (IsNumberBelow (2 ^ 32)) arcs.now → ⊥ }
 {
     let mut numbers = Vec::new(alloc);

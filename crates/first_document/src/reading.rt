@@ -5,8 +5,14 @@ ghost use Rattle.std.specs.Prelude.{◌≡◌, ℕ, codes};
 ghost use Rattle.token_grammar.specs.Form.{Form, Maybe, Empty};
 ghost use Rattle.token_grammar.specs.Outcome.{Reads, closed};
 ghost use Rattle.token_grammar.specs.TokenTests.{is_number};
-ghost use Rattle.first_document.specs.DocumentForm.{no_names, is_mark_of, comma, module_form, syntax_form, rules_form, arcs_form, registration_form, attribute_form, use_form, uses_form, package_form, class_form, given_form, givens_form, values_form, instances_form, templates_form, document_form};
-ghost use Rattle.first_document.specs.DocumentTree.{module_tree, syntax_tree, rules_tree, arcs_tree, registration_tree, attribute_tree, use_tree, uses_tree, package_tree, class_tree, given_tree, givens_tree, values_tree, root_tree, templates_tree, document_tree};
+ghost use Rattle.first_document.specs.DocumentForm.{no_names, is_mark_of, comma, module_form, syntax_form, rules_form};
+ghost use Rattle.first_document.specs.DocumentForm.{arcs_form, registration_form, attribute_form, use_form, uses_form};
+ghost use Rattle.first_document.specs.DocumentForm.{package_form, class_form, given_form, givens_form, values_form};
+ghost use Rattle.first_document.specs.DocumentForm.{instances_form, templates_form, document_form};
+ghost use Rattle.first_document.specs.DocumentTree.{module_tree, syntax_tree, rules_tree, arcs_tree, registration_tree};
+ghost use Rattle.first_document.specs.DocumentTree.{attribute_tree, use_tree, uses_tree, package_tree, class_tree};
+ghost use Rattle.first_document.specs.DocumentTree.{given_tree, givens_tree, values_tree, root_tree, templates_tree};
+ghost use Rattle.first_document.specs.DocumentTree.{document_tree};
 
 use super::marks::{is_mark_at, skip_marks};
 use super::parts::{
@@ -309,7 +315,8 @@ fn read_templates(
     tokens: &[Token],
     at: usize,
 ) -> Result<(Templates, usize), SyntaxRefusal>
-    ensures { Reads tokens.now no_names closed (templates_form Empty) at (λ x. templates_tree x.attributes x.class x.root) result }
+    ensures { Reads tokens.now no_names closed (templates_form Empty) at
+        (λ x. templates_tree x.attributes x.class x.root) result }
 {
     let mut attributes = Vec::new(alloc);
     let mut next = at;

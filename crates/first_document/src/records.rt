@@ -1,11 +1,12 @@
-//! The records that the parts of a document define, where these keep the conditions of the first form: X.722, sections 8.3,
-//! 8.4 and 8.7; docs/PROFILE.md, section 6.
+//! The records that the parts of a document define, where these keep the conditions of the first form: X.722, sections
+//! 8.3, 8.4 and 8.7; docs/PROFILE.md, section 6.
 
 ghost use Rattle.std.specs.Prelude.{◌≡◌, ◌≤◌, ◌↔◌, [], ◌∷◌, All, IfOk, IsTrue, OnOk, map, true};
 ghost use Rattle.first_document.specs.declared.parts.AttributePart.{AttributePart};
 ghost use Rattle.first_document.specs.Contents.{attribute_contents, document_contents};
 ghost use Rattle.first_document.specs.FirstDocument.{AreDistinct, HasType, IsConsistent};
-ghost use Rattle.first_document.specs.Gathering.{GivesEach, IsGivable, IsKnown, all_given, attributes_by, given_texts, property_under, size_of, use_labels};
+ghost use Rattle.first_document.specs.Gathering.{GivesEach, IsGivable, IsKnown, all_given, attributes_by, given_texts};
+ghost use Rattle.first_document.specs.Gathering.{property_under, size_of, use_labels};
 ghost use Rattle.first_document.specs.Records.{class_of, package_of, records_of};
 ghost use Rattle.term_model.specs.WellFormedMib.{most_object};
 
@@ -38,7 +39,8 @@ fn is_of_type(defined: &ModulePart, attribute: &AttributePart) -> bool
 
 /// Whether each attribute is of the module's type.
 fn are_of_type(defined: &ModulePart, attributes: &[AttributePart]) -> bool
-    ensures { IsTrue result ↔ All (λ (part : AttributePart). HasType defined.now (attribute_contents part)) attributes.now }
+    ensures { IsTrue result ↔ All (λ (part : AttributePart). HasType defined.now (attribute_contents part))
+        attributes.now }
 {
     for attribute in attributes {
         if !is_of_type(defined, attribute) {
@@ -122,8 +124,8 @@ fn package_records(
     Ok(PackageRecs { items })
 }
 
-/// The record of the class. `Outside`: a label that it uses is no attribute's or stands twice, or AT and WITH do not give each
-/// of these labels once, or give another one.
+/// The record of the class. `Outside`: a label that it uses is no attribute's or stands twice, or AT and WITH do not
+/// give each of these labels once, or give another one.
 fn class_record(
     alloc: Global,
     identifiers: &Identifiers,

@@ -6,7 +6,8 @@ ghost use Rattle.std.specs.Cmp.Lexicographic.{slice_cmp};
 ghost use Rattle.std.specs.Ordering.{nat_cmp};
 ghost use Rattle.term_model.specs.WellFormedMib.{most_object};
 ghost use Rattle.first_document.specs.FirstDocument.{IsNumberBelow};
-ghost use Rattle.first_document.specs.Gathering.{IsGivable, all_given, attributes_by, entry_attribute, identifier_under, name_under, size_of};
+ghost use Rattle.first_document.specs.Gathering.{IsGivable, all_given, attributes_by, entry_attribute};
+ghost use Rattle.first_document.specs.Gathering.{identifier_under, name_under, size_of};
 ghost use Rattle.first_document.specs.Records.{number_of};
 
 use crate::document_refusal::DocumentRefusal;
@@ -136,8 +137,8 @@ pub(crate) fn root_record(
     })
 }
 
-/// The system's name: the root's naming attribute and its value. `Outside`: the label is no attribute's, or the number is no
-/// value.
+/// The system's name: the root's naming attribute and its value. `Outside`: the label is no attribute's, or the number
+/// is no value.
 pub(crate) fn system_name(
     alloc: Global,
     identifiers: &Identifiers,

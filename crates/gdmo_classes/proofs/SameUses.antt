@@ -9,9 +9,13 @@ use Rattle.gdmo_members.proofs.SameTrees.{vectors_alike, references_alike, param
 use Rattle.gdmo_members.proofs.FurtherSameTrees.{groups_alike, actions_alike, notifications_alike}
 use Rattle.gdmo_classes.specs.declared.references.GroupReference.TheVariants.{Label as GLabel, Template as GTemplate}
 use Rattle.gdmo_classes.specs.declared.references.ActionReference.TheVariants.{Label as ALabel, Template as ATemplate}
-use Rattle.gdmo_classes.specs.declared.references.NotificationReference.TheVariants.{Label as NLabel, Template as NTemplate}
-use Rattle.gdmo_classes.specs.UseTrees.{group_reference_tree, action_reference_tree, notification_reference_tree, group_use_tree, action_use_tree, notification_use_tree, properties_tree, attribute_use_tree}
-use Rattle.gdmo_classes.specs.Agreement.{GroupReferencesAgree, ActionReferencesAgree, NotificationReferencesAgree, AttributeUsesAgree, GroupUsesAgree, ActionUsesAgree, NotificationUsesAgree}
+use Rattle.gdmo_classes.specs.declared.references.NotificationReference.TheVariants.{Label as NLabel}
+use Rattle.gdmo_classes.specs.declared.references.NotificationReference.TheVariants.{Template as NTemplate}
+use Rattle.gdmo_classes.specs.UseTrees.{group_reference_tree, action_reference_tree, notification_reference_tree}
+use Rattle.gdmo_classes.specs.UseTrees.{group_use_tree, action_use_tree, notification_use_tree, properties_tree}
+use Rattle.gdmo_classes.specs.UseTrees.{attribute_use_tree}
+use Rattle.gdmo_classes.specs.Agreement.{GroupReferencesAgree, ActionReferencesAgree, NotificationReferencesAgree}
+use Rattle.gdmo_classes.specs.Agreement.{AttributeUsesAgree, GroupUsesAgree, ActionUsesAgree, NotificationUsesAgree}
 
 -- what names a group, an action or a notification
 pub group_references_alike : OneTreeBy GroupReferencesAgree group_reference_tree

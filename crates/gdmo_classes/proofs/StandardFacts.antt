@@ -31,10 +31,13 @@ small_class = label ∷ token_of word_kind 2 (codes "MANAGED") ∷ token_of word
 class_example : Spells small_class templates (Named classes) 0 11
     (Numbered 0 (Pair (Leaf label) (Pair Bare (Pair
     (Pair Absent (Pair Absent (Pair Absent Bare)))
-    (Pair (Pair Bare (Pair (Leaf brace) (Pair (First (First (Leaf first_number))) (Pair (After Empty (First (Leaf second_number))) Bare)))) Bare)))))
+    (Pair (Pair Bare (Pair (Leaf brace)
+    (Pair (First (First (Leaf first_number))) (Pair (After Empty (First (Leaf second_number))) Bare)))) Bare)))))
 class_example = named (both (keep refl refl refl) (both
     (marks (record { passed = refl }) (marks (record { passed = refl }) (marks (record { passed = refl }) no_marks)))
     (both (enough refl refl) (both
     (both (marks (record { passed = refl }) (marks (record { passed = refl }) no_marks))
-    (both (keep refl refl refl) (both (first (first (keep refl refl refl))) (both (another (first (keep refl refl refl)) no_more) (marks (record { passed = refl }) no_marks)))))
+    (both (keep refl refl refl)
+    (both (first (first (keep refl refl refl)))
+    (both (another (first (keep refl refl refl)) no_more) (marks (record { passed = refl }) no_marks)))))
     (marks (record { passed = refl }) no_marks)))))

@@ -2,13 +2,15 @@
 -- and of their templates in line, which no text says (X.722, sections 8.3, 8.4 and 8.6).
 use Rattle.std.specs.Prelude.{◌≡◌}
 use Rattle.token_grammar.specs.PartLaws.{IdentifiersAgree, OptionsAgree}
-use Rattle.gdmo_members.specs.Agreement.{VectorsEqual, VectorsAgree, AttributeReferencesAgree, ParameterReferencesAgree, GroupsAgree, ActionsAgree, NotificationsAgree}
+use Rattle.gdmo_members.specs.Agreement.{VectorsEqual, VectorsAgree, AttributeReferencesAgree, ParameterReferencesAgree}
+use Rattle.gdmo_members.specs.Agreement.{GroupsAgree, ActionsAgree, NotificationsAgree}
 use Rattle.gdmo_classes.specs.declared.references.GroupReference.{GroupReference}
 use Rattle.gdmo_classes.specs.declared.references.GroupReference.TheVariants.{Label as GLabel, Template as GTemplate}
 use Rattle.gdmo_classes.specs.declared.references.ActionReference.{ActionReference}
 use Rattle.gdmo_classes.specs.declared.references.ActionReference.TheVariants.{Label as ALabel, Template as ATemplate}
 use Rattle.gdmo_classes.specs.declared.references.NotificationReference.{NotificationReference}
-use Rattle.gdmo_classes.specs.declared.references.NotificationReference.TheVariants.{Label as NLabel, Template as NTemplate}
+use Rattle.gdmo_classes.specs.declared.references.NotificationReference.TheVariants.{Label as NLabel}
+use Rattle.gdmo_classes.specs.declared.references.NotificationReference.TheVariants.{Template as NTemplate}
 use Rattle.gdmo_classes.specs.declared.member_use.GroupUse.{GroupUse}
 use Rattle.gdmo_classes.specs.declared.member_use.ActionUse.{ActionUse}
 use Rattle.gdmo_classes.specs.declared.member_use.NotificationUse.{NotificationUse}
@@ -17,7 +19,9 @@ use Rattle.gdmo_classes.specs.declared.package.PackageTemplate.{PackageTemplate}
 use Rattle.gdmo_classes.specs.declared.package.PackageReference.{PackageReference}
 use Rattle.gdmo_classes.specs.declared.package.PackageReference.TheVariants.{Label as PLabel, Template as PTemplate}
 use Rattle.gdmo_classes.specs.declared.class.ConditionalPackage.{ConditionalPackage}
-use Rattle.gdmo_classes.specs.declared.class.ObjectClassTemplate.{ObjectClassTemplate, Row_of-ClassReference, end_of-ClassReference, more_of-ClassReference, Held-ObjectClassTemplate-superclasses, None', Some'}
+use Rattle.gdmo_classes.specs.declared.class.ObjectClassTemplate.{ObjectClassTemplate, Row_of-ClassReference}
+use Rattle.gdmo_classes.specs.declared.class.ObjectClassTemplate.{end_of-ClassReference, more_of-ClassReference}
+use Rattle.gdmo_classes.specs.declared.class.ObjectClassTemplate.{Held-ObjectClassTemplate-superclasses, None', Some'}
 use Rattle.gdmo_classes.specs.declared.class.ClassReference.{ClassReference}
 use Rattle.gdmo_classes.specs.declared.class.ClassReference.TheVariants.{Label as CLabel, Template' as CTemplate}
 use Rattle.gdmo_classes.specs.declared.creation.Creation.{Creation}
@@ -54,13 +58,17 @@ AttributeUsesAgree x y =
     × VectorsAgree ParameterReferencesAgree x.parameters y.parameters
 
 abbrev pub GroupUsesAgree : GroupUse → GroupUse → Type 0
-GroupUsesAgree x y = GroupReferencesAgree x.group y.group × VectorsAgree AttributeReferencesAgree x.attributes y.attributes
+GroupUsesAgree x y = GroupReferencesAgree x.group y.group
+    × VectorsAgree AttributeReferencesAgree x.attributes y.attributes
 
 abbrev pub ActionUsesAgree : ActionUse → ActionUse → Type 0
-ActionUsesAgree x y = ActionReferencesAgree x.action y.action × VectorsAgree ParameterReferencesAgree x.parameters y.parameters
+ActionUsesAgree x y = ActionReferencesAgree x.action y.action
+    × VectorsAgree ParameterReferencesAgree x.parameters y.parameters
 
 abbrev pub NotificationUsesAgree : NotificationUse → NotificationUse → Type 0
-NotificationUsesAgree x y = NotificationReferencesAgree x.notification y.notification × VectorsAgree ParameterReferencesAgree x.parameters y.parameters
+NotificationUsesAgree x y =
+    NotificationReferencesAgree x.notification y.notification
+    × VectorsAgree ParameterReferencesAgree x.parameters y.parameters
 
 abbrev pub PackagesAgree : PackageTemplate → PackageTemplate → Type 0
 PackagesAgree x y =
@@ -88,7 +96,8 @@ abbrev mutual
   ClassReferencesAgree (CLabel x) (CLabel y) = x ≡ y
   ClassReferencesAgree (CLabel x) (CTemplate _ _ _ _ _ _ _) = ⊥
   ClassReferencesAgree (CTemplate _ _ _ _ _ _ _) (CLabel y) = ⊥
-  ClassReferencesAgree (CTemplate _ document label superclasses packages conditional registration) (CTemplate _ document' label' superclasses' packages' conditional' registration') =
+  ClassReferencesAgree (CTemplate _ document label superclasses packages conditional registration)
+      (CTemplate _ document' label' superclasses' packages' conditional' registration') =
       (document ≡ document')
       × (label ≡ label')
       × HeldAgree superclasses superclasses'
@@ -143,4 +152,5 @@ NameBindingsAgree x y =
 pub data TemplatesAgree : ClassTemplate → ClassTemplate → Type 0 where
   two_classes : {x y : ObjectClassTemplate} → ClassesAgree x y → TemplatesAgree (Class x) (Class y)
   two_packages : {x y : PackageTemplate} → PackagesAgree x y → TemplatesAgree (Package x) (Package y)
-  two_name_bindings : {x y : NameBindingTemplate} → NameBindingsAgree x y → TemplatesAgree (NameBinding x) (NameBinding y)
+  two_name_bindings : {x y : NameBindingTemplate} → NameBindingsAgree x y
+      → TemplatesAgree (NameBinding x) (NameBinding y)

@@ -6,7 +6,8 @@ use Rattle.token_grammar.specs.TokenTests.{is_one_of}
 use Rattle.token_grammar.specs.Parts.{optional_tree, vector_tree}
 use Rattle.gdmo_members.specs.Clauses.{behaviour_clause}
 use Rattle.gdmo_members.specs.Trees.{clause_tree, behaviour_list_tree, registered_ending_tree}
-use Rattle.gdmo_members.specs.MemberTrees.{attribute_reference_tree, parameter_reference_tree, behaviours_tree, template_tree}
+use Rattle.gdmo_members.specs.MemberTrees.{attribute_reference_tree, parameter_reference_tree, behaviours_tree}
+use Rattle.gdmo_members.specs.MemberTrees.{template_tree}
 use Rattle.gdmo_classes.specs.declared.creation.FurtherModifier.{FurtherModifier}
 use Rattle.gdmo_classes.specs.declared.creation.ModifierRow.{ModifierRow}
 use Rattle.gdmo_classes.specs.declared.creation.CreateModifiers.{CreateModifiers}
@@ -17,7 +18,8 @@ use Rattle.gdmo_classes.specs.declared.name_binding.ClassScope.{ClassScope}
 use Rattle.gdmo_classes.specs.declared.name_binding.NameBindingTemplate.{NameBindingTemplate}
 use Rattle.gdmo_classes.specs.declared.name_binding.NameBindingDraft.{NameBindingDraft}
 use Rattle.gdmo_classes.specs.declared.name_binding.NameBindingClauses.{NameBindingClauses}
-use Rattle.gdmo_classes.specs.ClassForms.{subordinate_clause, superior_clause, naming_clause, create_clause, delete_clause}
+use Rattle.gdmo_classes.specs.ClassForms.{subordinate_clause, superior_clause, naming_clause, create_clause}
+use Rattle.gdmo_classes.specs.ClassForms.{delete_clause}
 use Rattle.gdmo_classes.specs.ClassTrees.{class_reference_tree}
 
 -- the create modifiers
@@ -52,10 +54,23 @@ abbrev pub deletions_tree : Option Deletion → Tree
 deletions_tree x = optional_tree (clause_tree deletion_tree) x
 
 abbrev pub name_binding_clauses_tree : NameBindingClauses → Tree
-name_binding_clauses_tree x = Pair (Present (clause_tree class_scope_tree x.subordinate)) (Pair (Present (clause_tree class_scope_tree x.superior)) (Pair (Present (clause_tree attribute_reference_tree x.attribute)) (Pair (behaviours_tree x.behaviour) (Pair (creations_tree x.create) (Pair (deletions_tree x.delete) Bare)))))
+name_binding_clauses_tree x =
+    Pair (Present (clause_tree class_scope_tree x.subordinate))
+    (Pair (Present (clause_tree class_scope_tree x.superior))
+    (Pair (Present (clause_tree attribute_reference_tree x.attribute))
+    (Pair (behaviours_tree x.behaviour) (Pair (creations_tree x.create) (Pair (deletions_tree x.delete) Bare)))))
 
 abbrev pub name_binding_tree : NameBindingTemplate → Tree
-name_binding_tree x = template_tree x.document x.label (name_binding_clauses_tree (record { subordinate = x.subordinate; superior = x.superior; attribute = x.attribute; behaviour = x.behaviour; create = x.create; delete = x.delete })) (registered_ending_tree x.registration)
+name_binding_tree x = template_tree x.document x.label
+    (name_binding_clauses_tree
+    (record {
+      subordinate = x.subordinate;
+      superior = x.superior;
+      attribute = x.attribute;
+      behaviour = x.behaviour;
+      create = x.create;
+      delete = x.delete;
+    })) (registered_ending_tree x.registration)
 
 -- the clauses of a name binding template, with what came so far, and the words with which they begin
 abbrev pub name_binding_slots : NameBindingDraft → Slots
@@ -67,4 +82,6 @@ name_binding_slots x = Slot true subordinate_clause (option_map (clause_tree cla
     (Slot false delete_clause (option_map (clause_tree deletion_tree) x.delete) NoSlots)))))
 
 abbrev pub is_name_binding_clause : Token → Bool
-is_name_binding_clause = is_one_of (codes "SUBORDINATE" ∷ codes "NAMED" ∷ codes "WITH" ∷ codes "BEHAVIOUR" ∷ codes "CREATE" ∷ codes "DELETE" ∷ [])
+is_name_binding_clause =
+    is_one_of (codes "SUBORDINATE" ∷ codes "NAMED" ∷ codes "WITH" ∷ codes "BEHAVIOUR" ∷ codes "CREATE" ∷ codes
+    "DELETE" ∷ [])

@@ -5,8 +5,10 @@ use Rattle.token_grammar.specs.declared.token.Token.{Token}
 use Rattle.token_grammar.specs.Form.{Form, Marks, Keep, Then, Or, Maybe, Listed, AnyOrder, Named, Empty}
 use Rattle.token_grammar.specs.TokenTests.{is_word_of, is_one_of, is_label, is_word, is_string}
 use Rattle.token_grammar.specs.Parts.{words, either, qualified_name}
-use Rattle.gdmo_members.specs.Clauses.{attributes, parameters, groups, actions, notifications, packages, classes, name_bindings, comma, clause, reference, references, reference_row}
-use Rattle.gdmo_members.specs.Templates.{property_value, property_slots, valued, attribute_use, member_use, conditional_package, class_with_subclasses, create_modifiers, delete_modifier}
+use Rattle.gdmo_members.specs.Clauses.{attributes, parameters, groups, actions, notifications, packages, classes}
+use Rattle.gdmo_members.specs.Clauses.{name_bindings, comma, clause, reference, references, reference_row}
+use Rattle.gdmo_members.specs.Templates.{property_value, property_slots, valued, attribute_use, member_use}
+use Rattle.gdmo_members.specs.Templates.{conditional_package, class_with_subclasses, create_modifiers, delete_modifier}
 
 -- a word in capitals
 abbrev pub is_keyword : Token → Bool
@@ -92,7 +94,8 @@ abbrev pub subordinate_clause : Form
 subordinate_clause = clause (codes "SUBORDINATE" ∷ codes "OBJECT" ∷ codes "CLASS" ∷ []) class_with_subclasses
 
 abbrev pub superior_clause : Form
-superior_clause = clause (codes "NAMED" ∷ codes "BY" ∷ codes "SUPERIOR" ∷ codes "OBJECT" ∷ codes "CLASS" ∷ []) class_with_subclasses
+superior_clause = clause (codes "NAMED" ∷ codes "BY" ∷ codes "SUPERIOR" ∷ codes "OBJECT" ∷ codes "CLASS" ∷ [])
+    class_with_subclasses
 
 abbrev pub naming_clause : Form
 naming_clause = clause (codes "WITH" ∷ codes "ATTRIBUTE" ∷ []) (reference attributes)

@@ -4,14 +4,17 @@ use Rattle.std.specs.Prelude.{Bool, false, [], ◌∷◌, Option, option_map, co
 use Rattle.std.specs.declared.alloc.Global.{Global}
 use Rattle.std.specs.declared.vec.Vec.{Vec}
 use Rattle.token_grammar.specs.declared.token.Token.{Token}
-use Rattle.token_grammar.specs.Form.{Tree, Bare, Pair, First, Second, Absent, Present, Empty, After, Slots, Slot, NoSlots}
+use Rattle.token_grammar.specs.Form.{Tree, Bare, Pair, First, Second, Absent, Present, Empty, After, Slots, Slot}
+use Rattle.token_grammar.specs.Form.{NoSlots}
 use Rattle.token_grammar.specs.TokenTests.{is_one_of}
 use Rattle.token_grammar.specs.Parts.{optional_tree, label_reference_tree, vector_tree}
 use Rattle.gdmo_members.specs.Trees.{clause_tree, registered_ending_tree}
 use Rattle.gdmo_members.specs.MemberTrees.{template_tree}
 use Rattle.gdmo_classes.specs.declared.package.PackageReference.{PackageReference}
 use Rattle.gdmo_classes.specs.declared.class.ConditionalPackage.{ConditionalPackage}
-use Rattle.gdmo_classes.specs.declared.class.ObjectClassTemplate.{ObjectClassTemplate, Row_of-ClassReference, end_of-ClassReference, more_of-ClassReference, Held-ObjectClassTemplate-superclasses, None', Some'}
+use Rattle.gdmo_classes.specs.declared.class.ObjectClassTemplate.{ObjectClassTemplate, Row_of-ClassReference}
+use Rattle.gdmo_classes.specs.declared.class.ObjectClassTemplate.{end_of-ClassReference, more_of-ClassReference}
+use Rattle.gdmo_classes.specs.declared.class.ObjectClassTemplate.{Held-ObjectClassTemplate-superclasses, None', Some'}
 use Rattle.gdmo_classes.specs.declared.class.ClassReference.{ClassReference}
 use Rattle.gdmo_classes.specs.declared.class.ClassReference.TheVariants.{Label, Template'}
 use Rattle.gdmo_classes.specs.declared.class.ClassClauses.{ClassClauses}
@@ -26,12 +29,15 @@ abbrev pub conditionals_tree : Option (Vec ConditionalPackage Global) → Tree
 conditionals_tree x = optional_tree (clause_tree (vector_tree conditional_tree)) x
 
 abbrev pub class_parts : Tree → Option (Vec PackageReference Global) → Option (Vec ConditionalPackage Global) → Tree
-class_parts superclasses packages conditional = Pair superclasses (Pair (packages_tree packages) (Pair (conditionals_tree conditional) Bare))
+class_parts superclasses packages conditional =
+    Pair superclasses (Pair (packages_tree packages) (Pair (conditionals_tree conditional) Bare))
 
 abbrev mutual
   pub class_reference_tree : ClassReference → Tree
   class_reference_tree (Label label) = First (label_reference_tree label)
-  class_reference_tree (Template' place document label superclasses packages conditional registration) = Second (template_tree document label (class_parts (held_tree superclasses) packages conditional) (registered_ending_tree registration))
+  class_reference_tree (Template' place document label superclasses packages conditional registration) =
+      Second (template_tree document label (class_parts (held_tree superclasses) packages conditional)
+      (registered_ending_tree registration))
 
   pub row_tree : {n : _} → Tree → Row_of-ClassReference n → Tree
   row_tree before end_of-ClassReference = before
@@ -46,14 +52,16 @@ abbrev pub superclasses_tree : Option (Vec ClassReference Global) → Tree
 superclasses_tree x = optional_tree (clause_tree (vector_tree class_reference_tree)) x
 
 abbrev pub class_tree : ObjectClassTemplate → Tree
-class_tree x = template_tree x.document x.label (class_parts (superclasses_tree x.superclasses) x.packages x.conditional) (registered_ending_tree x.registration)
+class_tree x = template_tree x.document x.label
+    (class_parts (superclasses_tree x.superclasses) x.packages x.conditional) (registered_ending_tree x.registration)
 
 abbrev pub class_clauses_tree : ClassClauses → Tree
 class_clauses_tree x = class_parts (superclasses_tree x.superclasses) x.packages x.conditional
 
 -- the clauses of a class template, with what came so far, and the words with which they begin
 abbrev pub class_slots : ClassClauses → Slots
-class_slots x = Slot false superclasses_clause (option_map (clause_tree (vector_tree class_reference_tree)) x.superclasses)
+class_slots x = Slot false superclasses_clause
+    (option_map (clause_tree (vector_tree class_reference_tree)) x.superclasses)
     (Slot false packages_clause (option_map (clause_tree (vector_tree package_reference_tree)) x.packages)
     (Slot false conditional_clause (option_map (clause_tree (vector_tree conditional_tree)) x.conditional) NoSlots))
 

@@ -20,17 +20,27 @@ package_slots x = Slot false behaviour_clause (option_map (clause_tree behaviour
     (Slot false attributes_clause (option_map (clause_tree (vector_tree attribute_use_tree)) x.attributes)
     (Slot false groups_clause (option_map (clause_tree (vector_tree group_use_tree)) x.groups)
     (Slot false actions_clause (option_map (clause_tree (vector_tree action_use_tree)) x.actions)
-    (Slot false notifications_clause (option_map (clause_tree (vector_tree notification_use_tree)) x.notifications) NoSlots))))
+    (Slot false notifications_clause
+    (option_map (clause_tree (vector_tree notification_use_tree)) x.notifications) NoSlots))))
 
 abbrev pub package_clauses_tree : PackageClauses → Tree
 package_clauses_tree x = slots_tree (package_slots x)
 
 abbrev pub package_tree : PackageTemplate → Tree
-package_tree x = template_tree x.document x.label (package_clauses_tree (record { behaviour = x.behaviour; attributes = x.attributes; groups = x.groups; actions = x.actions; notifications = x.notifications })) (ending_tree x.registration)
+package_tree x = template_tree x.document x.label
+    (package_clauses_tree (record {
+      behaviour = x.behaviour;
+      attributes = x.attributes;
+      groups = x.groups;
+      actions =
+          x.actions;
+      notifications = x.notifications;
+    })) (ending_tree x.registration)
 
 -- the words with which a package's clauses begin
 abbrev pub is_package_clause : Token → Bool
-is_package_clause = is_one_of (codes "BEHAVIOUR" ∷ codes "ATTRIBUTES" ∷ codes "ATTRIBUTE" ∷ codes "ACTIONS" ∷ codes "NOTIFICATIONS" ∷ [])
+is_package_clause = is_one_of
+    (codes "BEHAVIOUR" ∷ codes "ATTRIBUTES" ∷ codes "ATTRIBUTE" ∷ codes "ACTIONS" ∷ codes "NOTIFICATIONS" ∷ [])
 
 abbrev pub package_reference_tree : PackageReference → Tree
 package_reference_tree (Label label) = First (label_reference_tree label)

@@ -14,7 +14,8 @@ use Rattle.gdmo_classes.specs.declared.references.GroupReference.TheVariants.{La
 use Rattle.gdmo_classes.specs.declared.references.ActionReference.{ActionReference}
 use Rattle.gdmo_classes.specs.declared.references.ActionReference.TheVariants.{Label as ALabel, Template as ATemplate}
 use Rattle.gdmo_classes.specs.declared.references.NotificationReference.{NotificationReference}
-use Rattle.gdmo_classes.specs.declared.references.NotificationReference.TheVariants.{Label as NLabel, Template as NTemplate}
+use Rattle.gdmo_classes.specs.declared.references.NotificationReference.TheVariants.{Label as NLabel}
+use Rattle.gdmo_classes.specs.declared.references.NotificationReference.TheVariants.{Template as NTemplate}
 use Rattle.gdmo_classes.specs.declared.member_use.GroupUse.{GroupUse}
 use Rattle.gdmo_classes.specs.declared.member_use.ActionUse.{ActionUse}
 use Rattle.gdmo_classes.specs.declared.member_use.NotificationUse.{NotificationUse}
@@ -22,7 +23,8 @@ use Rattle.gdmo_classes.specs.declared.properties.PropertyValue.{PropertyValue}
 use Rattle.gdmo_classes.specs.declared.properties.PropertyValue.TheVariants.{Value, Rule}
 use Rattle.gdmo_classes.specs.declared.properties.Properties.{Properties}
 use Rattle.gdmo_classes.specs.declared.attribute_use.AttributeUse.{AttributeUse}
-use Rattle.gdmo_classes.specs.ClassForms.{reset_property, default_property, initial_property, permitted_property, required_property, access_property, members_property}
+use Rattle.gdmo_classes.specs.ClassForms.{reset_property, default_property, initial_property, permitted_property}
+use Rattle.gdmo_classes.specs.ClassForms.{required_property, access_property, members_property}
 
 abbrev pub group_reference_tree : GroupReference → Tree
 group_reference_tree (GLabel label) = First (label_reference_tree label)
@@ -44,7 +46,8 @@ abbrev pub action_use_tree : ActionUse → Tree
 action_use_tree x = Pair (action_reference_tree x.action) (vector_tree parameter_reference_tree x.parameters)
 
 abbrev pub notification_use_tree : NotificationUse → Tree
-notification_use_tree x = Pair (notification_reference_tree x.notification) (vector_tree parameter_reference_tree x.parameters)
+notification_use_tree x =
+    Pair (notification_reference_tree x.notification) (vector_tree parameter_reference_tree x.parameters)
 
 -- a value, and the property that has it
 abbrev pub property_value_tree : PropertyValue → Tree
@@ -74,4 +77,5 @@ abbrev pub use_parts_tree : Properties × Vec ParameterReference Global → Tree
 use_parts_tree x = Pair (properties_tree x.0) (vector_tree parameter_reference_tree x.1)
 
 abbrev pub attribute_use_tree : AttributeUse → Tree
-attribute_use_tree x = Pair (attribute_reference_tree x.attribute) (Pair (properties_tree x.properties) (vector_tree parameter_reference_tree x.parameters))
+attribute_use_tree x = Pair (attribute_reference_tree x.attribute)
+    (Pair (properties_tree x.properties) (vector_tree parameter_reference_tree x.parameters))

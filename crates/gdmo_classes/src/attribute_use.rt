@@ -71,7 +71,8 @@ fn read_attribute_uses(
     tokens: &[Token],
     at: usize,
 ) -> Result<(Vec<AttributeUse>, usize), SyntaxRefusal>
-    ensures { Reads tokens.now templates is_part_end (Listed comma Empty attribute_use) at (vector_tree attribute_use_tree) result }
+    ensures { Reads tokens.now templates is_part_end (Listed comma Empty attribute_use) at
+        (vector_tree attribute_use_tree) result }
 {
     let mut list = Vec::new(alloc);
     let mut next = at;
@@ -90,7 +91,8 @@ pub fn read_attributes_clause(
     tokens: &[Token],
     at: usize,
 ) -> Result<(Vec<AttributeUse>, usize), SyntaxRefusal>
-    ensures { Reads tokens.now templates closed attributes_clause at (clause_tree (vector_tree attribute_use_tree)) result }
+    ensures { Reads tokens.now templates closed attributes_clause at
+        (clause_tree (vector_tree attribute_use_tree)) result }
 {
     let next = skip_words(tokens, at, &["ATTRIBUTES"])?;
     end_clause(tokens, read_attribute_uses(alloc, tokens, next))

@@ -13,7 +13,8 @@ ghost use Rattle.gdmo_members.specs.Trees.{clause_tree, registered_ending_tree};
 ghost use Rattle.gdmo_members.specs.MemberTrees.{template_tree};
 ghost use Rattle.gdmo_classes.specs.ClassForms.{superclasses_clause, packages_clause, condition, conditional_clause};
 ghost use Rattle.gdmo_classes.specs.PackageTrees.{package_reference_tree, condition_tree, conditional_tree};
-ghost use Rattle.gdmo_classes.specs.ClassTrees.{class_tree, class_slots, class_clauses_tree, is_class_clause, class_reference_tree};
+ghost use Rattle.gdmo_classes.specs.ClassTrees.{class_tree, class_slots, class_clauses_tree, is_class_clause};
+ghost use Rattle.gdmo_classes.specs.ClassTrees.{class_reference_tree};
 
 use super::package::{PackageReference, read_package_list, read_package_reference};
 use gdmo_members::registration::read_registered_ending;
@@ -105,7 +106,8 @@ fn read_conditional_list(
     tokens: &[Token],
     at: usize,
 ) -> Result<(Vec<ConditionalPackage>, usize), SyntaxRefusal>
-    ensures { Reads tokens.now templates comma (Listed comma Empty conditional_package) at (vector_tree conditional_tree) result }
+    ensures { Reads tokens.now templates comma (Listed comma Empty conditional_package) at
+        (vector_tree conditional_tree) result }
 {
     let mut list = Vec::new(alloc);
     let mut next = at;
@@ -126,7 +128,8 @@ fn read_conditional_clause(
     tokens: &[Token],
     at: usize,
 ) -> Result<(Vec<ConditionalPackage>, usize), SyntaxRefusal>
-    ensures { Reads tokens.now templates closed conditional_clause at (clause_tree (vector_tree conditional_tree)) result }
+    ensures { Reads tokens.now templates closed conditional_clause at
+        (clause_tree (vector_tree conditional_tree)) result }
 {
     let next = skip_words(tokens, at, &["CONDITIONAL", "PACKAGES"])?;
     end_clause(tokens, read_conditional_list(alloc, tokens, next))
@@ -140,7 +143,8 @@ fn read_packages_clause(
     tokens: &[Token],
     at: usize,
 ) -> Result<(Vec<PackageReference>, usize), SyntaxRefusal>
-    ensures { Reads tokens.now templates closed packages_clause at (clause_tree (vector_tree package_reference_tree)) result }
+    ensures { Reads tokens.now templates closed packages_clause at
+        (clause_tree (vector_tree package_reference_tree)) result }
 {
     let next = skip_words(tokens, at, &["CHARACTERIZED", "BY"])?;
     end_clause(tokens, read_package_list(alloc, tokens, next))
@@ -187,8 +191,11 @@ fn end_class(
     label: Token,
     clauses: ClassClauses,
 ) -> Result<(Box<ObjectClassTemplate>, usize), SyntaxRefusal>
-    ensures reads { Reads tokens.now templates closed registered_ending at (λ template. registered_ending_tree template.value.registration) result }
-    ensures made { IfOk result (λ answer. class_tree answer.0.value ≡ template_tree 0 label (class_clauses_tree clauses) (registered_ending_tree answer.0.value.registration)) }
+    ensures reads { Reads tokens.now templates closed registered_ending at
+        (λ template. registered_ending_tree template.value.registration) result }
+    ensures made { IfOk result
+        (λ answer. class_tree answer.0.value ≡ template_tree 0 label (class_clauses_tree clauses)
+        (registered_ending_tree answer.0.value.registration)) }
 {
     let (registration, next) = read_registered_ending(alloc, tokens, at)?;
     let template = Box::new(
@@ -212,7 +219,8 @@ pub fn read_class_reference(
     tokens: &[Token],
     at: usize,
 ) -> Result<(ClassReference, usize), SyntaxRefusal>
-    ensures { Reads tokens.now templates (is_word_of (codes "MANAGED")) (reference classes) at class_reference_tree result }
+    ensures { Reads tokens.now templates (is_word_of (codes "MANAGED")) (reference classes) at
+        class_reference_tree result }
 {
     if is_template_at(tokens, at, "MANAGED") {
         let (template, next) = read_class_in_line(alloc, tokens, at)?;
@@ -229,7 +237,8 @@ fn read_class_list(
     tokens: &[Token],
     at: usize,
 ) -> Result<(Vec<ClassReference>, usize), SyntaxRefusal>
-    ensures { Reads tokens.now templates (either comma (is_word_of (codes "MANAGED"))) (references classes) at (vector_tree class_reference_tree) result }
+    ensures { Reads tokens.now templates (either comma (is_word_of (codes "MANAGED"))) (references classes) at
+        (vector_tree class_reference_tree) result }
 {
     let mut list = Vec::new(alloc);
     let mut next = at;
@@ -250,7 +259,8 @@ fn read_superclasses_clause(
     tokens: &[Token],
     at: usize,
 ) -> Result<(Vec<ClassReference>, usize), SyntaxRefusal>
-    ensures { Reads tokens.now templates closed superclasses_clause at (clause_tree (vector_tree class_reference_tree)) result }
+    ensures { Reads tokens.now templates closed superclasses_clause at
+        (clause_tree (vector_tree class_reference_tree)) result }
 {
     let next = skip_words(tokens, at, &["DERIVED", "FROM"])?;
     let (list, next) = read_class_list(alloc, tokens, next)?;
@@ -287,7 +297,8 @@ fn read_class_clause(
     at: usize,
     clauses: &mut ClassClauses,
 ) -> Result<Option<usize>, SyntaxRefusal>
-    ensures { TakesClause tokens.now templates is_class_clause (class_slots clauses.old) (class_slots clauses.new) at result }
+    ensures { TakesClause tokens.now templates is_class_clause (class_slots clauses.old)
+        (class_slots clauses.new) at result }
 {
     let has_superclasses = clauses.superclasses.is_none() & is_word_at(tokens, at, "DERIVED");
     if has_superclasses {

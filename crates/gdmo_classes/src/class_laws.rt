@@ -1,12 +1,15 @@
 //! What holds of each template that holds others and its tree (X.722, sections 8.3, 8.4 and 8.6).
 
 ghost use Rattle.token_grammar.specs.PartLaws.{OneTreeBy, OneValue, OneValueBy};
-ghost use Rattle.gdmo_classes.specs.UseTrees.{group_reference_tree, action_reference_tree, notification_reference_tree, properties_tree};
+ghost use Rattle.gdmo_classes.specs.UseTrees.{group_reference_tree, action_reference_tree, notification_reference_tree};
+ghost use Rattle.gdmo_classes.specs.UseTrees.{properties_tree};
 ghost use Rattle.gdmo_classes.specs.PackageTrees.{package_tree, package_reference_tree};
 ghost use Rattle.gdmo_classes.specs.ClassTrees.{class_tree, class_reference_tree};
 ghost use Rattle.gdmo_classes.specs.BindingTrees.{name_binding_tree};
 ghost use Rattle.gdmo_classes.specs.TemplateTree.{class_template_tree};
-ghost use Rattle.gdmo_classes.specs.Agreement.{ActionReferencesAgree, ClassesAgree, ClassReferencesAgree, GroupReferencesAgree, NameBindingsAgree, NotificationReferencesAgree, PackagesAgree, PackageReferencesAgree, TemplatesAgree};
+ghost use Rattle.gdmo_classes.specs.Agreement.{ActionReferencesAgree, ClassesAgree, ClassReferencesAgree};
+ghost use Rattle.gdmo_classes.specs.Agreement.{GroupReferencesAgree, NameBindingsAgree, NotificationReferencesAgree};
+ghost use Rattle.gdmo_classes.specs.Agreement.{PackagesAgree, PackageReferencesAgree, TemplatesAgree};
 
 /// No two templates have one tree: those of one tree agree in all but the memory of their lists and of their
 /// templates in line. Does nothing.

@@ -8,8 +8,10 @@ ghost use Rattle.token_grammar.specs.Parts.{optional_tree};
 ghost use Rattle.gdmo_members.specs.Clauses.{comma};
 ghost use Rattle.gdmo_members.specs.Templates.{templates, modifier_before, create_modifiers, delete_modifier};
 ghost use Rattle.gdmo_members.specs.Trees.{clause_tree};
-ghost use Rattle.gdmo_classes.specs.ClassForms.{is_further, is_modifier_end, is_part_end, further_modifier, creation, deletion, create_clause, delete_clause};
-ghost use Rattle.gdmo_classes.specs.BindingTrees.{further_tree, modifier_row_tree, modifiers_tree, creation_tree, deletion_tree};
+ghost use Rattle.gdmo_classes.specs.ClassForms.{is_further, is_modifier_end, is_part_end, further_modifier, creation};
+ghost use Rattle.gdmo_classes.specs.ClassForms.{deletion, create_clause, delete_clause};
+ghost use Rattle.gdmo_classes.specs.BindingTrees.{further_tree, modifier_row_tree, modifiers_tree, creation_tree};
+ghost use Rattle.gdmo_classes.specs.BindingTrees.{deletion_tree};
 
 use super::rows::read_parameter_row;
 use gdmo_members::parameter::ParameterReference;
@@ -112,7 +114,8 @@ fn read_second_modifier(
     at: usize,
     word: &str,
 ) -> Result<(Option<FurtherModifier>, usize), SyntaxRefusal>
-    ensures { Reads tokens.now templates (is_further word.now) (Maybe (further_modifier word.now)) at (optional_tree further_tree) result }
+    ensures { Reads tokens.now templates (is_further word.now) (Maybe (further_modifier word.now)) at
+        (optional_tree further_tree) result }
 {
     if !is_further_at(tokens, at, word) {
         return Ok((None, at));
@@ -129,7 +132,8 @@ fn read_modifier_row(
     one: &str,
     other: &str,
 ) -> Result<(ModifierRow, usize), SyntaxRefusal>
-    ensures { Reads tokens.now templates (is_further other.now) (modifier_before one.now other.now) at modifier_row_tree result }
+    ensures { Reads tokens.now templates (is_further other.now) (modifier_before one.now other.now) at
+        modifier_row_tree result }
 {
     let (first, next) = read_one_of(alloc, tokens, at, &[one])?;
     let (second, next) = read_second_modifier(alloc, tokens, next, other)?;
@@ -170,7 +174,8 @@ fn read_optional_create(
     tokens: &[Token],
     at: usize,
 ) -> Result<(Option<CreateModifiers>, usize), SyntaxRefusal>
-    ensures { Reads tokens.now templates is_modifier_end (Maybe create_modifiers) at (optional_tree modifiers_tree) result }
+    ensures { Reads tokens.now templates is_modifier_end (Maybe create_modifiers) at
+        (optional_tree modifiers_tree) result }
 {
     if !is_one_of_at(
         tokens,

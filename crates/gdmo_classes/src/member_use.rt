@@ -8,7 +8,8 @@ ghost use Rattle.gdmo_members.specs.Clauses.{attributes, parameters, groups, act
 ghost use Rattle.gdmo_members.specs.Templates.{templates, member_use};
 ghost use Rattle.token_grammar.specs.Parts.{vector_tree};
 ghost use Rattle.gdmo_members.specs.Trees.{clause_tree};
-ghost use Rattle.gdmo_classes.specs.ClassForms.{is_word_or_string, is_part_end, groups_clause, actions_clause, notifications_clause};
+ghost use Rattle.gdmo_classes.specs.ClassForms.{is_word_or_string, is_part_end, groups_clause, actions_clause};
+ghost use Rattle.gdmo_classes.specs.ClassForms.{notifications_clause};
 ghost use Rattle.gdmo_classes.specs.UseTrees.{group_use_tree, action_use_tree, notification_use_tree};
 
 use super::references::{
@@ -72,7 +73,8 @@ fn read_group_uses(
     tokens: &[Token],
     at: usize,
 ) -> Result<(Vec<GroupUse>, usize), SyntaxRefusal>
-    ensures { Reads tokens.now templates is_part_end (Listed comma Empty (member_use groups attributes)) at (vector_tree group_use_tree) result }
+    ensures { Reads tokens.now templates is_part_end (Listed comma Empty (member_use groups attributes)) at
+        (vector_tree group_use_tree) result }
 {
     let mut list = Vec::new(alloc);
     let mut next = at;
@@ -117,7 +119,8 @@ fn read_action_uses(
     tokens: &[Token],
     at: usize,
 ) -> Result<(Vec<ActionUse>, usize), SyntaxRefusal>
-    ensures { Reads tokens.now templates is_part_end (Listed comma Empty (member_use actions parameters)) at (vector_tree action_use_tree) result }
+    ensures { Reads tokens.now templates is_part_end (Listed comma Empty (member_use actions parameters)) at
+        (vector_tree action_use_tree) result }
 {
     let mut list = Vec::new(alloc);
     let mut next = at;
@@ -148,7 +151,8 @@ fn read_notification_use(
     tokens: &[Token],
     at: usize,
 ) -> Result<(NotificationUse, usize), SyntaxRefusal>
-    ensures { Reads tokens.now templates is_word_or_string (member_use notifications parameters) at notification_use_tree result }
+    ensures { Reads tokens.now templates is_word_or_string (member_use notifications parameters) at
+        notification_use_tree result }
 {
     let (notification, next) = read_notification_reference(alloc, tokens, at)?;
     let (parts, next) = beside(notification, read_parameter_row(alloc, tokens, next))?;
@@ -168,7 +172,8 @@ fn read_notification_uses(
     tokens: &[Token],
     at: usize,
 ) -> Result<(Vec<NotificationUse>, usize), SyntaxRefusal>
-    ensures { Reads tokens.now templates is_part_end (Listed comma Empty (member_use notifications parameters)) at (vector_tree notification_use_tree) result }
+    ensures { Reads tokens.now templates is_part_end (Listed comma Empty (member_use notifications parameters)) at
+        (vector_tree notification_use_tree) result }
 {
     let mut list = Vec::new(alloc);
     let mut next = at;
@@ -187,7 +192,8 @@ pub fn read_notifications_clause(
     tokens: &[Token],
     at: usize,
 ) -> Result<(Vec<NotificationUse>, usize), SyntaxRefusal>
-    ensures { Reads tokens.now templates closed notifications_clause at (clause_tree (vector_tree notification_use_tree)) result }
+    ensures { Reads tokens.now templates closed notifications_clause at
+        (clause_tree (vector_tree notification_use_tree)) result }
 {
     let next = skip_words(tokens, at, &["NOTIFICATIONS"])?;
     end_clause(tokens, read_notification_uses(alloc, tokens, next))

@@ -9,8 +9,11 @@ ghost use Rattle.gdmo_members.specs.Clauses.{name_bindings};
 ghost use Rattle.gdmo_members.specs.Templates.{templates, class_with_subclasses, name_binding_clauses};
 ghost use Rattle.gdmo_members.specs.Trees.{clause_tree};
 ghost use Rattle.gdmo_members.specs.MemberTrees.{attribute_reference_tree};
-ghost use Rattle.gdmo_classes.specs.ClassForms.{is_part_end, subclasses, subordinate_clause, superior_clause, naming_clause};
-ghost use Rattle.gdmo_classes.specs.BindingTrees.{subclasses_tree, class_scope_tree, name_binding_tree, name_binding_slots, name_binding_clauses_tree, is_name_binding_clause};
+ghost use Rattle.gdmo_classes.specs.ClassForms.{is_part_end, subclasses, subordinate_clause, superior_clause};
+ghost use Rattle.gdmo_classes.specs.ClassForms.{naming_clause};
+ghost use Rattle.gdmo_classes.specs.BindingTrees.{subclasses_tree, class_scope_tree, name_binding_tree};
+ghost use Rattle.gdmo_classes.specs.BindingTrees.{name_binding_slots, name_binding_clauses_tree};
+ghost use Rattle.gdmo_classes.specs.BindingTrees.{is_name_binding_clause};
 
 use super::class::{ClassReference, read_class_reference};
 use super::creation::{Creation, Deletion, read_create_clause, read_delete_clause};
@@ -183,7 +186,8 @@ fn read_name_binding_clauses(
     tokens: &[Token],
     at: usize,
 ) -> Result<(NameBindingClauses, usize), SyntaxRefusal>
-    ensures { Reads tokens.now templates is_name_binding_clause (AnyOrder name_binding_clauses) at name_binding_clauses_tree result }
+    ensures { Reads tokens.now templates is_name_binding_clause (AnyOrder name_binding_clauses) at
+        name_binding_clauses_tree result }
 {
     let mut draft = NameBindingDraft {
         subordinate: None,
@@ -206,7 +210,8 @@ fn read_name_binding_clauses(
 /// The clauses, where the needed ones came.
 fn complete_clauses(draft: NameBindingDraft) -> Option<NameBindingClauses>
     ensures missing { result ≡ None → is_complete (name_binding_slots draft) ≡ false }
-    ensures made { IfSome result (λ clauses. (is_complete (name_binding_slots draft) ≡ true) × (name_binding_clauses_tree clauses ≡ slots_tree (name_binding_slots draft))) }
+    ensures made { IfSome result (λ clauses. (is_complete (name_binding_slots draft) ≡ true)
+        × (name_binding_clauses_tree clauses ≡ slots_tree (name_binding_slots draft))) }
 {
     match draft.subordinate.zip(draft.superior).zip(draft.attribute) {
         Some(((subordinate, superior), attribute)) => Some(NameBindingClauses {
@@ -228,7 +233,8 @@ fn read_name_binding_clause(
     at: usize,
     draft: &mut NameBindingDraft,
 ) -> Result<Option<usize>, SyntaxRefusal>
-    ensures { TakesClause tokens.now templates is_name_binding_clause (name_binding_slots draft.old) (name_binding_slots draft.new) at result }
+    ensures { TakesClause tokens.now templates is_name_binding_clause (name_binding_slots draft.old)
+        (name_binding_slots draft.new) at result }
 {
     let has_subordinate = draft.subordinate.is_none() & is_word_at(tokens, at, "SUBORDINATE");
     if has_subordinate {

@@ -8,7 +8,8 @@ ghost use Rattle.token_grammar.specs.Turns.{TakesClause};
 ghost use Rattle.token_grammar.specs.TokenTests.{is_word_of};
 ghost use Rattle.gdmo_members.specs.Clauses.{packages, comma, reference, references};
 ghost use Rattle.gdmo_members.specs.Templates.{templates, package_clauses};
-ghost use Rattle.gdmo_classes.specs.PackageTrees.{package_tree, package_slots, package_clauses_tree, is_package_clause, package_reference_tree};
+ghost use Rattle.gdmo_classes.specs.PackageTrees.{package_tree, package_slots, package_clauses_tree, is_package_clause};
+ghost use Rattle.gdmo_classes.specs.PackageTrees.{package_reference_tree};
 
 use super::attribute_use::{AttributeUse, read_attributes_clause};
 use super::member_use::{
@@ -126,7 +127,8 @@ fn read_package_clause(
     at: usize,
     clauses: &mut PackageClauses,
 ) -> Result<Option<usize>, SyntaxRefusal>
-    ensures { TakesClause tokens.now templates is_package_clause (package_slots clauses.old) (package_slots clauses.new) at result }
+    ensures { TakesClause tokens.now templates is_package_clause (package_slots clauses.old)
+        (package_slots clauses.new) at result }
 {
     let has_behaviour = clauses.behaviour.is_none() & is_word_at(tokens, at, "BEHAVIOUR");
     if has_behaviour {
@@ -167,7 +169,8 @@ pub fn read_package_reference(
     tokens: &[Token],
     at: usize,
 ) -> Result<(PackageReference, usize), SyntaxRefusal>
-    ensures { Reads tokens.now templates (is_word_of (codes "PACKAGE")) (reference packages) at package_reference_tree result }
+    ensures { Reads tokens.now templates (is_word_of (codes "PACKAGE")) (reference packages) at
+        package_reference_tree result }
 {
     if is_template_at(tokens, at, "PACKAGE") {
         let (template, next) = read_package(alloc, tokens, at)?;
@@ -183,7 +186,8 @@ pub fn read_package_list(
     tokens: &[Token],
     at: usize,
 ) -> Result<(Vec<PackageReference>, usize), SyntaxRefusal>
-    ensures { Reads tokens.now templates (either comma (is_word_of (codes "PACKAGE"))) (references packages) at (vector_tree package_reference_tree) result }
+    ensures { Reads tokens.now templates (either comma (is_word_of (codes "PACKAGE"))) (references packages) at
+        (vector_tree package_reference_tree) result }
 {
     let mut list = Vec::new(alloc);
     let mut next = at;

@@ -6,8 +6,10 @@ ghost use Rattle.token_grammar.specs.Outcome.{Reads, closed};
 ghost use Rattle.token_grammar.specs.Turns.{TakesClause};
 ghost use Rattle.token_grammar.specs.TokenTests.{is_word_of};
 ghost use Rattle.gdmo_members.specs.Templates.{templates, property_value, property_slots};
-ghost use Rattle.gdmo_classes.specs.ClassForms.{is_keyword, default_property, initial_property, permitted_property, required_property};
-ghost use Rattle.gdmo_classes.specs.UseTrees.{property_value_tree, valued_tree, named_type_tree, properties_slots, properties_tree};
+ghost use Rattle.gdmo_classes.specs.ClassForms.{is_keyword, default_property, initial_property, permitted_property};
+ghost use Rattle.gdmo_classes.specs.ClassForms.{required_property};
+ghost use Rattle.gdmo_classes.specs.UseTrees.{property_value_tree, valued_tree, named_type_tree, properties_slots};
+ghost use Rattle.gdmo_classes.specs.UseTrees.{properties_tree};
 
 use gdmo_members::behaviour::{BehaviourReference, read_behaviour_reference};
 use std::alloc::Global;
@@ -121,7 +123,8 @@ fn read_property(
     at: usize,
     properties: &mut Properties,
 ) -> Result<Option<usize>, SyntaxRefusal>
-    ensures { TakesClause tokens.now templates is_keyword (properties_slots properties.old) (properties_slots properties.new) at result }
+    ensures { TakesClause tokens.now templates is_keyword (properties_slots properties.old)
+        (properties_slots properties.new) at result }
 {
     let has_reset = properties.replace_with_default.is_none()
         & is_one_of_at(tokens, at, &["REPLACE-WITH-DEFAULT"]);

@@ -49,7 +49,8 @@ pub fn read_group_reference(
     tokens: &[Token],
     at: usize,
 ) -> Result<(GroupReference, usize), SyntaxRefusal>
-    ensures { Reads tokens.now templates (is_word_of (codes "ATTRIBUTE")) (reference groups) at group_reference_tree result }
+    ensures { Reads tokens.now templates (is_word_of (codes "ATTRIBUTE")) (reference groups) at
+        group_reference_tree result }
 {
     if is_template_at(tokens, at, "ATTRIBUTE") {
         let (template, next) = read_group(alloc, tokens, at)?;
@@ -65,7 +66,8 @@ pub fn read_action_reference(
     tokens: &[Token],
     at: usize,
 ) -> Result<(ActionReference, usize), SyntaxRefusal>
-    ensures { Reads tokens.now templates (is_word_of (codes "ACTION")) (reference actions) at action_reference_tree result }
+    ensures { Reads tokens.now templates (is_word_of (codes "ACTION")) (reference actions) at
+        action_reference_tree result }
 {
     if is_template_at(tokens, at, "ACTION") {
         let (template, next) = read_action(alloc, tokens, at)?;
@@ -81,7 +83,8 @@ pub fn read_notification_reference(
     tokens: &[Token],
     at: usize,
 ) -> Result<(NotificationReference, usize), SyntaxRefusal>
-    ensures { Reads tokens.now templates (is_word_of (codes "NOTIFICATION")) (reference notifications) at notification_reference_tree result }
+    ensures { Reads tokens.now templates (is_word_of (codes "NOTIFICATION")) (reference notifications) at
+        notification_reference_tree result }
 {
     if is_template_at(tokens, at, "NOTIFICATION") {
         let (template, next) = read_notification(alloc, tokens, at)?;

@@ -32,7 +32,8 @@ pub fn read_attribute_row(
     tokens: &[Token],
     at: usize,
 ) -> Result<(Vec<AttributeReference>, usize), SyntaxRefusal>
-    ensures { Reads tokens.now templates is_word_or_string (reference_row attributes) at (vector_tree attribute_reference_tree) result }
+    ensures { Reads tokens.now templates is_word_or_string (reference_row attributes) at
+        (vector_tree attribute_reference_tree) result }
 {
     let mut row = Vec::new(alloc);
     let mut next = at;
@@ -50,7 +51,8 @@ pub fn read_parameter_row(
     tokens: &[Token],
     at: usize,
 ) -> Result<(Vec<ParameterReference>, usize), SyntaxRefusal>
-    ensures { Reads tokens.now templates is_word_or_string (reference_row parameters) at (vector_tree parameter_reference_tree) result }
+    ensures { Reads tokens.now templates is_word_or_string (reference_row parameters) at
+        (vector_tree parameter_reference_tree) result }
 {
     let mut row = Vec::new(alloc);
     let mut next = at;

@@ -20,4 +20,6 @@ package_example : Spells small_package templates (Named packages) 0 3
     (Numbered 0 (Pair (Leaf label) (Pair Bare (Pair
     (Pair Absent (Pair Absent (Pair Absent (Pair Absent (Pair Absent Bare)))))
     (Pair Absent Bare)))))
-package_example = named (both (keep refl refl refl) (both (marks (record { passed = refl }) no_marks) (both (enough refl refl) (both absent (marks (record { passed = refl }) no_marks)))))
+package_example = named (both (keep refl refl refl)
+    (both (marks (record { passed = refl }) no_marks)
+    (both (enough refl refl) (both absent (marks (record { passed = refl }) no_marks)))))

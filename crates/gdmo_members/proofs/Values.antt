@@ -6,9 +6,12 @@ use Rattle.std.specs.declared.vec.Vec.{Vec}
 use Rattle.token_grammar.specs.declared.token.Token.{Token}
 use Rattle.token_grammar.specs.Form.{Tree, Bare, Leaf, Pair}
 use Rattle.token_grammar.specs.PartLaws.{OneValue, OneValueBy, OptionsAgree, IdentifiersAgree}
-use Rattle.token_grammar.proofs.Values.{lists_agree, one_list, pair_same, first_same, second_same, leaf_same, numbered_same, first_not_second, second_not_first, options_agree, one_option, one_token, one_label_reference, one_object_identifier}
+use Rattle.token_grammar.proofs.Values.{lists_agree, one_list, pair_same, first_same, second_same, leaf_same}
+use Rattle.token_grammar.proofs.Values.{numbered_same, first_not_second, second_not_first, options_agree, one_option}
+use Rattle.token_grammar.proofs.Values.{one_token, one_label_reference, one_object_identifier}
 use Rattle.gdmo_members.specs.declared.behaviour.BehaviourReference.TheVariants.{Label, Template}
-use Rattle.gdmo_members.specs.Trees.{clause_tree, behaviour_tree, behaviour_reference_tree, registration_tree, ending_tree, registered_ending_tree, context_word_tree, context_tree}
+use Rattle.gdmo_members.specs.Trees.{clause_tree, behaviour_tree, behaviour_reference_tree, registration_tree}
+use Rattle.gdmo_members.specs.Trees.{ending_tree, registered_ending_tree, context_word_tree, context_tree}
 use Rattle.gdmo_members.specs.MemberTrees.{rules_tree, behaviours_tree, template_tree}
 use Rattle.gdmo_members.specs.Agreement.{VectorsEqual, VectorsAgree, ContextsAgree}
 
@@ -16,15 +19,21 @@ use Rattle.gdmo_members.specs.Agreement.{VectorsEqual, VectorsAgree, ContextsAgr
 pub one_vector : {X : Type 0} (view : X → Tree) → OneValue view → OneValueBy VectorsEqual (vector_tree view)
 one_vector view once x y e = one_list view once x.items y.items e
 
-pub vectors_agree : {X : Type 0} (agree : X → X → Type 0) (view : X → Tree) → OneValueBy agree view → OneValueBy (VectorsAgree agree) (vector_tree view)
+pub vectors_agree : {X : Type 0} (agree : X → X → Type 0) (view : X → Tree) → OneValueBy agree view
+    → OneValueBy (VectorsAgree agree) (vector_tree view)
 vectors_agree agree view once x y e = lists_agree agree view once x.items y.items e
 
-pub clauses_agree : {X : Type 0} (agree : X → X → Type 0) (view : X → Tree) → OneValueBy agree view → OneValueBy agree (clause_tree view)
+pub clauses_agree : {X : Type 0} (agree : X → X → Type 0) (view : X → Tree) → OneValueBy agree view
+    → OneValueBy agree (clause_tree view)
 clauses_agree agree view once x y e = once x y (pair_same (pair_same e).1).0
 
 -- an optional clause with a vector
-pub lists_clause : {X : Type 0} (view : X → Tree) → OneValue view → OneValueBy (OptionsAgree VectorsEqual) (λ (x : Option (Vec X Global)). optional_tree (clause_tree (vector_tree view)) x)
-lists_clause view once = options_agree VectorsEqual (clause_tree (vector_tree view)) (clauses_agree VectorsEqual (vector_tree view) (one_vector view once))
+pub lists_clause : {X : Type 0} (view : X → Tree) → OneValue view
+    → OneValueBy (OptionsAgree VectorsEqual)
+    (λ (x : Option (Vec X Global)). optional_tree (clause_tree (vector_tree view)) x)
+lists_clause view once =
+    options_agree VectorsEqual (clause_tree (vector_tree view))
+    (clauses_agree VectorsEqual (vector_tree view) (one_vector view once))
 
 pub one_behaviour : OneValue behaviour_tree
 one_behaviour x y e =
@@ -63,10 +72,16 @@ one_context_word x y e =
     λ i. record { point = point i; word = word i }
 
 pub contexts_agree : OneValueBy ContextsAgree context_tree
-contexts_agree x y e = let parts = pair_same e in (leaf_same parts.0, one_list context_word_tree one_context_word x.others.items y.others.items parts.1)
+contexts_agree x y e = let parts =
+    pair_same e in (
+      leaf_same parts.0,
+      one_list context_word_tree one_context_word x.others.items y.others.items parts.1,
+    )
 
 -- the parts of a template
-pub template_same : {document document' : ℕ} {label label' : Token} {a a' b b' : Tree} → template_tree document label a b ≡ template_tree document' label' a' b' → (document ≡ document') × (label ≡ label') × (a ≡ a') × (b ≡ b')
+pub template_same : {document document' : ℕ} {label label' : Token} {a a' b b' : Tree}
+    → template_tree document label a b ≡ template_tree document' label' a' b' → (document ≡ document')
+    × (label ≡ label') × (a ≡ a') × (b ≡ b')
 template_same e =
     let parts = numbered_same e in
     let labels = pair_same parts.1 in
@@ -74,19 +89,24 @@ template_same e =
     (parts.0, leaf_same labels.0, others.0, others.1)
 
 -- clauses, as many as there are
-pub three_same : {a a' b b' c c' : Tree} → Pair a (Pair b (Pair c Bare)) ≡ Pair a' (Pair b' (Pair c' Bare)) → (a ≡ a') × (b ≡ b') × (c ≡ c')
+pub three_same : {a a' b b' c c' : Tree} → Pair a (Pair b (Pair c Bare)) ≡ Pair a' (Pair b' (Pair c' Bare)) → (a ≡ a')
+    × (b ≡ b') × (c ≡ c')
 three_same e =
     let one = pair_same e in
     let two = pair_same one.1 in
     (one.0, two.0, (pair_same two.1).0)
 
-pub four_same : {a a' b b' c c' d d' : Tree} → Pair a (Pair b (Pair c (Pair d Bare))) ≡ Pair a' (Pair b' (Pair c' (Pair d' Bare))) → (a ≡ a') × (b ≡ b') × (c ≡ c') × (d ≡ d')
+pub four_same : {a a' b b' c c' d d' : Tree}
+    → Pair a (Pair b (Pair c (Pair d Bare))) ≡ Pair a' (Pair b' (Pair c' (Pair d' Bare))) → (a ≡ a') × (b ≡ b')
+    × (c ≡ c') × (d ≡ d')
 four_same e =
     let one = pair_same e in
     let three = three_same one.1 in
     (one.0, three.0, three.1, three.2)
 
-pub five_same : {a a' b b' c c' d d' f f' : Tree} → Pair a (Pair b (Pair c (Pair d (Pair f Bare)))) ≡ Pair a' (Pair b' (Pair c' (Pair d' (Pair f' Bare)))) → (a ≡ a') × (b ≡ b') × (c ≡ c') × (d ≡ d') × (f ≡ f')
+pub five_same : {a a' b b' c c' d d' f f' : Tree}
+    → Pair a (Pair b (Pair c (Pair d (Pair f Bare)))) ≡ Pair a' (Pair b' (Pair c' (Pair d' (Pair f' Bare)))) → (a ≡ a')
+    × (b ≡ b') × (c ≡ c') × (d ≡ d') × (f ≡ f')
 five_same e =
     let one = pair_same e in
     let four = four_same one.1 in

@@ -6,23 +6,30 @@ use Rattle.std.specs.declared.vec.Vec.{Vec}
 use Rattle.token_grammar.specs.PartLaws.{IdentifiersAgree, ListsAgree, OptionsAgree}
 use Rattle.gdmo_members.specs.declared.behaviour.BehaviourTemplate.{BehaviourTemplate}
 use Rattle.gdmo_members.specs.declared.context.Context.{Context}
-use Rattle.gdmo_members.specs.declared.attribute.AttributeTemplate.{AttributeTemplate, Row_of-ParameterReference, end_of-ParameterReference, more_of-ParameterReference, Held-AttributeTemplate-parameters, None', Some'}
+use Rattle.gdmo_members.specs.declared.attribute.AttributeTemplate.{AttributeTemplate, Row_of-ParameterReference}
+use Rattle.gdmo_members.specs.declared.attribute.AttributeTemplate.{end_of-ParameterReference}
+use Rattle.gdmo_members.specs.declared.attribute.AttributeTemplate.{more_of-ParameterReference}
+use Rattle.gdmo_members.specs.declared.attribute.AttributeTemplate.{Held-AttributeTemplate-parameters, None', Some'}
 use Rattle.gdmo_members.specs.declared.attribute.AttributeSyntax.{AttributeSyntax}
 use Rattle.gdmo_members.specs.declared.attribute.AttributeSyntax.TheVariants.{TypeReference as AType, Derived}
 use Rattle.gdmo_members.specs.declared.attribute.AttributeReference.{AttributeReference}
-use Rattle.gdmo_members.specs.declared.attribute.AttributeReference.TheVariants.{Label as ALabel, Template' as ATemplate}
+use Rattle.gdmo_members.specs.declared.attribute.AttributeReference.TheVariants.{Label as ALabel}
+use Rattle.gdmo_members.specs.declared.attribute.AttributeReference.TheVariants.{Template' as ATemplate}
 use Rattle.gdmo_members.specs.declared.parameter.ParameterTemplate.{ParameterTemplate}
 use Rattle.gdmo_members.specs.declared.parameter.ParameterSyntax.{ParameterSyntax}
-use Rattle.gdmo_members.specs.declared.parameter.ParameterSyntax.TheVariants.{TypeReference as PType, Attribute as OfAttribute}
+use Rattle.gdmo_members.specs.declared.parameter.ParameterSyntax.TheVariants.{TypeReference as PType}
+use Rattle.gdmo_members.specs.declared.parameter.ParameterSyntax.TheVariants.{Attribute as OfAttribute}
 use Rattle.gdmo_members.specs.declared.parameter.ParameterReference.{ParameterReference}
-use Rattle.gdmo_members.specs.declared.parameter.ParameterReference.TheVariants.{Label as PLabel, Template' as PTemplate}
+use Rattle.gdmo_members.specs.declared.parameter.ParameterReference.TheVariants.{Label as PLabel}
+use Rattle.gdmo_members.specs.declared.parameter.ParameterReference.TheVariants.{Template' as PTemplate}
 use Rattle.gdmo_members.specs.declared.group.GroupTemplate.{GroupTemplate}
 use Rattle.gdmo_members.specs.declared.action.ActionTemplate.{ActionTemplate}
 use Rattle.gdmo_members.specs.declared.notification.Field.{Field}
 use Rattle.gdmo_members.specs.declared.notification.Information.{Information}
 use Rattle.gdmo_members.specs.declared.notification.NotificationTemplate.{NotificationTemplate}
 use Rattle.gdmo_members.specs.declared.member.MemberTemplate.{MemberTemplate}
-use Rattle.gdmo_members.specs.declared.member.MemberTemplate.TheVariants.{Attribute, Group, Action, Notification, Parameter, Behaviour}
+use Rattle.gdmo_members.specs.declared.member.MemberTemplate.TheVariants.{Attribute, Group, Action, Notification}
+use Rattle.gdmo_members.specs.declared.member.MemberTemplate.TheVariants.{Parameter, Behaviour}
 
 -- the same parts, or parts that agree, one by one
 abbrev pub VectorsEqual : {X : Type 0} → Vec X Global → Vec X Global → Type 0
@@ -46,7 +53,8 @@ abbrev mutual
   AttributeReferencesAgree (ALabel x) (ALabel y) = x ≡ y
   AttributeReferencesAgree (ALabel x) (ATemplate _ _ _ _ _ _ _ _) = ⊥
   AttributeReferencesAgree (ATemplate _ _ _ _ _ _ _ _) (ALabel y) = ⊥
-  AttributeReferencesAgree (ATemplate _ document label syntax rules behaviour parameters registration) (ATemplate _ document' label' syntax' rules' behaviour' parameters' registration') =
+  AttributeReferencesAgree (ATemplate _ document label syntax rules behaviour parameters registration)
+      (ATemplate _ document' label' syntax' rules' behaviour' parameters' registration') =
       (document ≡ document')
       × (label ≡ label')
       × AttributeSyntaxesAgree syntax syntax'
@@ -65,7 +73,8 @@ abbrev mutual
   ParameterReferencesAgree (PLabel x) (PLabel y) = x ≡ y
   ParameterReferencesAgree (PLabel x) (PTemplate _ _ _ _ _ _ _) = ⊥
   ParameterReferencesAgree (PTemplate _ _ _ _ _ _ _) (PLabel y) = ⊥
-  ParameterReferencesAgree (PTemplate _ document label context syntax behaviour registration) (PTemplate _ document' label' context' syntax' behaviour' registration') =
+  ParameterReferencesAgree (PTemplate _ document label context syntax behaviour registration)
+      (PTemplate _ document' label' context' syntax' behaviour' registration') =
       (document ≡ document')
       × (label ≡ label')
       × ContextsAgree context context'
@@ -77,7 +86,8 @@ abbrev mutual
   RowsAgree end_of-ParameterReference end_of-ParameterReference = Unit {0}
   RowsAgree end_of-ParameterReference (more_of-ParameterReference y ys) = ⊥
   RowsAgree (more_of-ParameterReference x xs) end_of-ParameterReference = ⊥
-  RowsAgree (more_of-ParameterReference x xs) (more_of-ParameterReference y ys) = ParameterReferencesAgree x y × RowsAgree xs ys
+  RowsAgree (more_of-ParameterReference x xs) (more_of-ParameterReference y ys) =
+      ParameterReferencesAgree x y × RowsAgree xs ys
 
   pub HeldAgree : Held-AttributeTemplate-parameters → Held-AttributeTemplate-parameters → Type 0
   HeldAgree None' None' = Unit {0}
@@ -147,4 +157,5 @@ pub data MembersAgree : MemberTemplate → MemberTemplate → Type 0 where
   two_parameters : {x y : ParameterTemplate} → ParametersAgree x y → MembersAgree (Parameter x) (Parameter y)
   two_groups : {x y : GroupTemplate} → GroupsAgree x y → MembersAgree (Group x) (Group y)
   two_actions : {x y : ActionTemplate} → ActionsAgree x y → MembersAgree (Action x) (Action y)
-  two_notifications : {x y : NotificationTemplate} → NotificationsAgree x y → MembersAgree (Notification x) (Notification y)
+  two_notifications : {x y : NotificationTemplate} → NotificationsAgree x y
+      → MembersAgree (Notification x) (Notification y)

@@ -92,7 +92,8 @@ context = Then (Keep is_word) (Many Empty context_word)
 
 -- a matching rule
 abbrev pub matching_rule : Form
-matching_rule = Keep (is_one_of (codes "EQUALITY" ∷ codes "ORDERING" ∷ codes "SUBSTRINGS" ∷ codes "SET-COMPARISON" ∷ codes "SET-INTERSECTION" ∷ []))
+matching_rule = Keep (is_one_of
+    (codes "EQUALITY" ∷ codes "ORDERING" ∷ codes "SUBSTRINGS" ∷ codes "SET-COMPARISON" ∷ codes "SET-INTERSECTION" ∷ []))
 
 -- what a further word of a context begins with
 abbrev pub is_context_start : Token → Bool

@@ -1,7 +1,8 @@
 -- MemberTree: what a template of a package's member says (X.722, section 8).
 use Rattle.token_grammar.specs.Form.{Tree, First, Second}
 use Rattle.gdmo_members.specs.declared.member.MemberTemplate.{MemberTemplate}
-use Rattle.gdmo_members.specs.declared.member.MemberTemplate.TheVariants.{Attribute, Group, Action, Notification, Parameter, Behaviour}
+use Rattle.gdmo_members.specs.declared.member.MemberTemplate.TheVariants.{Attribute, Group, Action, Notification}
+use Rattle.gdmo_members.specs.declared.member.MemberTemplate.TheVariants.{Parameter, Behaviour}
 use Rattle.gdmo_members.specs.Trees.{behaviour_tree}
 use Rattle.gdmo_members.specs.MemberTrees.{attribute_tree, parameter_tree}
 use Rattle.gdmo_members.specs.FurtherTrees.{group_tree, action_tree, notification_tree}

@@ -116,7 +116,8 @@ fn read_action_clause(
     at: usize,
     clauses: &mut ActionClauses,
 ) -> Result<Option<usize>, SyntaxRefusal>
-    ensures { TakesClause tokens.now templates is_action_clause (action_slots clauses.old) (action_slots clauses.new) at result }
+    ensures { TakesClause tokens.now templates is_action_clause (action_slots clauses.old)
+        (action_slots clauses.new) at result }
 {
     let has_behaviour = clauses.behaviour.is_none() & is_word_at(tokens, at, "BEHAVIOUR");
     if has_behaviour {
@@ -161,7 +162,8 @@ fn read_mode_clause(
     tokens: &[Token],
     at: usize,
 ) -> Result<(Token, usize), SyntaxRefusal>
-    ensures { Reads tokens.now templates closed (flag (codes "MODE" ∷ []) (codes "CONFIRMED")) at (clause_tree Leaf) result }
+    ensures { Reads tokens.now templates closed (flag (codes "MODE" ∷ []) (codes "CONFIRMED")) at
+        (clause_tree Leaf) result }
 {
     let next = skip_words(tokens, at, &["MODE"])?;
     end_clause(tokens, read_one_of(alloc, tokens, next, &["CONFIRMED"]))

@@ -10,7 +10,9 @@ ghost use Rattle.token_grammar.specs.TokenTests.{is_word_of};
 ghost use Rattle.gdmo_members.specs.Clauses.{ending, semicolon, attributes, reference};
 ghost use Rattle.gdmo_members.specs.Templates.{templates, attribute_syntax, attribute_clauses};
 ghost use Rattle.gdmo_members.specs.Trees.{ending_tree};
-ghost use Rattle.gdmo_members.specs.MemberTrees.{attribute_tree, template_tree, attribute_reference_tree, attribute_syntax_tree, attribute_slots, attribute_clauses_tree, is_attribute_clause};
+ghost use Rattle.gdmo_members.specs.MemberTrees.{attribute_tree, template_tree, attribute_reference_tree};
+ghost use Rattle.gdmo_members.specs.MemberTrees.{attribute_syntax_tree, attribute_slots, attribute_clauses_tree};
+ghost use Rattle.gdmo_members.specs.MemberTrees.{is_attribute_clause};
 
 use super::behaviour::{BehaviourReference, read_behaviour_clause};
 use super::matching_rules::read_rules_clause;
@@ -106,7 +108,8 @@ fn read_attribute_in_line(
     tokens: &[Token],
     at: usize,
 ) -> Result<(Box<AttributeTemplate>, usize), SyntaxRefusal>
-    ensures { Reads tokens.now templates closed (Named attributes) at (λ template. attribute_tree template.value) result }
+    ensures { Reads tokens.now templates closed (Named attributes) at
+        (λ template. attribute_tree template.value) result }
 {
     let (label, next) = read_label(alloc, tokens, at)?;
     let next = skip_words(tokens, next, &["ATTRIBUTE"])?;
@@ -125,8 +128,11 @@ fn end_attribute(
     label: Token,
     clauses: AttributeClauses,
 ) -> Result<(Box<AttributeTemplate>, usize), SyntaxRefusal>
-    ensures reads { Reads tokens.now templates closed ending at (λ template. ending_tree template.value.registration) result }
-    ensures made { IfOk result (λ answer. attribute_tree answer.0.value ≡ template_tree 0 label (attribute_clauses_tree clauses) (ending_tree answer.0.value.registration)) }
+    ensures reads { Reads tokens.now templates closed ending at
+        (λ template. ending_tree template.value.registration) result }
+    ensures made { IfOk result
+        (λ answer. attribute_tree answer.0.value ≡ template_tree 0 label (attribute_clauses_tree clauses)
+        (ending_tree answer.0.value.registration)) }
 {
     let (registration, next) = read_ending(alloc, tokens, at)?;
     let template = Box::new(
@@ -151,7 +157,8 @@ pub fn read_attribute_reference(
     tokens: &[Token],
     at: usize,
 ) -> Result<(AttributeReference, usize), SyntaxRefusal>
-    ensures { Reads tokens.now templates (is_word_of (codes "ATTRIBUTE")) (reference attributes) at attribute_reference_tree result }
+    ensures { Reads tokens.now templates (is_word_of (codes "ATTRIBUTE")) (reference attributes) at
+        attribute_reference_tree result }
 {
     if is_template_at(tokens, at, "ATTRIBUTE") {
         let (template, next) = read_attribute_in_line(alloc, tokens, at)?;
@@ -168,7 +175,8 @@ fn read_attribute_clauses(
     tokens: &[Token],
     at: usize,
 ) -> Result<(AttributeClauses, usize), SyntaxRefusal>
-    ensures { Reads tokens.now templates is_attribute_clause (AnyOrder attribute_clauses) at attribute_clauses_tree result }
+    ensures { Reads tokens.now templates is_attribute_clause (AnyOrder attribute_clauses) at
+        attribute_clauses_tree result }
 {
     let mut draft = AttributeDraft {
         syntax: None,
@@ -208,7 +216,8 @@ fn read_attribute_clause(
     at: usize,
     draft: &mut AttributeDraft,
 ) -> Result<Option<usize>, SyntaxRefusal>
-    ensures { TakesClause tokens.now templates is_attribute_clause (attribute_slots draft.old) (attribute_slots draft.new) at result }
+    ensures { TakesClause tokens.now templates is_attribute_clause (attribute_slots draft.old)
+        (attribute_slots draft.new) at result }
 {
     let has_syntax = draft.syntax.is_none() & is_one_of_at(tokens, at, &["WITH", "DERIVED"]);
     if has_syntax {

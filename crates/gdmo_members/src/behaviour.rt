@@ -68,7 +68,8 @@ pub fn read_behaviour_reference(
     tokens: &[Token],
     at: usize,
 ) -> Result<(BehaviourReference, usize), SyntaxRefusal>
-    ensures { Reads tokens.now templates (is_word_of (codes "BEHAVIOUR")) (reference behaviours) at behaviour_reference_tree result }
+    ensures { Reads tokens.now templates (is_word_of (codes "BEHAVIOUR")) (reference behaviours) at
+        behaviour_reference_tree result }
 {
     if is_template_at(tokens, at, "BEHAVIOUR") {
         let (template, next) = read_behaviour(alloc, tokens, at)?;
@@ -84,7 +85,8 @@ fn read_behaviour_list(
     tokens: &[Token],
     at: usize,
 ) -> Result<(Vec<BehaviourReference>, usize), SyntaxRefusal>
-    ensures { Reads tokens.now templates (either comma (is_word_of (codes "BEHAVIOUR"))) (references behaviours) at behaviour_list_tree result }
+    ensures { Reads tokens.now templates (either comma (is_word_of (codes "BEHAVIOUR"))) (references behaviours) at
+        behaviour_list_tree result }
 {
     let mut list = Vec::new(alloc);
     let mut next = at;

@@ -51,7 +51,8 @@ fn read_point(
     tokens: &[Token],
     at: usize,
 ) -> Result<(Option<Token>, usize), SyntaxRefusal>
-    ensures { Reads tokens.now templates (is_sign_of (codes ".")) (Maybe (Keep (is_sign_of (codes ".")))) at (optional_tree Leaf) result }
+    ensures { Reads tokens.now templates (is_sign_of (codes ".")) (Maybe (Keep (is_sign_of (codes ".")))) at
+        (optional_tree Leaf) result }
 {
     if !is_sign_at(tokens, at, ".") {
         return Ok((None, at));
@@ -79,7 +80,8 @@ fn read_context_words(
     tokens: &[Token],
     at: usize,
 ) -> Result<(Vec<ContextWord>, usize), SyntaxRefusal>
-    ensures { Reads tokens.now templates is_context_start (Many Empty context_word) at (λ words. list_tree context_word_tree Empty words.items) result }
+    ensures { Reads tokens.now templates is_context_start (Many Empty context_word) at
+        (λ words. list_tree context_word_tree Empty words.items) result }
 {
     let mut words = Vec::new(alloc);
     let mut next = at;

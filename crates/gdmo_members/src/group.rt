@@ -10,7 +10,8 @@ ghost use Rattle.gdmo_members.specs.Clauses.{attributes, groups, clause, comma, 
 ghost use Rattle.gdmo_members.specs.Templates.{templates, group_clauses};
 ghost use Rattle.gdmo_members.specs.Trees.{clause_tree};
 ghost use Rattle.gdmo_members.specs.MemberTrees.{attribute_reference_tree, parameter_reference_tree};
-ghost use Rattle.gdmo_members.specs.FurtherTrees.{group_tree, group_slots, group_clauses_tree, is_group_clause, word_clause_tree};
+ghost use Rattle.gdmo_members.specs.FurtherTrees.{group_tree, group_slots, group_clauses_tree, is_group_clause};
+ghost use Rattle.gdmo_members.specs.FurtherTrees.{word_clause_tree};
 
 use super::attribute::{AttributeReference, read_attribute_reference};
 use super::registration::read_registered_ending;
@@ -106,7 +107,8 @@ fn read_group_clause(
     at: usize,
     clauses: &mut GroupClauses,
 ) -> Result<Option<usize>, SyntaxRefusal>
-    ensures { TakesClause tokens.now templates is_group_clause (group_slots clauses.old) (group_slots clauses.new) at result }
+    ensures { TakesClause tokens.now templates is_group_clause (group_slots clauses.old)
+        (group_slots clauses.new) at result }
 {
     let has_elements = clauses.elements.is_none() & is_word_at(tokens, at, "GROUP");
     if has_elements {
@@ -135,7 +137,8 @@ fn read_attribute_list(
     tokens: &[Token],
     at: usize,
 ) -> Result<(Vec<AttributeReference>, usize), SyntaxRefusal>
-    ensures { Reads tokens.now templates (either comma (is_word_of (codes "ATTRIBUTE"))) (references attributes) at (vector_tree attribute_reference_tree) result }
+    ensures { Reads tokens.now templates (either comma (is_word_of (codes "ATTRIBUTE"))) (references attributes) at
+        (vector_tree attribute_reference_tree) result }
 {
     let mut list = Vec::new(alloc);
     let mut next = at;
@@ -154,7 +157,8 @@ fn read_elements_clause(
     tokens: &[Token],
     at: usize,
 ) -> Result<(Vec<AttributeReference>, usize), SyntaxRefusal>
-    ensures { Reads tokens.now templates closed (clause (codes "GROUP" ∷ codes "ELEMENTS" ∷ []) (references attributes)) at (clause_tree (vector_tree attribute_reference_tree)) result }
+    ensures { Reads tokens.now templates closed (clause (codes "GROUP" ∷ codes "ELEMENTS" ∷ []) (references attributes))
+        at (clause_tree (vector_tree attribute_reference_tree)) result }
 {
     let next = skip_words(tokens, at, &["GROUP", "ELEMENTS"])?;
     end_clause(tokens, read_attribute_list(alloc, tokens, next))
@@ -179,7 +183,8 @@ fn read_description_clause(
     tokens: &[Token],
     at: usize,
 ) -> Result<(Token, usize), SyntaxRefusal>
-    ensures { Reads tokens.now templates closed (clause (codes "DESCRIPTION" ∷ []) (Keep is_string)) at (clause_tree Leaf) result }
+    ensures { Reads tokens.now templates closed (clause (codes "DESCRIPTION" ∷ []) (Keep is_string)) at
+        (clause_tree Leaf) result }
 {
     let next = skip_words(tokens, at, &["DESCRIPTION"])?;
     end_clause(tokens, read_string(alloc, tokens, next))

@@ -2,10 +2,13 @@
 
 ghost use Rattle.token_grammar.specs.PartLaws.{OneTreeBy, OneValue, OneValueBy};
 ghost use Rattle.gdmo_members.specs.Trees.{behaviour_tree, behaviour_reference_tree};
-ghost use Rattle.gdmo_members.specs.MemberTrees.{attribute_tree, attribute_reference_tree, parameter_tree, parameter_reference_tree};
+ghost use Rattle.gdmo_members.specs.MemberTrees.{attribute_tree, attribute_reference_tree, parameter_tree};
+ghost use Rattle.gdmo_members.specs.MemberTrees.{parameter_reference_tree};
 ghost use Rattle.gdmo_members.specs.FurtherTrees.{action_tree, group_tree, notification_tree};
 ghost use Rattle.gdmo_members.specs.MemberTree.{member_tree};
-ghost use Rattle.gdmo_members.specs.Agreement.{ActionsAgree, AttributesAgree, AttributeReferencesAgree, GroupsAgree, MembersAgree, NotificationsAgree, ParametersAgree, ParameterReferencesAgree};
+ghost use Rattle.gdmo_members.specs.Agreement.{ActionsAgree, AttributesAgree, AttributeReferencesAgree, GroupsAgree};
+ghost use Rattle.gdmo_members.specs.Agreement.{MembersAgree, NotificationsAgree, ParametersAgree};
+ghost use Rattle.gdmo_members.specs.Agreement.{ParameterReferencesAgree};
 
 /// No two templates have one tree: those of one tree agree in all but the memory of their lists and of their
 /// templates in line. Does nothing.

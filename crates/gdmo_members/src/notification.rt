@@ -10,7 +10,9 @@ ghost use Rattle.gdmo_members.specs.Clauses.{notifications, comma};
 ghost use Rattle.gdmo_members.specs.Templates.{templates, notification_clauses, field, fields, information_clause};
 ghost use Rattle.gdmo_members.specs.Trees.{clause_tree};
 ghost use Rattle.gdmo_members.specs.MemberTrees.{attribute_reference_tree, parameter_reference_tree};
-ghost use Rattle.gdmo_members.specs.FurtherTrees.{notification_tree, notification_slots, notification_clauses_tree, is_notification_clause, field_tree, fields_tree, information_tree, is_field_end};
+ghost use Rattle.gdmo_members.specs.FurtherTrees.{notification_tree, notification_slots, notification_clauses_tree};
+ghost use Rattle.gdmo_members.specs.FurtherTrees.{is_notification_clause, field_tree, fields_tree, information_tree};
+ghost use Rattle.gdmo_members.specs.FurtherTrees.{is_field_end};
 
 use super::attribute::{AttributeReference, read_attribute_reference};
 use super::behaviour::{BehaviourReference, read_behaviour_clause};
@@ -109,7 +111,8 @@ fn read_notification_clauses(
     tokens: &[Token],
     at: usize,
 ) -> Result<(NotificationClauses, usize), SyntaxRefusal>
-    ensures { Reads tokens.now templates is_notification_clause (AnyOrder notification_clauses) at notification_clauses_tree result }
+    ensures { Reads tokens.now templates is_notification_clause (AnyOrder notification_clauses) at
+        notification_clauses_tree result }
 {
     let mut clauses = NotificationClauses {
         behaviour: None,
@@ -131,7 +134,8 @@ fn read_notification_clause(
     at: usize,
     clauses: &mut NotificationClauses,
 ) -> Result<Option<usize>, SyntaxRefusal>
-    ensures { TakesClause tokens.now templates is_notification_clause (notification_slots clauses.old) (notification_slots clauses.new) at result }
+    ensures { TakesClause tokens.now templates is_notification_clause (notification_slots clauses.old)
+        (notification_slots clauses.new) at result }
 {
     let has_behaviour = clauses.behaviour.is_none() & is_word_at(tokens, at, "BEHAVIOUR");
     if has_behaviour {
@@ -181,7 +185,8 @@ fn read_field_list(
     tokens: &[Token],
     at: usize,
 ) -> Result<(Vec<Field>, usize), SyntaxRefusal>
-    ensures { Reads tokens.now templates (either comma (is_word_of (codes "ATTRIBUTE"))) (Listed comma Empty field) at (vector_tree field_tree) result }
+    ensures { Reads tokens.now templates (either comma (is_word_of (codes "ATTRIBUTE"))) (Listed comma Empty field) at
+        (vector_tree field_tree) result }
 {
     let mut list = Vec::new(alloc);
     let mut next = at;

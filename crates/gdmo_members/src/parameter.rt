@@ -7,10 +7,13 @@ ghost use Rattle.token_grammar.specs.Outcome.{Reads, closed};
 ghost use Rattle.token_grammar.specs.Parts.{either, vector_tree};
 ghost use Rattle.token_grammar.specs.Turns.{TakesClause};
 ghost use Rattle.token_grammar.specs.TokenTests.{is_word_of};
-ghost use Rattle.gdmo_members.specs.Clauses.{ending, comma, parameters, reference, references, parameters_clause, context, clause};
+ghost use Rattle.gdmo_members.specs.Clauses.{ending, comma, parameters, reference, references, parameters_clause};
+ghost use Rattle.gdmo_members.specs.Clauses.{context, clause};
 ghost use Rattle.gdmo_members.specs.Templates.{templates, parameter_syntax, parameter_clauses};
 ghost use Rattle.gdmo_members.specs.Trees.{clause_tree, context_tree, ending_tree};
-ghost use Rattle.gdmo_members.specs.MemberTrees.{parameter_tree, template_tree, parameter_reference_tree, parameter_syntax_tree, parameter_slots, parameter_clauses_tree, is_parameter_clause};
+ghost use Rattle.gdmo_members.specs.MemberTrees.{parameter_tree, template_tree, parameter_reference_tree};
+ghost use Rattle.gdmo_members.specs.MemberTrees.{parameter_syntax_tree, parameter_slots, parameter_clauses_tree};
+ghost use Rattle.gdmo_members.specs.MemberTrees.{is_parameter_clause};
 
 use super::attribute::{AttributeReference, read_attribute_reference};
 use super::behaviour::{BehaviourReference, read_behaviour_clause};
@@ -103,7 +106,8 @@ fn read_parameter_in_line(
     tokens: &[Token],
     at: usize,
 ) -> Result<(Box<ParameterTemplate>, usize), SyntaxRefusal>
-    ensures { Reads tokens.now templates closed (Named parameters) at (λ template. parameter_tree template.value) result }
+    ensures { Reads tokens.now templates closed (Named parameters) at
+        (λ template. parameter_tree template.value) result }
 {
     let (label, next) = read_label(alloc, tokens, at)?;
     let next = skip_words(tokens, next, &["PARAMETER"])?;
@@ -122,8 +126,11 @@ fn end_parameter(
     label: Token,
     clauses: ParameterClauses,
 ) -> Result<(Box<ParameterTemplate>, usize), SyntaxRefusal>
-    ensures reads { Reads tokens.now templates closed ending at (λ template. ending_tree template.value.registration) result }
-    ensures made { IfOk result (λ answer. parameter_tree answer.0.value ≡ template_tree 0 label (parameter_clauses_tree clauses) (ending_tree answer.0.value.registration)) }
+    ensures reads { Reads tokens.now templates closed ending at
+        (λ template. ending_tree template.value.registration) result }
+    ensures made { IfOk result
+        (λ answer. parameter_tree answer.0.value ≡ template_tree 0 label (parameter_clauses_tree clauses)
+        (ending_tree answer.0.value.registration)) }
 {
     let (registration, next) = read_ending(alloc, tokens, at)?;
     let template = Box::new(
@@ -147,7 +154,8 @@ pub fn read_parameter_reference(
     tokens: &[Token],
     at: usize,
 ) -> Result<(ParameterReference, usize), SyntaxRefusal>
-    ensures { Reads tokens.now templates (is_word_of (codes "PARAMETER")) (reference parameters) at parameter_reference_tree result }
+    ensures { Reads tokens.now templates (is_word_of (codes "PARAMETER")) (reference parameters) at
+        parameter_reference_tree result }
 {
     if is_template_at(tokens, at, "PARAMETER") {
         let (template, next) = read_parameter_in_line(alloc, tokens, at)?;
@@ -164,7 +172,8 @@ fn read_parameter_list(
     tokens: &[Token],
     at: usize,
 ) -> Result<(Vec<ParameterReference>, usize), SyntaxRefusal>
-    ensures { Reads tokens.now templates (either comma (is_word_of (codes "PARAMETER"))) (references parameters) at (vector_tree parameter_reference_tree) result }
+    ensures { Reads tokens.now templates (either comma (is_word_of (codes "PARAMETER"))) (references parameters) at
+        (vector_tree parameter_reference_tree) result }
 {
     let mut list = Vec::new(alloc);
     let mut next = at;
@@ -185,7 +194,8 @@ pub fn read_parameters_clause(
     tokens: &[Token],
     at: usize,
 ) -> Result<(Vec<ParameterReference>, usize), SyntaxRefusal>
-    ensures { Reads tokens.now templates closed parameters_clause at (clause_tree (vector_tree parameter_reference_tree)) result }
+    ensures { Reads tokens.now templates closed parameters_clause at
+        (clause_tree (vector_tree parameter_reference_tree)) result }
 {
     let next = skip_words(tokens, at, &["PARAMETERS"])?;
     let (list, next) = read_parameter_list(alloc, tokens, next)?;
@@ -200,7 +210,8 @@ fn read_parameter_clauses(
     tokens: &[Token],
     at: usize,
 ) -> Result<(ParameterClauses, usize), SyntaxRefusal>
-    ensures { Reads tokens.now templates is_parameter_clause (AnyOrder parameter_clauses) at parameter_clauses_tree result }
+    ensures { Reads tokens.now templates is_parameter_clause (AnyOrder parameter_clauses) at
+        parameter_clauses_tree result }
 {
     let mut draft = ParameterDraft {
         context: None,
@@ -240,7 +251,8 @@ fn read_parameter_clause(
     at: usize,
     draft: &mut ParameterDraft,
 ) -> Result<Option<usize>, SyntaxRefusal>
-    ensures { TakesClause tokens.now templates is_parameter_clause (parameter_slots draft.old) (parameter_slots draft.new) at result }
+    ensures { TakesClause tokens.now templates is_parameter_clause (parameter_slots draft.old)
+        (parameter_slots draft.new) at result }
 {
     let has_context = draft.context.is_none() & is_word_at(tokens, at, "CONTEXT");
     if has_context {
@@ -266,7 +278,8 @@ fn read_context_clause(
     tokens: &[Token],
     at: usize,
 ) -> Result<(Context, usize), SyntaxRefusal>
-    ensures { Reads tokens.now templates closed (clause (codes "CONTEXT" ∷ []) context) at (clause_tree context_tree) result }
+    ensures { Reads tokens.now templates closed (clause (codes "CONTEXT" ∷ []) context) at
+        (clause_tree context_tree) result }
 {
     let next = skip_words(tokens, at, &["CONTEXT"])?;
     end_clause(tokens, read_context(alloc, tokens, next))

@@ -34,7 +34,8 @@ fn read_optional_registration(
     tokens: &[Token],
     at: usize,
 ) -> Result<(Option<ObjectIdentifier>, usize), SyntaxRefusal>
-    ensures { Reads tokens.now templates (is_word_of (codes "REGISTERED")) (Maybe registration) at (optional_tree registration_tree) result }
+    ensures { Reads tokens.now templates (is_word_of (codes "REGISTERED")) (Maybe registration) at
+        (optional_tree registration_tree) result }
 {
     if !is_word_at(tokens, at, "REGISTERED") {
         return Ok((None, at));

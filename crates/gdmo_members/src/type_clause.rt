@@ -22,7 +22,9 @@ pub fn read_type_clause(
     at: usize,
     words: &[&str],
 ) -> Result<(QualifiedName, usize), SyntaxRefusal>
-    ensures { Reads tokens.now templates closed (Then (Marks (map (λ word. is_word_of word.now) words.now)) (Then qualified_name semicolon)) at (clause_tree qualified_name_tree) result }
+    ensures { Reads tokens.now templates closed
+        (Then (Marks (map (λ word. is_word_of word.now) words.now)) (Then qualified_name semicolon)) at
+        (clause_tree qualified_name_tree) result }
 {
     let next = skip_words(tokens, at, words)?;
     end_clause(tokens, read_qualified_name(alloc, tokens, next))

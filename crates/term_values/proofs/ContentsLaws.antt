@@ -1,5 +1,7 @@
 -- What is read of a constructed value spells it, or has the fault: X.690, sections 8.1.3.6 and 8.1.5.
-use Rattle.std.proofs.Common.{◌≡◌, ℕ, zero, suc, ◌-◌, ◌<◌, ◌≤◌, Bool, true, false, List, [], ◌∷◌, ◌++◌, length, take, drop, Option, Some, None, sym, ap, ◌∙◌, refl, subst, inl, inr, arith, append_assoc, length-append, length-take}
+use Rattle.std.proofs.Common.{◌≡◌, ℕ, zero, suc, ◌-◌, ◌<◌, ◌≤◌, Bool, true, false, List, [], ◌∷◌, ◌++◌, length, take}
+use Rattle.std.proofs.Common.{drop, Option, Some, None, sym, ap, ◌∙◌, refl, subst, inl, inr, arith, append_assoc}
+use Rattle.std.proofs.Common.{length-append, length-take}
 use Rattle.std.specs.Prelude.{Result, Ok, Err}
 use Rattle.std.proofs.lemmas.List.{length-take-le, take-append-drop, append-nil}
 use Rattle.std.proofs.lemmas.Option.{none-some, same_Some}
@@ -7,11 +9,14 @@ use Rattle.term_values.specs.declared.ber_kind.BerKind.{BerKind}
 use Rattle.term_values.specs.declared.ber_kind.BerKind.TheVariants.{Truncated, BadLength, NoEnd}
 use Rattle.term_values.specs.declared.tag.Tag.{Tag}
 use Rattle.term_values.specs.Ber.{Parts, SpellsAll}
-use Rattle.term_values.specs.FirstFault.{when_cut, place_of, TagFault, OwnFault, EndFault, InIndefinite, BeginsValue, HasFault}
-use Rattle.term_values.specs.BerReading.{Fault, Front, AllRead, result_then, front_of, stop_at, members, primitive_value, constructed_value, either, placed, reading}
+use Rattle.term_values.specs.FirstFault.{when_cut, place_of, TagFault, OwnFault, EndFault, InIndefinite, BeginsValue}
+use Rattle.term_values.specs.FirstFault.{HasFault}
+use Rattle.term_values.specs.BerReading.{Fault, Front, AllRead, result_then, front_of, stop_at, members}
+use Rattle.term_values.specs.BerReading.{primitive_value, constructed_value, either, placed, reading}
 use Rattle.term_values.specs.SpellingLaws.{AreOctets}
 use Rattle.term_values.specs.Tree.TreeValue.{Constructed}
-use Rattle.term_values.proofs.ReadingLaws.{FrontSplit, FrontTold, front_told, ReadingTold, own, primitive_told, AllTold, Told, members_told, octets_back, octets_front, appended}
+use Rattle.term_values.proofs.ReadingLaws.{FrontSplit, FrontTold, front_told, ReadingTold, own, primitive_told, AllTold}
+use Rattle.term_values.proofs.ReadingLaws.{Told, members_told, octets_back, octets_front, appended}
 
 pub error_same : {T E : Type 0} (e f : E) → ◌≡◌ {A = Result T E} (Err e) (Err f) → e ≡ f
 error_same {T} {E} e f p = ap which p

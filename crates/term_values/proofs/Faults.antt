@@ -1,5 +1,6 @@
 -- Octets that have a fault are found to have it: X.690, sections 8.1.2 to 8.1.5.
-use Rattle.std.proofs.Common.{◌≡◌, ◌⊎◌, ℕ, zero, suc, ◌-◌, ◌<◌, ◌≤◌, Bool, true, false, List, [], ◌∷◌, ◌++◌, length, take, drop, Option, Some, None, sym, ap, ◌∙◌, refl, inl, inr, arith, length-take}
+use Rattle.std.proofs.Common.{◌≡◌, ◌⊎◌, ℕ, zero, suc, ◌-◌, ◌<◌, ◌≤◌, Bool, true, false, List, [], ◌∷◌, ◌++◌, length}
+use Rattle.std.proofs.Common.{take, drop, Option, Some, None, sym, ap, ◌∙◌, refl, inl, inr, arith, length-take}
 use Rattle.std.specs.Prelude.{Result, Ok, Err}
 use Rattle.std.proofs.lemmas.Bool.{lt-leb, and_right}
 use Rattle.std.proofs.lemmas.List.{append-nil}
@@ -7,13 +8,15 @@ use Rattle.term_values.specs.declared.ber_kind.BerKind.{BerKind}
 use Rattle.term_values.specs.declared.ber_kind.BerKind.TheVariants.{Truncated, BadLength}
 use Rattle.term_values.specs.declared.tag.Tag.{Tag}
 use Rattle.term_values.specs.FirstFault.{place_of, OwnFault, EndFault, InDefinite, InIndefinite, BeginsValue, HasFault}
-use Rattle.term_values.specs.BerReading.{Fault, result_then, sized, behind_tag, identifier_of, length_at, front_of, stop_at, members, primitive_value, reading}
+use Rattle.term_values.specs.BerReading.{Fault, result_then, sized, behind_tag, identifier_of, length_at, front_of}
+use Rattle.term_values.specs.BerReading.{stop_at, members, primitive_value, reading}
 use Rattle.term_values.specs.Tree.{TreeValue}
 use Rattle.term_values.proofs.ContentsLaws.{error_same}
 use Rattle.term_values.proofs.LengthLaws.{length_faulty}
 use Rattle.term_values.proofs.TagLaws.{tag_read, tag_faulty}
 use Rattle.term_values.proofs.ReadingLaws.{is_full}
-use Rattle.term_values.proofs.Spelled.{front_read, before_fault, breaks, fails, definite_goes, indefinite_goes, all_read, spelling_read}
+use Rattle.term_values.proofs.Spelled.{front_read, before_fault, breaks, fails, definite_goes, indefinite_goes}
+use Rattle.term_values.proofs.Spelled.{all_read, spelling_read}
 
 -- a fault of the identifier or of the length octets, or contents octets that aren't there
 tag_found : (full : Bool) (behind : Option ℕ) (octets : List ℕ) (kind : BerKind) →

@@ -1,5 +1,6 @@
 -- Sums of lengths that are kept within 64 bits.
-use Rattle.std.proofs.Common.{◌≡◌, ℕ, ◌+◌, ◌≤◌, ◌<◌, List, [], ◌∷◌, ◌++◌, length, ap, ◌∙◌, refl, arith, ⊎_elim, length-append, Bool, true, false, cond, drop, flat_map}
+use Rattle.std.proofs.Common.{◌≡◌, ℕ, ◌+◌, ◌≤◌, ◌<◌, List, [], ◌∷◌, ◌++◌, length, ap, ◌∙◌, refl, arith, ⊎_elim}
+use Rattle.std.proofs.Common.{length-append, Bool, true, false, cond, drop, flat_map}
 use Rattle.std.proofs.lemmas.Bool.{cases_lt, lt-ltb, le-ltb}
 use Rattle.term_values.specs.Lengths.{counted, octet_count}
 use Rattle.std.proofs.lemmas.List.{length-map}

@@ -1,5 +1,7 @@
 -- What is read from the front of octets spells a tree, or has the fault: X.690, section 8.1.
-use Rattle.std.proofs.Common.{◌≡◌, ◌⊎◌, ℕ, zero, suc, ◌+◌, ◌<◌, ◌≤◌, ◌&&◌, Bool, true, false, List, [], ◌∷◌, ◌++◌, length, get_or, take, drop, Option, Some, None, nat_le, sym, ap, ◌∙◌, refl, inl, inr, ⊎_elim, arith, append_assoc, length-append}
+use Rattle.std.proofs.Common.{◌≡◌, ◌⊎◌, ℕ, zero, suc, ◌+◌, ◌<◌, ◌≤◌, ◌&&◌, Bool, true, false, List, [], ◌∷◌, ◌++◌}
+use Rattle.std.proofs.Common.{length, get_or, take, drop, Option, Some, None, nat_le, sym, ap, ◌∙◌, refl, inl, inr}
+use Rattle.std.proofs.Common.{⊎_elim, arith, append_assoc, length-append}
 use Rattle.std.specs.Prelude.{Result, Ok, Err}
 use Rattle.std.proofs.lemmas.Bool.{cases_Bool, leb-true, leb-false, false≢true}
 use Rattle.std.proofs.lemmas.List.{length-take-le, take-append-drop, get_or_append_left, get_or-append-add}
@@ -9,7 +11,8 @@ use Rattle.term_values.specs.declared.tag.Tag.{Tag}
 use Rattle.term_values.specs.Der.{leading_bits}
 use Rattle.term_values.specs.Ber.{IsIdentifier, IsExtent, Parts, Spells, SpellsAll}
 use Rattle.term_values.specs.FirstFault.{place_of, OwnFault, HasFault}
-use Rattle.term_values.specs.BerReading.{Fault, Front, AllRead, result_then, sized, behind_tag, identifier_of, length_at, front_of, or_more, members, primitive_value, reading}
+use Rattle.term_values.specs.BerReading.{Fault, Front, AllRead, result_then, sized, behind_tag, identifier_of}
+use Rattle.term_values.specs.BerReading.{length_at, front_of, or_more, members, primitive_value, reading}
 use Rattle.term_values.specs.SpellingLaws.{AreOctets, Spelling}
 use Rattle.term_values.specs.Tree.{TreeValue, TreeValues}
 use Rattle.term_values.specs.Tree.TreeValue.{Primitive, Constructed}

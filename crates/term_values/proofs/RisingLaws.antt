@@ -1,6 +1,9 @@
--- Laws of the order in which the members of a SET OF are written: X.690, section 11.6. A list and its permutation have the
--- same rising order, and a sorted list is its own.
-use Rattle.std.proofs.Common.{◌≡◌, ℕ, zero, suc, ◌+◌, ◌<◌, Bool, true, false, cond, not, List, [], ◌∷◌, length, get_or, set, swap, IsPermutation, IsSorted, nat_cmp, is_lt, is_gt, Ordering, Less, Equal, Greater, refl, sym, ap, ◌∙◌, subst, ⊎_elim, true≢false, arith, add-one, length-set, get_or-set_same, get_or-set_other}
+-- Laws of the order in which the members of a SET OF are written: X.690, section 11.6. A list and its permutation have
+-- the same rising order, and a sorted list is its own.
+use Rattle.std.proofs.Common.{◌≡◌, ℕ, zero, suc, ◌+◌, ◌<◌, Bool, true, false, cond, not, List, [], ◌∷◌, length, get_or}
+use Rattle.std.proofs.Common.{set, swap, IsPermutation, IsSorted, nat_cmp, is_lt, is_gt, Ordering, Less, Equal, Greater}
+use Rattle.std.proofs.Common.{refl, sym, ap, ◌∙◌, subst, ⊎_elim, true≢false, arith, add-one, length-set}
+use Rattle.std.proofs.Common.{get_or-set_same, get_or-set_other}
 use Rattle.std.specs.Cmp.Lexicographic.{slice_cmp}
 use Rattle.std.specs.FinMap.{nat_cmp-IsAntisymmetric, slice_cmp-IsAntisymmetric}
 use Rattle.std.specs.Ordering.{ordering_reverse}

@@ -1,5 +1,7 @@
 -- What spells a tree is read so, and what has a fault is found to have it: X.690, sections 8.1.2 to 8.1.5.
-use Rattle.std.proofs.Common.{◌≡◌, ℕ, zero, suc, ◌+◌, ◌-◌, ◌<◌, ◌≤◌, ◌&&◌, Bool, true, false, List, [], ◌∷◌, ◌++◌, length, Option, Some, None, nat_le, sym, ap, ◌∙◌, refl, arith, append_assoc, length-append}
+use Rattle.std.proofs.Common.{◌≡◌, ℕ, zero, suc, ◌+◌, ◌-◌, ◌<◌, ◌≤◌, ◌&&◌, Bool, true, false, List, [], ◌∷◌, ◌++◌}
+use Rattle.std.proofs.Common.{length, Option, Some, None, nat_le, sym, ap, ◌∙◌, refl, arith, append_assoc}
+use Rattle.std.proofs.Common.{length-append}
 use Rattle.std.specs.Prelude.{Ok, Err}
 use Rattle.std.proofs.lemmas.Bool.{le-leb, false≢true}
 use Rattle.std.proofs.lemmas.List.{append-nil, take_at, drop_at}
@@ -7,7 +9,8 @@ use Rattle.term_values.specs.declared.ber_kind.BerKind.TheVariants.{Truncated}
 use Rattle.term_values.specs.declared.tag.Tag.{Tag}
 use Rattle.term_values.specs.Ber.{IsExtent, Encloses, Parts, Spells, SpellsAll}
 use Rattle.term_values.specs.FirstFault.{IsPast}
-use Rattle.term_values.specs.BerReading.{Fault, Front, AllRead, Reader, result_then, front_of, stop_at, or_more, members, primitive_value, constructed_value, reading}
+use Rattle.term_values.specs.BerReading.{Fault, Front, AllRead, Reader, result_then, front_of, stop_at, or_more}
+use Rattle.term_values.specs.BerReading.{members, primitive_value, constructed_value, reading}
 use Rattle.term_values.specs.Tree.{TreeValue, TreeValues}
 use Rattle.term_values.specs.Tree.TreeValue.{Primitive, Constructed}
 use Rattle.term_values.specs.Tree.TreeValues.{Nothing, Then}

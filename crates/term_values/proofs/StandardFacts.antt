@@ -29,11 +29,15 @@ unfolding length_octets
 example_length = refl
 
 -- the INTEGER 128 within a SEQUENCE, written in the short form and read in the long form too
-example_written : written (Constructed (record { class = 0; number = 16 }) (Then (Primitive (record { class = 0; number = 2 }) (0 ∷ 0x80 ∷ [])) Nothing)) ≡ 0x30 ∷ 0x04 ∷ 0x02 ∷ 0x02 ∷ 0x00 ∷ 0x80 ∷ []
+example_written : written
+    (Constructed (record { class = 0; number = 16 })
+    (Then (Primitive (record { class = 0; number = 2 }) (0 ∷ 0x80 ∷ [])) Nothing)) ≡ 0x30 ∷ 0x04 ∷ 0x02 ∷ 0x02
+    ∷ 0x00 ∷ 0x80 ∷ []
 unfolding identifier_octets length_octets
 example_written = refl
 
-example_read : tree_in (0x02 ∷ 0x81 ∷ 0x02 ∷ 0x00 ∷ 0x80 ∷ []) ≡ Some (Primitive (record { class = 0; number = 2 }) (0 ∷ 0x80 ∷ []))
+example_read : tree_in (0x02 ∷ 0x81 ∷ 0x02 ∷ 0x00 ∷ 0x80 ∷ []) ≡ Some
+    (Primitive (record { class = 0; number = 2 }) (0 ∷ 0x80 ∷ []))
 unfolding front_of length_at identifier_of
 example_read = refl
 
@@ -60,7 +64,12 @@ unfolding integer_in
 example_integer_padded = refl
 
 -- that tree is read back as it is written
-example_writable : IsWritable 1 (Constructed (record { class = 0; number = 16 }) (Then (Primitive (record { class = 0; number = 2 }) (0 ∷ 0x80 ∷ [])) Nothing))
+example_writable : IsWritable 1
+    (Constructed (record { class = 0; number = 16 })
+    (Then (Primitive (record { class = 0; number = 2 }) (0 ∷ 0x80 ∷ [])) Nothing))
 unfolding identifier_octets length_octets
-example_writable =
-    (record { class = omega arith; small = omega arith; used = omega arith }, omega arith, ((record { class = omega arith; small = omega arith; used = omega arith }, omega arith), tt))
+example_writable = (
+  record { class = omega arith; small = omega arith; used = omega arith },
+  omega arith,
+  ((record { class = omega arith; small = omega arith; used = omega arith }, omega arith), tt),
+)

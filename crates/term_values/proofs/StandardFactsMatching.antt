@@ -1,5 +1,6 @@
 -- Examples of matching, computed from the definitions: docs/PROFILE.md, section 10.
-use Rattle.std.proofs.Common.{◌≡◌, ◌≤◌, ◌+◌, ℕ, true, false, List, [], ◌∷◌, ◌++◌, length, refl, ap, ◌∙◌, inl, inr, arith, length-append}
+use Rattle.std.proofs.Common.{◌≡◌, ◌≤◌, ◌+◌, ℕ, true, false, List, [], ◌∷◌, ◌++◌, length, refl, ap, ◌∙◌, inl, inr}
+use Rattle.std.proofs.Common.{arith, length-append}
 use Rattle.std.specs.Prelude.{pos, negsuc, codes}
 use Rattle.term_values.specs.Syntaxes.TypeSyntax.{Boolean, Integer, SetOf, Tagged, Choice}
 use Rattle.term_values.specs.Syntaxes.TypeParts.{NoParts}

@@ -9,7 +9,8 @@ use Rattle.term_values.specs.FilterTrees.{is_filter}
 use Rattle.term_values.specs.Octets.{integer_contents, integer_in}
 use Rattle.term_values.specs.Oid.{subidentifier, oid_in}
 use Rattle.term_values.specs.PduSyntaxes.{bind, bind_answer, invoke, return_result, return_error, reject, get_argument}
-use Rattle.term_values.specs.PduSyntaxes.{set_argument, action_argument, delete_argument, create_argument, report_argument}
+use Rattle.term_values.specs.PduSyntaxes.{set_argument, action_argument, delete_argument, create_argument}
+use Rattle.term_values.specs.PduSyntaxes.{report_argument}
 use Rattle.term_values.specs.ResultSyntaxes.{linked_reply}
 use Rattle.term_values.specs.Soundness.{has_clear_tags}
 use Rattle.term_values.specs.Syntaxes.{TypeSyntax}

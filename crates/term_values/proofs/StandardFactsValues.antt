@@ -1,5 +1,6 @@
 -- Examples of X.690 and X.680 on typed values, computed from the definitions.
-use Rattle.std.specs.Prelude.{◌≡◌, ℕ, List, [], ◌∷◌, true, false, pos, negsuc, Some, None, Option, option_and_then, refl, codes}
+use Rattle.std.specs.Prelude.{◌≡◌, ℕ, List, [], ◌∷◌, true, false, pos, negsuc, Some, None, Option, option_and_then}
+use Rattle.std.specs.Prelude.{refl, codes}
 use Rattle.std.proofs.Common.{arith, inl, inr}
 use Rattle.term_values.specs.Bounded.{allowed, has_character}
 use Rattle.term_values.specs.BerReading.{tree_in, front_of, length_at, identifier_of}
@@ -12,7 +13,8 @@ use Rattle.term_values.specs.Oid.{subidentifier, oid_in}
 use Rattle.term_values.specs.Soundness.{has_clear_tags, IsSound}
 use Rattle.term_values.specs.Syntaxes.{TypeSyntax}
 use Rattle.term_values.specs.Syntaxes.TypeSyntax.{Boolean, Integer, Enumerated, BitString, OctetString}
-use Rattle.term_values.specs.Syntaxes.TypeSyntax.{ObjectIdentifier, TextString, Sequence, SetType, SetOf, Choice, Tagged, Any}
+use Rattle.term_values.specs.Syntaxes.TypeSyntax.{ObjectIdentifier, TextString, Sequence, SetType, SetOf, Choice}
+use Rattle.term_values.specs.Syntaxes.TypeSyntax.{Tagged, Any}
 use Rattle.term_values.specs.Syntaxes.TypeParts.{NoParts, Part}
 use Rattle.term_values.specs.Tag.{context}
 use Rattle.term_values.specs.Tree.TreeValue.{Primitive, Constructed}

@@ -1,5 +1,6 @@
 -- The laws of specs/SpellingLaws, proved.
-use Rattle.std.proofs.Common.{◌≡◌, ℕ, zero, suc, ◌+◌, ◌≤◌, List, [], ◌∷◌, ◌++◌, length, Some, None, sym, ap, ◌∙◌, refl, subst, arith}
+use Rattle.std.proofs.Common.{◌≡◌, ℕ, zero, suc, ◌+◌, ◌≤◌, List, [], ◌∷◌, ◌++◌, length, Some, None, sym, ap, ◌∙◌, refl}
+use Rattle.std.proofs.Common.{subst, arith}
 use Rattle.std.specs.Prelude.{Result, Ok, Err, option_and_then}
 use Rattle.std.proofs.lemmas.List.{append-nil, append_cancel_right}
 use Rattle.std.proofs.lemmas.Option.{none-some, same_Some, option_and_then_some, some_pair_parts}
@@ -12,7 +13,9 @@ use Rattle.term_values.specs.FirstFault.{IsFirstFault}
 use Rattle.term_values.specs.Tree.{TreeValue, TreeValues}
 use Rattle.term_values.specs.Tree.TreeValue.{Primitive, Constructed}
 use Rattle.term_values.specs.Tree.TreeValues.{Nothing, Then}
-use Rattle.term_values.specs.SpellingLaws.{AreOctets, OneTree, Spelling, ReadingSpells, SpellingIsRead, WholeReading, HasTree, NoFaultBesideTree, SomeFault, OneFault, FoundFault, WrittenSpells, WrittenIsRead, NumberOfOctets, OctetsOfNumber}
+use Rattle.term_values.specs.SpellingLaws.{AreOctets, OneTree, Spelling, ReadingSpells, SpellingIsRead, WholeReading}
+use Rattle.term_values.specs.SpellingLaws.{HasTree, NoFaultBesideTree, SomeFault, OneFault, FoundFault, WrittenSpells}
+use Rattle.term_values.specs.SpellingLaws.{WrittenIsRead, NumberOfOctets, OctetsOfNumber}
 use Rattle.term_values.proofs.ContentsLaws.{error_same, reading_told}
 use Rattle.term_values.proofs.Faults.{fault_found}
 use Rattle.term_values.proofs.NumberLaws.{number-octets_all, octets-number}

@@ -1,7 +1,11 @@
 -- Identifier octets that are read are those that spell a tag, or have the fault: X.690, section 8.1.2.
-use Rattle.std.proofs.Common.{◌≡◌, ◌⊎◌, ℕ, ◌+◌, ◌*◌, ◌/◌, ◌%◌, ◌<◌, ◌≤◌, ◌==◌, ◌&&◌, ◌||◌, Bool, true, false, if◌then◌else◌, List, [], ◌∷◌, ◌++◌, Option, nat_lt, nat_le, sym, ap, ◌∙◌, refl, inl, inr, ⊎_elim, arith, append_assoc}
+use Rattle.std.proofs.Common.{◌≡◌, ◌⊎◌, ℕ, ◌+◌, ◌*◌, ◌/◌, ◌%◌, ◌<◌, ◌≤◌, ◌==◌, ◌&&◌, ◌||◌, Bool, true, false}
+use Rattle.std.proofs.Common.{if◌then◌else◌, List, [], ◌∷◌, ◌++◌, Option, nat_lt, nat_le, sym, ap, ◌∙◌, refl, inl, inr}
+use Rattle.std.proofs.Common.{⊎_elim, arith, append_assoc}
 use Rattle.std.specs.Prelude.{Result, Ok, Err}
-use Rattle.std.proofs.lemmas.Bool.{cases_Bool, cases_lt, lt-ltb, le-ltb, ltb-true, ltb-false, leb-true, leb-false, le-leb, lt-leb, eqb-true, eqb-false, eq-eqb, ne_eqb, or_from, or_parts, and_parts, and_left, and_right}
+use Rattle.std.proofs.lemmas.Bool.{cases_Bool, cases_lt, lt-ltb, le-ltb, ltb-true, ltb-false, leb-true, leb-false}
+use Rattle.std.proofs.lemmas.Bool.{le-leb, lt-leb, eqb-true, eqb-false, eq-eqb, ne_eqb, or_from, or_parts, and_parts}
+use Rattle.std.proofs.lemmas.Bool.{and_left, and_right}
 use Rattle.term_values.specs.declared.ber_kind.BerKind.{BerKind}
 use Rattle.term_values.specs.declared.ber_kind.BerKind.TheVariants.{BadTag}
 use Rattle.term_values.specs.declared.tag.Tag.{Tag}

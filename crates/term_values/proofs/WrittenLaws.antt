@@ -1,11 +1,13 @@
 -- What is written spells: X.690, sections 8.1.2, 8.1.3 and 10.1.
-use Rattle.std.proofs.Common.{◌≡◌, ℕ, zero, suc, ◌+◌, ◌*◌, ◌/◌, ◌%◌, ◌^◌, ◌<◌, ◌≤◌, Bool, true, false, List, [], ◌∷◌, ◌++◌, length, Some, sym, refl, subst, inl, inr, ⊎_elim, arith}
+use Rattle.std.proofs.Common.{◌≡◌, ℕ, zero, suc, ◌+◌, ◌*◌, ◌/◌, ◌%◌, ◌^◌, ◌<◌, ◌≤◌, Bool, true, false, List, [], ◌∷◌}
+use Rattle.std.proofs.Common.{◌++◌, length, Some, sym, refl, subst, inl, inr, ⊎_elim, arith}
 use Rattle.std.proofs.lemmas.Bool.{lt-ltb, le-ltb, cases_lt}
 use Rattle.term_values.specs.declared.tag.Tag.{Tag}
 use Rattle.term_values.specs.Oid.{subidentifier}
 use Rattle.term_values.specs.Octets.{octets, count_unsigned}
 use Rattle.term_values.specs.Der.{identifier_octets, length_octets, written, written_all}
-use Rattle.term_values.specs.Ber.{IsContinued, Continues, IsHighNumber, IsIdentifier, IsLength, Parts, Spells, SpellsAll}
+use Rattle.term_values.specs.Ber.{IsContinued, Continues, IsHighNumber, IsIdentifier, IsLength, Parts, Spells}
+use Rattle.term_values.specs.Ber.{SpellsAll}
 use Rattle.term_values.specs.Tree.{TreeValue, TreeValues}
 use Rattle.term_values.specs.Tree.TreeValue.{Primitive, Constructed}
 use Rattle.term_values.specs.Tree.TreeValues.{Nothing, Then}

@@ -6,7 +6,8 @@ use Rattle.term_values.specs.Syntaxes.TypeSyntax.{ObjectIdentifier, TextString, 
 use Rattle.term_values.specs.Syntaxes.TypeSyntax.{SequenceOf, SetOf, Choice, Tagged, Any, Filter}
 use Rattle.term_values.specs.Syntaxes.TypeParts.{NoParts, Part}
 use Rattle.term_values.specs.Tag.{context, is_same_tag}
-use Rattle.term_values.specs.UniversalTags.{boolean, integer, bit_string, octet_string, null, object_identifier, enumerated}
+use Rattle.term_values.specs.UniversalTags.{boolean, integer, bit_string, octet_string, null, object_identifier}
+use Rattle.term_values.specs.UniversalTags.{enumerated}
 use Rattle.term_values.specs.UniversalTags.{sequence, set, generalized_time, text_tag}
 use Rattle.term_values.specs.declared.tag.Tag.{Tag}
 

@@ -1,6 +1,8 @@
 -- What a reading of octets gives, from their front: X.690, sections 8.1.2 to 8.1.5. The relations are in Ber and
 -- FirstFault.
-use Rattle.std.specs.Prelude.{ℕ, zero, suc, ◌+◌, ◌-◌, ◌*◌, ◌/◌, ◌%◌, ◌^◌, ◌==◌, ◌&&◌, ◌||◌, List, [], ◌∷◌, Bool, true, false, nat_lt, nat_le, length, take, drop, if◌then◌else◌, Option, None, Some, option_and_then, Result, Ok, Err}
+use Rattle.std.specs.Prelude.{ℕ, zero, suc, ◌+◌, ◌-◌, ◌*◌, ◌/◌, ◌%◌, ◌^◌, ◌==◌, ◌&&◌, ◌||◌, List, [], ◌∷◌, Bool, true}
+use Rattle.std.specs.Prelude.{false, nat_lt, nat_le, length, take, drop, if◌then◌else◌, Option, None, Some}
+use Rattle.std.specs.Prelude.{option_and_then, Result, Ok, Err}
 use Rattle.term_values.specs.declared.ber_kind.BerKind.{BerKind}
 use Rattle.term_values.specs.declared.ber_kind.BerKind.TheVariants.{Truncated, TooDeep, BadTag, BadLength, NoEnd}
 use Rattle.term_values.specs.declared.tag.Tag.{Tag}

@@ -1,5 +1,6 @@
 -- Ranges, sizes, named numbers and the characters of string types: X.680, sections 19, 20, 41 and 51.
-use Rattle.std.specs.Prelude.{ℕ, ◌-◌, ◌*◌, ℤ, pos, List, [], ◌∷◌, Bool, true, false, ◌==◌, ◌&&◌, ◌||◌, nat_lt, nat_le, int_le, length}
+use Rattle.std.specs.Prelude.{ℕ, ◌-◌, ◌*◌, ℤ, pos, List, [], ◌∷◌, Bool, true, false, ◌==◌, ◌&&◌, ◌||◌, nat_lt, nat_le}
+use Rattle.std.specs.Prelude.{int_le, length}
 use Rattle.std.specs.Ordering.{int_eq}
 use Rattle.term_values.specs.Syntaxes.{Named, Bounds}
 use Rattle.term_values.specs.declared.charset.Charset.{Charset}

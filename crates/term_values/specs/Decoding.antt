@@ -1,11 +1,13 @@
 -- The value that a tree denotes: X.690, section 8. The relation is in Denotes.
-use Rattle.std.specs.Prelude.{ℕ, zero, ◌+◌, List, Bool, true, false, ◌||◌, Option, None, Some, option_map, option_and_then, if◌then◌else◌}
+use Rattle.std.specs.Prelude.{ℕ, zero, ◌+◌, List, Bool, true, false, ◌||◌, Option, None, Some, option_map}
+use Rattle.std.specs.Prelude.{option_and_then, if◌then◌else◌}
 use Rattle.term_values.specs.Beginnings.{begins}
 use Rattle.term_values.specs.Bounded.{allowed_size}
 use Rattle.term_values.specs.Der.{written}
 use Rattle.term_values.specs.FilterTrees.{is_filter}
 use Rattle.term_values.specs.Fits.{count}
-use Rattle.term_values.specs.LeafReading.{truth_in, whole_in, named_in, bit_string_in, octet_string_in, null_in, identifier_in}
+use Rattle.term_values.specs.LeafReading.{truth_in, whole_in, named_in, bit_string_in, octet_string_in, null_in}
+use Rattle.term_values.specs.LeafReading.{identifier_in}
 use Rattle.term_values.specs.LeafReading.{text_in, time_in, where_it}
 use Rattle.term_values.specs.Rearranged.{may_precede}
 use Rattle.term_values.specs.Syntaxes.{Bounds, TypeSyntax, TypeParts}
@@ -22,7 +24,8 @@ use Rattle.term_values.specs.Typed.{TypedValue, TypedSlots, TypedValues}
 use Rattle.term_values.specs.Typed.TypedValue.{Parts, Many, Pick, Raw}
 use Rattle.term_values.specs.Typed.TypedSlots.{NoSlots, Filled, Empty}
 use Rattle.term_values.specs.Typed.TypedValues.{Nothing, Then}
-use Rattle.term_values.specs.UniversalTags.{boolean, integer, bit_string, octet_string, null, object_identifier, enumerated}
+use Rattle.term_values.specs.UniversalTags.{boolean, integer, bit_string, octet_string, null, object_identifier}
+use Rattle.term_values.specs.UniversalTags.{enumerated}
 use Rattle.term_values.specs.UniversalTags.{sequence, set, generalized_time, text_tag}
 use Rattle.term_values.specs.Written.{der}
 use Rattle.term_values.specs.declared.tag.Tag.{Tag}

@@ -1,7 +1,8 @@
 -- Which tree denotes which value of which syntax: X.690, section 8, and X.680, section 24.9 for defaults.
 use Rattle.std.specs.Int.{w64}
 use Rattle.std.specs.List.{list_all}
-use Rattle.std.specs.Prelude.{◌≡◌, ◌⊎◌, ℕ, zero, suc, ℤ, List, [], ◌∷◌, Bool, true, false, ◌==◌, not, Option, None, Some, FitsSigned, length, map}
+use Rattle.std.specs.Prelude.{◌≡◌, ◌⊎◌, ℕ, zero, suc, ℤ, List, [], ◌∷◌, Bool, true, false, ◌==◌, not, Option, None}
+use Rattle.std.specs.Prelude.{Some, FitsSigned, length, map}
 use Rattle.term_values.specs.Bounded.{allowed, allowed_size, bit_count, is_named, has_character}
 use Rattle.term_values.specs.Der.{written}
 use Rattle.term_values.specs.FilterTrees.{is_filter}
@@ -20,9 +21,11 @@ use Rattle.term_values.specs.Tree.TreeValue.{Primitive, Constructed}
 use Rattle.term_values.specs.Tree.TreeValues.{Nothing as NoTrees, Then as AndTrees}
 use Rattle.term_values.specs.TreeTags.{tag_of, due}
 use Rattle.term_values.specs.Typed.{TypedValue, TypedSlots, listed}
-use Rattle.term_values.specs.Typed.TypedValue.{Truth, Int, Bits, Octets, Null, Identifier, Text, Time, Parts, Many, Pick, Raw}
+use Rattle.term_values.specs.Typed.TypedValue.{Truth, Int, Bits, Octets, Null, Identifier, Text, Time, Parts, Many}
+use Rattle.term_values.specs.Typed.TypedValue.{Pick, Raw}
 use Rattle.term_values.specs.Typed.TypedSlots.{NoSlots, Filled, Empty}
-use Rattle.term_values.specs.UniversalTags.{boolean, integer, bit_string, octet_string, null, object_identifier, enumerated}
+use Rattle.term_values.specs.UniversalTags.{boolean, integer, bit_string, octet_string, null, object_identifier}
+use Rattle.term_values.specs.UniversalTags.{enumerated}
 use Rattle.term_values.specs.UniversalTags.{sequence, set, generalized_time, text_tag}
 use Rattle.term_values.specs.Written.{der}
 use Rattle.term_values.specs.declared.tag.Tag.{Tag}

@@ -28,7 +28,8 @@ encoded constructed tag contents = identifier_octets constructed tag ++ (length_
 abbrev mutual
   pub written : TreeValue → List ℕ
   written (Primitive tag contents) = identifier_octets false tag ++ (length_octets (length contents) ++ contents)
-  written (Constructed tag inside) = identifier_octets true tag ++ (length_octets (length (written_all inside)) ++ written_all inside)
+  written (Constructed tag inside) =
+      identifier_octets true tag ++ (length_octets (length (written_all inside)) ++ written_all inside)
 
   pub written_all : TreeValues → List ℕ
   written_all Nothing = []

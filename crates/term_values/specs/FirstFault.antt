@@ -1,10 +1,12 @@
--- The first fault of octets of which no front spells a tree: X.690, sections 8.1.2 to 8.1.5; docs/PROFILE.md, section 3.
+-- The first fault of octets of which no front spells a tree: X.690, sections 8.1.2 to 8.1.5; docs/PROFILE.md, section
+-- 3.
 --
 -- It is what is certain of the value in hand at the first octet at which it is certain. The octets are those from that
 -- value to the nearest end. What is behind them: None where the bytes end there and no definite value stands round
 -- them; Some 0 where a definite value ends there; else Some n: the bytes end there, n octets before the nearest
 -- definite value does.
-use Rattle.std.specs.Prelude.{◌≡◌, ◌⊎◌, ℕ, zero, suc, ◌+◌, ◌-◌, ◌*◌, ◌/◌, ◌%◌, ◌^◌, ◌<◌, ◌≤◌, List, [], ◌∷◌, ◌++◌, Bool, true, false, ◌&&◌, ◌==◌, length, take, drop, Option, Some, None}
+use Rattle.std.specs.Prelude.{◌≡◌, ◌⊎◌, ℕ, zero, suc, ◌+◌, ◌-◌, ◌*◌, ◌/◌, ◌%◌, ◌^◌, ◌<◌, ◌≤◌, List, [], ◌∷◌, ◌++◌, Bool}
+use Rattle.std.specs.Prelude.{true, false, ◌&&◌, ◌==◌, length, take, drop, Option, Some, None}
 use Rattle.term_values.specs.declared.ber_kind.BerKind.{BerKind}
 use Rattle.term_values.specs.declared.ber_kind.BerKind.TheVariants.{Truncated, TooDeep, BadTag, BadLength, NoEnd}
 use Rattle.term_values.specs.declared.tag.Tag.{Tag}

@@ -16,7 +16,8 @@ use Rattle.term_values.specs.Syntaxes.TypeParts.{NoParts, Part}
 use Rattle.term_values.specs.Times.{is_time}
 use Rattle.term_values.specs.Tree.{TreeValue}
 use Rattle.term_values.specs.Typed.{TypedValue, TypedSlots, TypedValues}
-use Rattle.term_values.specs.Typed.TypedValue.{Truth, Int, Bits, Octets, Null, Identifier, Text, Time, Parts, Many, Pick, Raw}
+use Rattle.term_values.specs.Typed.TypedValue.{Truth, Int, Bits, Octets, Null, Identifier, Text, Time, Parts, Many}
+use Rattle.term_values.specs.Typed.TypedValue.{Pick, Raw}
 use Rattle.term_values.specs.Typed.TypedSlots.{NoSlots, Filled, Empty}
 use Rattle.term_values.specs.Typed.TypedValues.{Nothing, Then}
 use Rattle.term_values.specs.ValueContents.{member_encodings}

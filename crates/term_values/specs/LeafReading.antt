@@ -1,7 +1,8 @@
 -- The value that a tree denotes, where it holds no others, its own tag apart: X.690, sections 8.2 to 8.8, 8.19 and
 -- 8.23. The relations are in Denotes and Strings.
 use Rattle.std.specs.List.{list_all}
-use Rattle.std.specs.Prelude.{ℕ, List, [], ◌∷◌, ◌++◌, Bool, true, false, ◌==◌, ◌&&◌, ◌||◌, not, nat_lt, Option, None, Some, option_map, option_and_then, length, if◌then◌else◌}
+use Rattle.std.specs.Prelude.{ℕ, List, [], ◌∷◌, ◌++◌, Bool, true, false, ◌==◌, ◌&&◌, ◌||◌, not, nat_lt, Option, None}
+use Rattle.std.specs.Prelude.{Some, option_map, option_and_then, length, if◌then◌else◌}
 use Rattle.term_values.specs.Bounded.{allowed, allowed_size, bit_count, is_named, has_character}
 use Rattle.term_values.specs.Octets.{integer_in}
 use Rattle.term_values.specs.Oid.{oid_in}

@@ -37,4 +37,5 @@ date_text date = digits_of 4 date.year ++ digits_of 2 date.month ++ digits_of 2 
 unfoldable pub moment_text : ℕ → List ℕ
 moment_text seconds =
     date_text (date_from 8029 1970 (seconds / 86400))
-    ++ digits_of 2 (seconds % 86400 / 3600) ++ digits_of 2 (seconds % 3600 / 60) ++ digits_of 2 (seconds % 60) ++ 90 ∷ []
+    ++ digits_of 2 (seconds % 86400 / 3600) ++ digits_of 2 (seconds % 3600 / 60)
+    ++ digits_of 2 (seconds % 60) ++ 90 ∷ []

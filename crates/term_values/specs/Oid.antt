@@ -1,7 +1,8 @@
 -- Object identifiers and their contents octets: X.660, clause 7; X.690, section 8.19.
 use Rattle.std.specs.Cmp.Lexicographic.{pointwise}
 use Rattle.std.specs.List.{list_all}
-use Rattle.std.specs.Prelude.{ℕ, zero, suc, ◌-◌, Option, None, Some, ◌+◌, ◌*◌, ◌/◌, ◌%◌, ◌^◌, List, [], ◌∷◌, ◌++◌, Bool, false, ◌&&◌, ◌||◌, ◌==◌, nat_lt, nat_le, length, flat_map, if◌then◌else◌}
+use Rattle.std.specs.Prelude.{ℕ, zero, suc, ◌-◌, Option, None, Some, ◌+◌, ◌*◌, ◌/◌, ◌%◌, ◌^◌, List, [], ◌∷◌, ◌++◌, Bool}
+use Rattle.std.specs.Prelude.{false, ◌&&◌, ◌||◌, ◌==◌, nat_lt, nat_le, length, flat_map, if◌then◌else◌}
 
 -- the first two arcs of an identifier
 abbrev pub begins : ℕ → ℕ → Bool
@@ -13,7 +14,8 @@ is_oid [] = false
 is_oid (first ∷ []) = false
 is_oid (first ∷ second ∷ others) = nat_le (length others) 62 && begins first second
 
--- the last seven bits of a number, and before them that many groups of seven, each with the bit that says that more follow
+-- the last seven bits of a number, and before them that many groups of seven, each with the bit that says that more
+-- follow
 abbrev pub groups : ℕ → ℕ → List ℕ
 groups zero n = n % 128 ∷ []
 groups (suc more) n = (128 + (n / 128 ^ (more + 1)) % 128) ∷ groups more n
@@ -44,7 +46,8 @@ numbers_in begun (octet ∷ others) =
 -- the arcs whose first two the first subidentifier gives
 abbrev pub arcs_of : List ℕ → List ℕ
 arcs_of [] = []
-arcs_of (n ∷ others) = if nat_lt n 40 then 0 ∷ n ∷ others else (if nat_lt n 80 then 1 ∷ (n - 40) ∷ others else 2 ∷ (n - 80) ∷ others)
+arcs_of (n ∷ others) = if nat_lt n 40 then 0 ∷ n ∷ others
+    else (if nat_lt n 80 then 1 ∷ (n - 40) ∷ others else 2 ∷ (n - 80) ∷ others)
 
 abbrev pub is_arc : ℕ → Bool
 is_arc arc = nat_lt arc (2 ^ 32)

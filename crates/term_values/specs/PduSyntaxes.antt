@@ -2,7 +2,8 @@
 -- section 9; X.711, section 7; docs/PROFILE.md.
 use Rattle.std.specs.Prelude.{pos, negsuc, [], ◌∷◌, codes}
 use Rattle.term_values.specs.Syntaxes.{TypeSyntax, TypeParts}
-use Rattle.term_values.specs.Syntaxes.TypeSyntax.{Integer, Enumerated, NullType, ObjectIdentifier, GeneralizedTime, Sequence}
+use Rattle.term_values.specs.Syntaxes.TypeSyntax.{Integer, Enumerated, NullType, ObjectIdentifier, GeneralizedTime}
+use Rattle.term_values.specs.Syntaxes.TypeSyntax.{Sequence}
 use Rattle.term_values.specs.Syntaxes.TypeSyntax.{Choice, Any, Filter}
 use Rattle.term_values.specs.Syntaxes.TypeParts.{NoParts}
 use Rattle.term_values.specs.CmipTypes.{one, at_most_one, unnamed, implicit, explicit, number, set_of, sequence_of}

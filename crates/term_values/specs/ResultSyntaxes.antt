@@ -4,7 +4,8 @@ use Rattle.term_values.specs.Syntaxes.{TypeSyntax, TypeParts}
 use Rattle.term_values.specs.Syntaxes.TypeSyntax.{NullType, ObjectIdentifier, Sequence, Choice, Any, Filter}
 use Rattle.term_values.specs.Syntaxes.TypeParts.{NoParts}
 use Rattle.term_values.specs.CmipTypes.{one, at_most_one, unnamed, implicit, explicit, number, any_enumerated, set_of}
-use Rattle.term_values.specs.CmipTypes.{object_parts, object_class, object_instance, attribute_id, attribute, current_time}
+use Rattle.term_values.specs.CmipTypes.{object_parts, object_class, object_instance, attribute_id, attribute}
+use Rattle.term_values.specs.CmipTypes.{current_time}
 use Rattle.term_values.specs.CmipTypes.{action_type_id, event_type_id, action_or_event_type_id, scope, base}
 
 -- the components with which a result begins, and what follows by the operation

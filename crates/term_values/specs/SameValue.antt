@@ -3,7 +3,8 @@ use Rattle.std.specs.Prelude.{ℕ, List, Bool, true, false, ◌==◌, ◌&&◌, 
 use Rattle.std.specs.Ordering.{int_eq}
 use Rattle.std.specs.Cmp.Lexicographic.{pointwise}
 use Rattle.term_values.specs.Typed.{TypedValue, TypedSlots, TypedValues}
-use Rattle.term_values.specs.Typed.TypedValue.{Truth, Int, Bits, Octets, Null, Identifier, Text, Time, Parts, Many, Pick, Raw}
+use Rattle.term_values.specs.Typed.TypedValue.{Truth, Int, Bits, Octets, Null, Identifier, Text, Time, Parts, Many}
+use Rattle.term_values.specs.Typed.TypedValue.{Pick, Raw}
 use Rattle.term_values.specs.Typed.TypedSlots.{NoSlots, Filled, Empty}
 use Rattle.term_values.specs.Typed.TypedValues.{Nothing, Then}
 

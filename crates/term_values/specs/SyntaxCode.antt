@@ -4,7 +4,8 @@ use Rattle.std.specs.Coded.{Coded, code_by}
 use Rattle.std.proofs.Common.{ap}
 use Rattle.term_values.specs.Sketch.{Sketch, sketch_code}
 use Rattle.term_values.specs.Sketch.Sketch.{Leaf, Join}
-use Rattle.term_values.specs.SyntaxPieces.{named_sketch, named_back, named_again, charset_sketch, charset_back, charset_again}
+use Rattle.term_values.specs.SyntaxPieces.{named_sketch, named_back, named_again, charset_sketch, charset_back}
+use Rattle.term_values.specs.SyntaxPieces.{charset_again}
 use Rattle.term_values.specs.SyntaxPieces.{default_sketch, default_back, default_again, mark, mark_back, mark_again}
 use Rattle.term_values.specs.SyntaxPieces.{tag_sketch, tag_back, kind_back, bounds_back}
 use Rattle.term_values.specs.Syntaxes.{TypeSyntax, TypeParts}

@@ -1,6 +1,7 @@
 -- The text of a GeneralizedTime: X.680, section 46. 10, 12 or 14 digits of a date and a time of day that exist, then
 -- optionally `.` or `,` and 1 to 9 digits, then optionally `Z`, or a sign and 2 or 4 digits.
-use Rattle.std.specs.Prelude.{ℕ, ◌+◌, ◌-◌, ◌*◌, ◌%◌, List, [], ◌∷◌, Bool, true, false, ◌==◌, ◌&&◌, ◌||◌, not, nat_lt, length, if◌then◌else◌}
+use Rattle.std.specs.Prelude.{ℕ, ◌+◌, ◌-◌, ◌*◌, ◌%◌, List, [], ◌∷◌, Bool, true, false, ◌==◌, ◌&&◌, ◌||◌, not, nat_lt}
+use Rattle.std.specs.Prelude.{length, if◌then◌else◌}
 use Rattle.term_values.specs.Bounded.{is_between, is_digit}
 
 -- the digits in front

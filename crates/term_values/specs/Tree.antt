@@ -54,16 +54,19 @@ run [] stack = stack
 run (node ∷ nodes) stack = run nodes (pushed node stack)
 
 mutual
-  run-postfix : (x : TreeValue) (rest : List Node) (xs : List TreeValue) (ys : List TreeValues) → run (postfix x ++ rest) (xs, ys) ≡ run rest (x ∷ xs, ys)
+  run-postfix : (x : TreeValue) (rest : List Node) (xs : List TreeValue) (ys : List TreeValues)
+      → run (postfix x ++ rest) (xs, ys) ≡ run rest (x ∷ xs, ys)
   run-postfix (Primitive tag contents) rest xs ys = refl
   run-postfix (Constructed tag inside) rest xs ys =
       ap (λ nodes. run nodes (xs, ys)) (append_assoc (postfix_all inside) (inr (inl (tag.class, tag.number)) ∷ []) rest)
       ∙ run-postfix_all inside (inr (inl (tag.class, tag.number)) ∷ rest) xs ys
 
-  run-postfix_all : (x : TreeValues) (rest : List Node) (xs : List TreeValue) (ys : List TreeValues) → run (postfix_all x ++ rest) (xs, ys) ≡ run rest (xs, x ∷ ys)
+  run-postfix_all : (x : TreeValues) (rest : List Node) (xs : List TreeValue) (ys : List TreeValues)
+      → run (postfix_all x ++ rest) (xs, ys) ≡ run rest (xs, x ∷ ys)
   run-postfix_all Nothing rest xs ys = refl
   run-postfix_all (Then a others) rest xs ys =
-      ap (λ nodes. run nodes (xs, ys)) (append_assoc (postfix a) (postfix_all others ++ inr (inr false) ∷ []) rest ∙ ap (λ nodes. postfix a ++ nodes) (append_assoc (postfix_all others) (inr (inr false) ∷ []) rest))
+      ap (λ nodes. run nodes (xs, ys)) (append_assoc (postfix a) (postfix_all others ++ inr (inr false) ∷ []) rest
+      ∙ ap (λ nodes. postfix a ++ nodes) (append_assoc (postfix_all others) (inr (inr false) ∷ []) rest))
       ∙ (run-postfix a (postfix_all others ++ (inr (inr false) ∷ rest)) xs ys
       ∙ run-postfix_all others (inr (inr false) ∷ rest) (a ∷ xs) ys)
 
@@ -80,16 +83,19 @@ empty-append [] = refl
 empty-append (n ∷ ns) = ap (λ rest. n ∷ rest) (empty-append ns)
 
 pub given_back : (x : TreeValue) → first_tree (run (postfix x) ([], [])) ≡ x
-given_back x = ap (λ nodes. first_tree (run nodes ([], []))) (sym (empty-append (postfix x))) ∙ ap first_tree (run-postfix x [] [] [])
+given_back x = ap (λ nodes. first_tree (run nodes ([], []))) (sym (empty-append (postfix x)))
+    ∙ ap first_tree (run-postfix x [] [] [])
 
 pub given_back_all : (x : TreeValues) → first_trees (run (postfix_all x) ([], [])) ≡ x
-given_back_all x = ap (λ nodes. first_trees (run nodes ([], []))) (sym (empty-append (postfix_all x))) ∙ ap first_trees (run-postfix_all x [] [] [])
+given_back_all x = ap (λ nodes. first_trees (run nodes ([], []))) (sym (empty-append (postfix_all x)))
+    ∙ ap first_trees (run-postfix_all x [] [] [])
 
 abbrev pub tree_code : Coded TreeValue
 tree_code = code_by (List Node) (coded_list node_code) postfix (λ nodes. first_tree (run nodes ([], []))) given_back
 
 abbrev pub trees_code : Coded TreeValues
-trees_code = code_by (List Node) (coded_list node_code) postfix_all (λ nodes. first_trees (run nodes ([], []))) given_back_all
+trees_code = code_by (List Node) (coded_list node_code) postfix_all (λ nodes. first_trees (run nodes ([], [])))
+    given_back_all
 
 -- how many values a tree has, itself among them, and one more for each list
 abbrev mutual

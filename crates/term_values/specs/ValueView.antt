@@ -2,7 +2,8 @@
 use Rattle.term_values.specs.declared.value.ValueForm.{ValueForm}
 use Rattle.term_values.specs.declared.value.ValueForm.TheVariants as forms
 use Rattle.term_values.specs.Typed.{TypedValue}
-use Rattle.term_values.specs.Typed.TypedValue.{Truth, Int, Bits, Octets, Null, Identifier, Text, Time, Parts, Many, Pick, Raw}
+use Rattle.term_values.specs.Typed.TypedValue.{Truth, Int, Bits, Octets, Null, Identifier, Text, Time, Parts, Many}
+use Rattle.term_values.specs.Typed.TypedValue.{Pick, Raw}
 
 abbrev pub value_of : ValueForm → TypedValue
 value_of (forms.Bool holds) = Truth holds

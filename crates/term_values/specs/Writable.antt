@@ -17,7 +17,8 @@ abbrev mutual
   pub IsWritable : ℕ → TreeValue → Type 0
   IsWritable depth (Primitive tag contents) = IsTag tag × (length contents < 2 ^ 32)
   IsWritable zero (Constructed tag inside) = ⊥
-  IsWritable (suc depth) (Constructed tag inside) = IsTag tag × (length (written_all inside) < 2 ^ 32) × AreWritable depth inside
+  IsWritable (suc depth) (Constructed tag inside) =
+      IsTag tag × (length (written_all inside) < 2 ^ 32) × AreWritable depth inside
 
   pub AreWritable : ℕ → TreeValues → Type 0
   AreWritable depth Nothing = Unit {0}

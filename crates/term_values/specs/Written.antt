@@ -13,9 +13,11 @@ use Rattle.term_values.specs.Syntaxes.TypeParts.{NoParts, Part}
 use Rattle.term_values.specs.TreeTags.{due}
 use Rattle.term_values.specs.Typed.{TypedValue, TypedSlots}
 use Rattle.term_values.specs.Typed.TypedSlots.{NoSlots, Filled, Empty}
-use Rattle.term_values.specs.UniversalTags.{boolean, integer, bit_string, octet_string, null, object_identifier, enumerated}
+use Rattle.term_values.specs.UniversalTags.{boolean, integer, bit_string, octet_string, null, object_identifier}
+use Rattle.term_values.specs.UniversalTags.{enumerated}
 use Rattle.term_values.specs.UniversalTags.{sequence, set, generalized_time, text_tag}
-use Rattle.term_values.specs.ValueContents.{truth_contents, whole_contents, bits_contents, octets_contents, identifier_contents}
+use Rattle.term_values.specs.ValueContents.{truth_contents, whole_contents, bits_contents, octets_contents}
+use Rattle.term_values.specs.ValueContents.{identifier_contents}
 use Rattle.term_values.specs.ValueContents.{text_contents, time_contents, raw_octets, of_parts, of_members, of_pick}
 use Rattle.term_values.specs.declared.tag.Tag.{Tag}
 

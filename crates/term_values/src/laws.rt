@@ -1,7 +1,8 @@
 //! Laws of the spelling, the reading and the writing of trees, and of faults, as contracts: X.690, sections 8.1.2 to
 //! 8.1.5, 8.3 and 10.1.
 
-ghost use Rattle.term_values.specs.SpellingLaws.{OneTree, ReadingSpells, SpellingIsRead, WholeReading, WrittenSpells, WrittenIsRead, NumberOfOctets, OctetsOfNumber};
+ghost use Rattle.term_values.specs.SpellingLaws.{OneTree, ReadingSpells, SpellingIsRead, WholeReading, WrittenSpells};
+ghost use Rattle.term_values.specs.SpellingLaws.{WrittenIsRead, NumberOfOctets, OctetsOfNumber};
 ghost use Rattle.term_values.specs.SpellingLaws.{NoFaultBesideTree, SomeFault, OneFault, FoundFault};
 
 /// No spelling of a tree begins another one, and each spells one tree.

@@ -6,7 +6,8 @@ ghost use Rattle.term_values.specs.Lengths.{counted, octet_count};
 ghost use Rattle.term_values.specs.Der.{encoded, identifier_octets, length_octets};
 ghost use Rattle.term_values.specs.Oid.{subidentifier, oid_contents};
 ghost use Rattle.term_values.specs.Octets.{count_signed, count_unsigned, integer_contents};
-ghost use Rattle.term_values.specs.ValueContents.{truth_contents, whole_contents, bits_contents, octets_contents, identifier_contents, text_contents, time_contents, raw_octets};
+ghost use Rattle.term_values.specs.ValueContents.{truth_contents, whole_contents, bits_contents, octets_contents};
+ghost use Rattle.term_values.specs.ValueContents.{identifier_contents, text_contents, time_contents, raw_octets};
 
 use crate::oid::{Oid, SECOND_ARCS};
 use crate::tag::Tag;

@@ -2,7 +2,9 @@
 
 ghost use Rattle.std.specs.Prelude.{◌≡◌};
 ghost use Rattle.term_values.specs.UniversalTags.{universal, text_tag};
-ghost use Rattle.term_values.specs.declared.tag.TheConstants.Tag.{BOOLEAN, INTEGER, BIT_STRING, OCTET_STRING, NULL, OBJECT_IDENTIFIER, ENUMERATED, SEQUENCE, SET, GENERALIZED_TIME};
+ghost use Rattle.term_values.specs.declared.tag.TheConstants.Tag.{BOOLEAN, INTEGER, BIT_STRING, OCTET_STRING, NULL};
+ghost use Rattle.term_values.specs.declared.tag.TheConstants.Tag.{OBJECT_IDENTIFIER, ENUMERATED, SEQUENCE, SET};
+ghost use Rattle.term_values.specs.declared.tag.TheConstants.Tag.{GENERALIZED_TIME};
 
 use crate::charset::Charset;
 

@@ -2,7 +2,8 @@
 
 ghost use Rattle.std.specs.Prelude.{◌≡◌, ◌≤◌, ◌+◌, length, take, drop};
 ghost use Rattle.term_values.specs.Bounded.{is_digit};
-ghost use Rattle.term_values.specs.Times.{front_digits, behind_digits, two_digits, is_leap_year, days_in, is_date, are_seconds, are_minutes, is_hour, is_moment, is_zone, is_fraction, is_time};
+ghost use Rattle.term_values.specs.Times.{front_digits, behind_digits, two_digits, is_leap_year, days_in, is_date};
+ghost use Rattle.term_values.specs.Times.{are_seconds, are_minutes, is_hour, is_moment, is_zone, is_fraction, is_time};
 
 fn is_digit(octet: u8) -> bool
     ensures { result ≡ is_digit octet }

@@ -1,9 +1,12 @@
 -- Laws on clauses in any order of which each is known by its first word, or two by their second words.
 use Rattle.std.specs.Result.{IsErrAnd}
-use Rattle.std.proofs.Common.{◌≡◌, ◌≢◌, ℕ, zero, suc, ◌+◌, ◌≤◌, Bool, true, false, not, ◌&&◌, List, ◌∷◌, Option, None, Some, is_none, is_some, option_map, Result, Ok, Err, ◌⊎◌, inl, inr, refl, sym, ◌∙◌, ap, subst, arith, slice_get}
+use Rattle.std.proofs.Common.{◌≡◌, ◌≢◌, ℕ, zero, suc, ◌+◌, ◌≤◌, Bool, true, false, not, ◌&&◌, List, ◌∷◌, Option, None}
+use Rattle.std.proofs.Common.{Some, is_none, is_some, option_map, Result, Ok, Err, ◌⊎◌, inl, inr, refl, sym, ◌∙◌, ap}
+use Rattle.std.proofs.Common.{subst, arith, slice_get}
 use Rattle.token_grammar.specs.declared.token.Token.{Token}
 use Rattle.token_grammar.specs.declared.syntax_refusal.SyntaxRefusal.{SyntaxRefusal}
-use Rattle.token_grammar.specs.Form.{Form, Tree, Marks, Keep, Then, AnyOrder, Slots, Slot, NoSlots, form_at, is_open, filled}
+use Rattle.token_grammar.specs.Form.{Form, Tree, Marks, Keep, Then, AnyOrder, Slots, Slot, NoSlots, form_at, is_open}
+use Rattle.token_grammar.specs.Form.{filled}
 use Rattle.token_grammar.specs.Spelling.{passes}
 use Rattle.token_grammar.specs.Beginning.{Begins}
 use Rattle.token_grammar.specs.TokenTests.{is_word_of}
@@ -12,7 +15,9 @@ use Rattle.token_grammar.specs.Outcome.{closed, Stops, IsSpelt, Fails, Reads}
 use Rattle.token_grammar.proofs.Heads.{Firsts, skips, starts, Heads, stops_unless}
 use Rattle.token_grammar.proofs.Sequences.{passes_false}
 use Rattle.token_grammar.proofs.Known.{at_word, token_of}
-use Rattle.token_grammar.proofs.Clauses.{OthersStop, same_place, opens_but, others_stop_by, clause_taken, fails_clause, came_not, comes_here, comes_not, exit_clause, slot_stops, second_word_stops, first_word_begins, clause_taken_with, fails_clause_with}
+use Rattle.token_grammar.proofs.Clauses.{OthersStop, same_place, opens_but, others_stop_by, clause_taken, fails_clause}
+use Rattle.token_grammar.proofs.Clauses.{came_not, comes_here, comes_not, exit_clause, slot_stops, second_word_stops}
+use Rattle.token_grammar.proofs.Clauses.{first_word_begins, clause_taken_with, fails_clause_with}
 
 -- the clauses, of which the one at m can't begin
 abbrev pub masked : ℕ → Slots → Slots
@@ -41,7 +46,8 @@ pub others_stop_by_words : {tokens : List Token} {grammar : ℕ → Form} (named
     (Marks (p ∷ q ∷ tests)) g → ((t : Token) → p t ≡ true → opens_but named n (masked m s) t ≡ false) → passes p
     (slice_get tokens i) ≡ true → (is_open m s ≡ true → passes q (slice_get tokens (i + 1)) ≡ false) → i + 1 ≤ k →
     OthersStop tokens grammar n s i k
-others_stop_by_words {tokens} {grammar} named heads {p} {q} {tests} {g} m n s {i} {k} form away here gone order = record { others = λ l other open_l. go l (same_place l m) other open_l }
+others_stop_by_words {tokens} {grammar} named heads {p} {q} {tests} {g} m n s {i} {k} form away here gone order =
+    record { others = λ l other open_l. go l (same_place l m) other open_l }
   where
     go : (l : ℕ) → (l ≡ m) ⊎ (l ≢ m) → l ≢ n → is_open l s ≡ true → Stops tokens grammar closed (form_at l s) i k
     go l (inl e) other open_l = subst (λ (x : ℕ). Stops tokens grammar closed (form_at x s) i k) (sym e)
@@ -137,8 +143,12 @@ pub word_kept : (tokens : List Token) {grammar : ℕ → Form} (named : Firsts) 
 word_kept tokens named heads on text n s view put o b {w} new i read answer mine full wide away fills missing word
     comes one kept =
     clause_kept tokens closed on n s view put o new i read answer fills
-    (λ j a spelt. clause_taken named heads on n s full (at_word text true on wide) (at_word text false (opens_but named n s) away) (mine ∙ came_not view o b w missing comes) (sym word ∙ comes_here b w comes) spelt)
-    (λ e fault. fails_clause named heads on n s (at_word text true on wide) (at_word text false (opens_but named n s) away) (mine ∙ came_not view o b w missing comes) (sym word ∙ comes_here b w comes) fault)
+    (λ j a spelt. clause_taken named heads on n s full (at_word text true on wide)
+    (at_word text false (opens_but named n s) away) (mine ∙ came_not view o b w missing comes)
+    (sym word ∙ comes_here b w comes) spelt)
+    (λ e fault. fails_clause named heads on n s (at_word text true on wide)
+    (at_word text false (opens_but named n s) away) (mine ∙ came_not view o b w missing comes)
+    (sym word ∙ comes_here b w comes) fault)
     one kept
 
 -- No clause comes: a slot whose clause can't begin here, since it came or its first word isn't there.

@@ -63,12 +63,18 @@ pub record IsKept {X : Type 0} (tokens : List Token) (grammar : ℕ → Form) (o
 pub part_kept : (tokens : List Token) {grammar : ℕ → Form} (on : Token → Bool) (f : Form) {X : Type 0}
     (view : X → Tree) (i : ℕ) (read : Result (X × ℕ) SyntaxRefusal) (old new : List X) (k : ℕ) → Reads tokens grammar
     on f i view read → KeepsPart read old new (Ok k) → IsKept tokens grammar on f view i old new k
-part_kept tokens {grammar} on f view i (Ok x) old new k one kept = record { part = x.0; spelt = subst (λ n. IsSpelt tokens grammar on f i (view x.0) n) (sym kept.1) one; items = kept.0 }
+part_kept tokens {grammar} on f view i (Ok x) old new k one kept =
+    record {
+      part = x.0;
+      spelt = subst (λ n. IsSpelt tokens grammar on f i (view x.0) n) (sym kept.1) one;
+      items = kept.0;
+    }
 part_kept tokens on f view i (Err d) old new k one kept = absurd kept
 
 pub part_fails : (tokens : List Token) {grammar : ℕ → Form} (on : Token → Bool) (f : Form) {X : Type 0}
     (view : X → Tree) (i : ℕ) (read : Result (X × ℕ) SyntaxRefusal) (old new : List X) (e : SyntaxRefusal) → Reads
     tokens grammar on f i view read → KeepsPart read old new (Err e) → Fails tokens grammar on f i e
-part_fails tokens {grammar} on f view i (Ok x) old new e one kept = record { fault = λ k is. absurd (let never : Memory ≡ Syntax k = sym kept.1 ∙ is in cc) }
+part_fails tokens {grammar} on f view i (Ok x) old new e one kept =
+    record { fault = λ k is. absurd (let never : Memory ≡ Syntax k = sym kept.1 ∙ is in cc) }
 part_fails tokens {grammar} on f view i (Err d) old new e one kept = subst (λ r. Fails tokens grammar on f i r)
     (sym kept.1) one

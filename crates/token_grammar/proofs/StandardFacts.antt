@@ -11,10 +11,12 @@ use Rattle.token_grammar.specs.declared.token.Token.{Token}
 use Rattle.token_grammar.specs.Kinds.{word_kind, number_kind, string_kind, sign_kind}
 use Rattle.token_grammar.specs.StringTexts.{DenotesText}
 use Rattle.token_grammar.specs.StringTexts.Between.{nothing, octet, doubled}
-use Rattle.token_grammar.specs.Form.{Form, Marks, Keep, Then, Or, Maybe, Listed, Many, AnyOrder, Named, Slots, Slot, NoSlots, Bare, Leaf, Pair, First, Second, Absent, Present, Empty, After, Numbered}
+use Rattle.token_grammar.specs.Form.{Form, Marks, Keep, Then, Or, Maybe, Listed, Many, AnyOrder, Named, Slots, Slot}
+use Rattle.token_grammar.specs.Form.{NoSlots, Bare, Leaf, Pair, First, Second, Absent, Present, Empty, After, Numbered}
 use Rattle.token_grammar.specs.TokenTests.{is_sign_of, is_label, is_name, is_number}
 use Rattle.token_grammar.specs.Parts.{words, sign, label_reference}
-use Rattle.token_grammar.specs.Spelling.{Spells, no_marks, marks, keep, both, first, second, absent, present, last, more, no_more, another, enough, clause, named}
+use Rattle.token_grammar.specs.Spelling.{Spells, no_marks, marks, keep, both, first, second, absent, present, last}
+use Rattle.token_grammar.specs.Spelling.{more, no_more, another, enough, clause, named}
 use Rattle.token_grammar.specs.Beginning as B
 use Rattle.token_grammar.specs.Beginning.{Begins}
 use Rattle.token_grammar.proofs.Known.{token_of}
@@ -62,7 +64,8 @@ abbrev boxes : ℕ → Form
 boxes n = box
 
 abbrev items : Form
-items = Then (Marks (words (codes "HOLDS" ∷ []))) (Then (Listed (is_sign_of (codes ",")) Empty (Or label_reference (Named 0))) (sign (codes ";")))
+items = Then (Marks (words (codes "HOLDS" ∷ [])))
+    (Then (Listed (is_sign_of (codes ",")) Empty (Or label_reference (Named 0))) (sign (codes ";")))
 
 abbrev labels : Form
 labels = Then (Marks (words (codes "MARKS" ∷ []))) (Then (Many Empty (Keep is_label)) (sign (codes ";")))
@@ -71,7 +74,10 @@ abbrev clauses : Slots
 clauses = Slot true items None (Slot false labels None NoSlots)
 
 abbrev shelf : Form
-shelf = Then (Keep is_label) (Then (Marks (words (codes "SHELF" ∷ []))) (Then (AnyOrder clauses) (Then (Maybe (Then (Marks (words (codes "AT" ∷ []))) (Keep is_number))) (sign (codes ";")))))
+shelf = Then (Keep is_label)
+    (Then (Marks (words (codes "SHELF" ∷ [])))
+    (Then (AnyOrder clauses)
+    (Then (Maybe (Then (Marks (words (codes "AT" ∷ []))) (Keep is_number))) (sign (codes ";")))))
 
 abbrev word_at : ℕ → List ℕ → Token
 word_at at text = token_of word_kind at text
@@ -84,38 +90,52 @@ abbrev whole : List Token
 whole = word_at 0 (codes "a") ∷ word_at 2 (codes "SHELF")
     ∷ word_at 8 (codes "MARKS") ∷ word_at 14 (codes "x") ∷ sign_at 15 (codes ";")
     ∷ word_at 17 (codes "HOLDS") ∷ word_at 23 (codes "b") ∷ sign_at 24 (codes ",")
-    ∷ word_at 26 (codes "c") ∷ word_at 28 (codes "BOX") ∷ word_at 32 (codes "WIDE") ∷ word_at 37 (codes "FREE") ∷ sign_at 41 (codes ";")
+    ∷ word_at 26 (codes "c") ∷ word_at 28 (codes "BOX") ∷ word_at 32 (codes "WIDE") ∷ word_at 37 (codes "FREE")
+    ∷ sign_at 41 (codes ";")
     ∷ sign_at 42 (codes ";")
     ∷ word_at 44 (codes "AT") ∷ token_of number_kind 47 (codes "7") ∷ sign_at 48 (codes ";") ∷ []
 
 -- the clauses stand in their own order in the tree, whichever came first
 whole_example : Spells whole boxes shelf 0 17
     (Pair (Leaf (word_at 0 (codes "a"))) (Pair Bare (Pair
-    (Pair (Present (Pair Bare (Pair (After (After Empty (First (Pair Absent (Leaf (word_at 23 (codes "b")))))) (Second (Numbered 0 (Pair (Leaf (word_at 26 (codes "c"))) (Pair Bare (Pair (Second Bare) Bare)))))) Bare)))
+    (Pair (Present (Pair Bare
+    (Pair (After (After Empty (First (Pair Absent (Leaf (word_at 23 (codes "b"))))))
+    (Second (Numbered 0 (Pair (Leaf (word_at 26 (codes "c"))) (Pair Bare (Pair (Second Bare) Bare)))))) Bare)))
     (Pair (Present (Pair Bare (Pair (After Empty (Leaf (word_at 14 (codes "x")))) Bare))) Bare))
     (Pair (Present (Pair Bare (Leaf (token_of number_kind 47 (codes "7"))))) Bare))))
 whole_example = both (keep refl refl refl) (both (marks (record { passed = refl }) no_marks) (both
-    (clause 1 refl (both (marks (record { passed = refl }) no_marks) (both (another (keep refl refl refl) no_more) (marks (record { passed = refl }) no_marks)))
+    (clause 1 refl (both (marks (record { passed = refl }) no_marks)
+    (both (another (keep refl refl refl) no_more) (marks (record { passed = refl }) no_marks)))
     (clause 0 refl (both (marks (record { passed = refl }) no_marks) (both
     (more (first (both absent (keep refl refl refl))) (record { passed = refl })
-    (last (second (named (both (keep refl refl refl) (both (marks (record { passed = refl }) no_marks) (both (second (marks (record { passed = refl }) (marks (record { passed = refl }) no_marks))) (marks (record { passed = refl }) no_marks))))))))
+    (last (second (named (both (keep refl refl refl)
+    (both (marks (record { passed = refl }) no_marks)
+    (both (second (marks (record { passed = refl }) (marks (record { passed = refl }) no_marks)))
+    (marks (record { passed = refl }) no_marks))))))))
     (marks (record { passed = refl }) no_marks)))
     (enough refl refl)))
-    (both (present (both (marks (record { passed = refl }) no_marks) (keep refl refl refl))) (marks (record { passed = refl }) no_marks))))
+    (both (present (both (marks (record { passed = refl }) no_marks) (keep refl refl refl)))
+    (marks (record { passed = refl }) no_marks))))
 
 -- a SHELF HOLDS b BOX WIDE x: a size goes on with a number or with FREE, so the fault is at x
 abbrev faulty : List Token
-faulty = word_at 0 (codes "a") ∷ word_at 2 (codes "SHELF") ∷ word_at 8 (codes "HOLDS") ∷ word_at 14 (codes "b") ∷ word_at 16 (codes "BOX") ∷ word_at 20 (codes "WIDE") ∷ word_at 25 (codes "x") ∷ []
+faulty = word_at 0 (codes "a") ∷ word_at 2 (codes "SHELF") ∷ word_at 8 (codes "HOLDS") ∷ word_at 14 (codes "b")
+    ∷ word_at 16 (codes "BOX") ∷ word_at 20 (codes "WIDE") ∷ word_at 25 (codes "x") ∷ []
 
 faulty_example : Begins faulty boxes shelf 0 6
 faulty_example = B.rest (keep refl refl refl) (B.rest (marks (record { passed = refl }) no_marks) (B.front
     (B.one_clause 0 refl (B.rest (marks (record { passed = refl }) no_marks) (B.front
-    (B.item (B.second (B.named (B.rest (keep refl refl refl) (B.rest (marks (record { passed = refl }) no_marks) (B.front (B.second (B.mark (record { passed = refl }) B.no_tokens)))))))))))))
+    (B.item (B.second (B.named
+    (B.rest (keep refl refl refl)
+    (B.rest (marks (record { passed = refl }) no_marks)
+    (B.front (B.second (B.mark (record { passed = refl }) B.no_tokens)))))))))))))
 
 -- a SHELF MARKS; ;: the clause of the items is missing, and the fault is at the second semicolon
 abbrev missing : List Token
-missing = word_at 0 (codes "a") ∷ word_at 2 (codes "SHELF") ∷ word_at 8 (codes "MARKS") ∷ sign_at 13 (codes ";") ∷ sign_at 15 (codes ";") ∷ []
+missing = word_at 0 (codes "a") ∷ word_at 2 (codes "SHELF") ∷ word_at 8 (codes "MARKS") ∷ sign_at 13 (codes ";")
+    ∷ sign_at 15 (codes ";") ∷ []
 
 missing_example : Begins missing boxes shelf 0 4
 missing_example = B.rest (keep refl refl refl) (B.rest (marks (record { passed = refl }) no_marks) (B.front
-    (B.clause 1 refl (both (marks (record { passed = refl }) no_marks) (both no_more (marks (record { passed = refl }) no_marks))) B.no_tokens)))
+    (B.clause 1 refl (both (marks (record { passed = refl }) no_marks)
+    (both no_more (marks (record { passed = refl }) no_marks))) B.no_tokens)))

@@ -5,7 +5,8 @@ use Rattle.token_grammar.specs.declared.token.Token.{Token}
 use Rattle.token_grammar.specs.declared.object_identifier.Arc.TheVariants.{Number, Named}
 use Rattle.token_grammar.specs.declared.object_identifier.FirstArc.TheVariants.{OfArc, Name}
 use Rattle.token_grammar.specs.Form.{Tree, Bare, Leaf, Pair, First, Second, Absent, Present, Empty, After, Numbered}
-use Rattle.token_grammar.specs.Parts.{optional_tree, list_tree, document_name_tree, label_reference_tree, qualified_name_tree, arc_tree, first_arc_tree, object_identifier_tree}
+use Rattle.token_grammar.specs.Parts.{optional_tree, list_tree, document_name_tree, label_reference_tree}
+use Rattle.token_grammar.specs.Parts.{qualified_name_tree, arc_tree, first_arc_tree, object_identifier_tree}
 use Rattle.token_grammar.specs.PartLaws.{OneValue, OneValueBy, OneTreeBy, ListsAgree, OptionsAgree, IdentifiersAgree}
 
 -- equal trees have equal parts
@@ -59,12 +60,16 @@ parts_of (Numbered n a) = 0
 one_more : (a b : ℕ) → suc a + b ≡ a + suc b
 one_more a b = omega arith
 
-pub parts_of_list : {X : Type 0} (view : X → Tree) (before : Tree) (xs : List X) → parts_of (list_tree view before xs) ≡ parts_of before + length xs
+pub parts_of_list : {X : Type 0} (view : X → Tree) (before : Tree) (xs : List X)
+    → parts_of (list_tree view before xs) ≡ parts_of before + length xs
 parts_of_list view before [] = omega arith
-parts_of_list view before (x ∷ xs) = parts_of_list view (After before (view x)) xs ∙ one_more (parts_of before) (length xs)
+parts_of_list view before (x ∷ xs) =
+    parts_of_list view (After before (view x)) xs ∙ one_more (parts_of before) (length xs)
 
 -- lists of one length behind what came before
-lists_behind : {X : Type 0} (agree : X → X → Type 0) (view : X → Tree) → OneValueBy agree view → (xs ys : List X) (before other : Tree) → length xs ≡ length ys → list_tree view before xs ≡ list_tree view other ys → (before ≡ other) × ListsAgree agree xs ys
+lists_behind : {X : Type 0} (agree : X → X → Type 0) (view : X → Tree) → OneValueBy agree view
+    → (xs ys : List X) (before other : Tree) → length xs ≡ length ys
+    → list_tree view before xs ≡ list_tree view other ys → (before ≡ other) × ListsAgree agree xs ys
 lists_behind agree view once [] [] before other same e = (e, tt)
 lists_behind agree view once [] (y ∷ ys) before other same e = absurd (omega arith)
 lists_behind agree view once (x ∷ xs) [] before other same e = absurd (omega arith)
@@ -74,7 +79,8 @@ lists_behind agree view once (x ∷ xs) (y ∷ ys) before other same e =
     (last.0, (once x y last.1, behind.1))
 
 -- lists of one tree
-pub lists_agree : {X : Type 0} (agree : X → X → Type 0) (view : X → Tree) → OneValueBy agree view → (xs ys : List X) → list_tree view Empty xs ≡ list_tree view Empty ys → ListsAgree agree xs ys
+pub lists_agree : {X : Type 0} (agree : X → X → Type 0) (view : X → Tree) → OneValueBy agree view → (xs ys : List X)
+    → list_tree view Empty xs ≡ list_tree view Empty ys → ListsAgree agree xs ys
 lists_agree agree view once xs ys e =
     let left = parts_of_list view Empty xs in
     let right = parts_of_list view Empty ys in
@@ -87,11 +93,13 @@ equal_lists [] (y ∷ ys) a = absurd a
 equal_lists (x ∷ xs) [] a = absurd a
 equal_lists (x ∷ xs) (y ∷ ys) a = let rest = equal_lists xs ys a.1 in cc (a.0, rest)
 
-pub one_list : {X : Type 0} (view : X → Tree) → OneValue view → (xs ys : List X) → list_tree view Empty xs ≡ list_tree view Empty ys → xs ≡ ys
+pub one_list : {X : Type 0} (view : X → Tree) → OneValue view → (xs ys : List X)
+    → list_tree view Empty xs ≡ list_tree view Empty ys → xs ≡ ys
 one_list view once xs ys e = equal_lists xs ys (lists_agree ◌≡◌ view once xs ys e)
 
 -- optional parts of one tree
-pub options_agree : {X : Type 0} (agree : X → X → Type 0) (view : X → Tree) → OneValueBy agree view → OneValueBy (OptionsAgree agree) (optional_tree view)
+pub options_agree : {X : Type 0} (agree : X → X → Type 0) (view : X → Tree) → OneValueBy agree view
+    → OneValueBy (OptionsAgree agree) (optional_tree view)
 options_agree agree view once None None e = tt
 options_agree agree view once None (Some y) e = absurd (absent_not_present e)
 options_agree agree view once (Some x) None e = absurd (present_not_absent e)
@@ -142,11 +150,16 @@ one_first_arc (Name x) (Name y) e = ap Name (leaf_same (second_same e))
 pub one_object_identifier : OneValueBy IdentifiersAgree object_identifier_tree
 one_object_identifier x y e =
     let brace = pair_same e in
-    let first = pair_same brace.1 in
-    (leaf_same brace.0, one_first_arc x.first y.first first.0, one_list arc_tree one_arc x.others.items y.others.items (pair_same first.1).0)
+    let first = pair_same brace.1 in (
+      leaf_same brace.0,
+      one_first_arc x.first y.first first.0,
+      one_list arc_tree one_arc x.others.items y.others.items (pair_same first.1).0,
+    )
 
 -- Values that agree have one tree: of lists and optional parts, given that it holds of their parts.
-pub lists_alike : {X : Type 0} (agree : X → X → Type 0) (view : X → Tree) → OneTreeBy agree view → (xs ys : List X) (before other : Tree) → before ≡ other → ListsAgree agree xs ys → list_tree view before xs ≡ list_tree view other ys
+pub lists_alike : {X : Type 0} (agree : X → X → Type 0) (view : X → Tree) → OneTreeBy agree view
+    → (xs ys : List X) (before other : Tree) → before ≡ other → ListsAgree agree xs ys
+    → list_tree view before xs ≡ list_tree view other ys
 lists_alike agree view same [] [] before other e a = e
 lists_alike agree view same [] (y ∷ ys) before other e a = absurd a
 lists_alike agree view same (x ∷ xs) [] before other e a = absurd a
@@ -154,7 +167,8 @@ lists_alike agree view same (x ∷ xs) (y ∷ ys) before other e a =
     let last = same x y a.0 in
     lists_alike agree view same xs ys (After before (view x)) (After other (view y)) (λ i. After (e i) (last i)) a.1
 
-pub options_alike : {X : Type 0} (agree : X → X → Type 0) (view : X → Tree) → OneTreeBy agree view → OneTreeBy (OptionsAgree agree) (optional_tree view)
+pub options_alike : {X : Type 0} (agree : X → X → Type 0) (view : X → Tree) → OneTreeBy agree view
+    → OneTreeBy (OptionsAgree agree) (optional_tree view)
 options_alike agree view same None None a = refl
 options_alike agree view same None (Some y) a = absurd a
 options_alike agree view same (Some x) None a = absurd a

@@ -1,6 +1,7 @@
 -- Form: what the texts of the compiler's grammars are made of, and Tree: what such a text says
 -- (X.722, section 8; X.680, section 5).
-use Rattle.std.specs.Prelude.{ℕ, zero, suc, Bool, true, false, List, Option, None, Some, is_some, is_none, ◌&&◌, not, ◌||◌}
+use Rattle.std.specs.Prelude.{ℕ, zero, suc, Bool, true, false, List, Option, None, Some, is_some, is_none, ◌&&◌, not}
+use Rattle.std.specs.Prelude.{◌||◌}
 use Rattle.token_grammar.specs.declared.token.Token.{Token}
 
 -- what the tokens of a form say

@@ -27,17 +27,20 @@ pub record IsFault (tokens : List Token) (grammar : ℕ → Form) (on : Token �
 
 -- The tokens from i to k spell the form, with the tree a. They spell it in no other way, but where
 -- the form goes on with a token of `on`; and it doesn't go on past k.
-pub record IsSpelt (tokens : List Token) (grammar : ℕ → Form) (on : Token → Bool) (f : Form) (i : ℕ) (a : Tree) (k : ℕ) : Type 0 where
+pub record IsSpelt (tokens : List Token) (grammar : ℕ → Form) (on : Token → Bool) (f : Form) (i : ℕ) (a : Tree)
+    (k : ℕ) : Type 0 where
   pub spelt : Spells tokens grammar f i k a
   pub only : (j : ℕ) (b : Tree) → Spells tokens grammar f i j b → ((j ≡ k) × (b ≡ a)) ⊎ At tokens j on
   pub furthest : (j : ℕ) → Begins tokens grammar f i j → j ≤ k
 
 -- a refusal for syntax has the place of the fault
-pub record Fails (tokens : List Token) (grammar : ℕ → Form) (on : Token → Bool) (f : Form) (i : ℕ) (e : SyntaxRefusal) : Type 0 where
+pub record Fails (tokens : List Token) (grammar : ℕ → Form) (on : Token → Bool) (f : Form) (i : ℕ)
+    (e : SyntaxRefusal) : Type 0 where
   pub fault : (k : ℕ) → e ≡ Syntax k → IsFault tokens grammar on f i k
 
 -- What a reader answers for the form from i. `view` is the tree of a value.
-abbrev pub Reads : {X : Type 0} → List Token → (ℕ → Form) → (Token → Bool) → Form → ℕ → (X → Tree) → Result (X × ℕ) SyntaxRefusal → Type 0
+abbrev pub Reads : {X : Type 0} → List Token → (ℕ → Form) → (Token → Bool) → Form → ℕ → (X → Tree)
+    → Result (X × ℕ) SyntaxRefusal → Type 0
 Reads tokens grammar on f i view (Ok x) = IsSpelt tokens grammar on f i (view x.0) x.1
 Reads tokens grammar on f i view (Err e) = Fails tokens grammar on f i e
 

@@ -11,7 +11,8 @@ use Rattle.token_grammar.specs.declared.object_identifier.Arc.TheVariants.{Numbe
 use Rattle.token_grammar.specs.declared.object_identifier.FirstArc.{FirstArc}
 use Rattle.token_grammar.specs.declared.object_identifier.FirstArc.TheVariants.{OfArc, Name}
 use Rattle.token_grammar.specs.declared.object_identifier.ObjectIdentifier.{ObjectIdentifier}
-use Rattle.token_grammar.specs.Form.{Form, Tree, Marks, Keep, Then, Or, Maybe, Many, Bare, Leaf, Pair, First, Second, Empty, After, option_tree}
+use Rattle.token_grammar.specs.Form.{Form, Tree, Marks, Keep, Then, Or, Maybe, Many, Bare, Leaf, Pair, First, Second}
+use Rattle.token_grammar.specs.Form.{Empty, After, option_tree}
 use Rattle.token_grammar.specs.TokenTests.{is_word_of, is_sign_of, is_label, is_name, is_number, is_string}
 
 -- keywords in a row
@@ -86,4 +87,5 @@ abbrev pub object_identifier : Form
 object_identifier = Then (Keep (is_sign_of (codes "{"))) (Then first_arc (Then (Many Empty arc) (sign (codes "}"))))
 
 abbrev pub object_identifier_tree : ObjectIdentifier → Tree
-object_identifier_tree x = Pair (Leaf x.brace) (Pair (first_arc_tree x.first) (Pair (vector_tree arc_tree x.others) Bare))
+object_identifier_tree x =
+    Pair (Leaf x.brace) (Pair (first_arc_tree x.first) (Pair (vector_tree arc_tree x.others) Bare))

@@ -44,7 +44,13 @@ is_label token = (token.kind == word_kind) && list_any is_lower_case token.text
 
 -- the words of ASN.1 that name no module, type, value, component or number
 abbrev pub reserved_words : List (List ℕ)
-reserved_words = codes "DEFINITIONS" ∷ codes "EXPLICIT" ∷ codes "IMPLICIT" ∷ codes "TAGS" ∷ codes "BEGIN" ∷ codes "EXPORTS" ∷ codes "IMPORTS" ∷ codes "FROM" ∷ codes "END" ∷ codes "BOOLEAN" ∷ codes "INTEGER" ∷ codes "ENUMERATED" ∷ codes "BIT" ∷ codes "STRING" ∷ codes "OCTET" ∷ codes "NULL" ∷ codes "OBJECT" ∷ codes "IDENTIFIER" ∷ codes "IA5String" ∷ codes "PrintableString" ∷ codes "NumericString" ∷ codes "VisibleString" ∷ codes "GraphicString" ∷ codes "GeneralizedTime" ∷ codes "SEQUENCE" ∷ codes "SET" ∷ codes "OF" ∷ codes "CHOICE" ∷ codes "ANY" ∷ codes "DEFINED" ∷ codes "BY" ∷ codes "OPTIONAL" ∷ codes "DEFAULT" ∷ codes "SIZE" ∷ codes "TRUE" ∷ codes "FALSE" ∷ codes "UNIVERSAL" ∷ codes "APPLICATION" ∷ codes "PRIVATE" ∷ []
+reserved_words = codes "DEFINITIONS" ∷ codes "EXPLICIT" ∷ codes "IMPLICIT" ∷ codes "TAGS" ∷ codes "BEGIN" ∷ codes
+    "EXPORTS" ∷ codes "IMPORTS" ∷ codes "FROM" ∷ codes "END" ∷ codes "BOOLEAN" ∷ codes "INTEGER" ∷ codes "ENUMERATED"
+    ∷ codes "BIT" ∷ codes "STRING" ∷ codes "OCTET" ∷ codes "NULL" ∷ codes "OBJECT" ∷ codes "IDENTIFIER" ∷ codes
+    "IA5String" ∷ codes "PrintableString" ∷ codes "NumericString" ∷ codes "VisibleString" ∷ codes "GraphicString"
+    ∷ codes "GeneralizedTime" ∷ codes "SEQUENCE" ∷ codes "SET" ∷ codes "OF" ∷ codes "CHOICE" ∷ codes "ANY" ∷ codes
+    "DEFINED" ∷ codes "BY" ∷ codes "OPTIONAL" ∷ codes "DEFAULT" ∷ codes "SIZE" ∷ codes "TRUE" ∷ codes "FALSE" ∷ codes
+    "UNIVERSAL" ∷ codes "APPLICATION" ∷ codes "PRIVATE" ∷ []
 
 -- a name of a module, a type, a value, a component or a number
 abbrev pub is_name : Token → Bool

@@ -1,6 +1,7 @@
 -- Leads: one turn of a list, a repeat or clauses in any order. And what a reader of one clause answers
 -- (docs/PROFILE.md, section 2).
-use Rattle.std.specs.Prelude.{◌≡◌, ℕ, ◌≤◌, ◌<◌, Bool, true, List, [], ◌∷◌, ◌++◌, Option, None, Some, ◌⊎◌, Result, Ok, Err, length, codes}
+use Rattle.std.specs.Prelude.{◌≡◌, ℕ, ◌≤◌, ◌<◌, Bool, true, List, [], ◌∷◌, ◌++◌, Option, None, Some, ◌⊎◌, Result, Ok}
+use Rattle.std.specs.Prelude.{Err, length, codes}
 use Rattle.token_grammar.specs.declared.token.Token.{Token}
 use Rattle.token_grammar.specs.declared.syntax_refusal.SyntaxRefusal.{SyntaxRefusal}
 use Rattle.token_grammar.specs.declared.syntax_refusal.SyntaxRefusal.TheVariants.{Memory}
@@ -12,7 +13,8 @@ use Rattle.token_grammar.specs.Outcome.{closed, Stops, IsSpelt, Fails}
 
 -- Reading `left` from j is reading `whole` from i: what was read between is the front of each
 -- spelling, but of those behind which a token of `on` stands.
-pub record Leads (tokens : List Token) (grammar : ℕ → Form) (on : Token → Bool) (whole : Form) (i : ℕ) (left : Form) (j : ℕ) : Type 0 where
+pub record Leads (tokens : List Token) (grammar : ℕ → Form) (on : Token → Bool) (whole : Form) (i : ℕ) (left : Form)
+    (j : ℕ) : Type 0 where
   pub order : i ≤ j
   pub spells : (k : ℕ) (a : Tree) → Spells tokens grammar left j k a → Spells tokens grammar whole i k a
   pub only : (k : ℕ) (a : Tree) → Spells tokens grammar whole i k a → Spells tokens grammar left j k a ⊎ At tokens k on
@@ -24,7 +26,8 @@ pub record AllStop (tokens : List Token) (grammar : ℕ → Form) (s : Slots) (i
   pub each : (m : ℕ) → is_open m s ≡ true → Stops tokens grammar closed (form_at m s) i k
 
 -- A clause was read from i to k: the clauses were `before`, and then `after`.
-pub record IsTaken (tokens : List Token) (grammar : ℕ → Form) (on : Token → Bool) (before after : Slots) (i k : ℕ) : Type 0 where
+pub record IsTaken (tokens : List Token) (grammar : ℕ → Form) (on : Token → Bool) (before after : Slots)
+    (i k : ℕ) : Type 0 where
   pub leads : Leads tokens grammar on (AnyOrder before) i (AnyOrder after) k
   pub forward : i < k
   pub within : i < length tokens
@@ -35,7 +38,8 @@ pub record IsOver (tokens : List Token) (grammar : ℕ → Form) (before after :
   pub none : AllStop tokens grammar before i i
 
 -- what a reader of the next clause answers: the place behind it, where one comes
-abbrev pub TakesClause : List Token → (ℕ → Form) → (Token → Bool) → Slots → Slots → ℕ → Result (Option ℕ) SyntaxRefusal → Type 0
+abbrev pub TakesClause : List Token → (ℕ → Form) → (Token → Bool) → Slots → Slots → ℕ
+    → Result (Option ℕ) SyntaxRefusal → Type 0
 TakesClause tokens grammar on before after i (Ok (Some k)) = IsTaken tokens grammar on before after i k
 TakesClause tokens grammar on before after i (Ok None) = IsOver tokens grammar before after i
 TakesClause tokens grammar on before after i (Err e) = Fails tokens grammar on (AnyOrder before) i e

@@ -3,7 +3,8 @@
 ghost use Rattle.std.specs.Prelude.{◌≡◌, ℕ};
 ghost use Rattle.token_grammar.specs.Form.{Form, Maybe, Pair, Leaf};
 ghost use Rattle.token_grammar.specs.Outcome.{Reads, closed};
-ghost use Rattle.token_grammar.specs.Parts.{document_name, document_name_tree, label_reference, label_reference_tree, optional_tree};
+ghost use Rattle.token_grammar.specs.Parts.{document_name, document_name_tree, label_reference, label_reference_tree};
+ghost use Rattle.token_grammar.specs.Parts.{optional_tree};
 ghost use Rattle.token_grammar.specs.TokenTests.{is_string};
 
 use super::syntax_refusal::SyntaxRefusal;
@@ -27,7 +28,8 @@ fn read_document_name(
     tokens: &[Token],
     at: usize,
 ) -> Result<(Option<Token>, usize), SyntaxRefusal>
-    ensures { (grammar : ℕ → Form) → Reads tokens.now grammar is_string (Maybe document_name) at (optional_tree document_name_tree) result }
+    ensures { (grammar : ℕ → Form)
+        → Reads tokens.now grammar is_string (Maybe document_name) at (optional_tree document_name_tree) result }
 {
     if !is_string_at(tokens, at) {
         return Ok((None, at));

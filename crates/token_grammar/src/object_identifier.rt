@@ -3,7 +3,8 @@
 ghost use Rattle.std.specs.Prelude.{◌≡◌, ℕ, codes};
 ghost use Rattle.token_grammar.specs.Form.{Form, Many, Empty};
 ghost use Rattle.token_grammar.specs.Outcome.{Reads, closed};
-ghost use Rattle.token_grammar.specs.Parts.{arc, arc_tree, first_arc, first_arc_tree, object_identifier, object_identifier_tree, vector_tree};
+ghost use Rattle.token_grammar.specs.Parts.{arc, arc_tree, first_arc, first_arc_tree, object_identifier};
+ghost use Rattle.token_grammar.specs.Parts.{object_identifier_tree, vector_tree};
 ghost use Rattle.token_grammar.specs.TokenTests.{is_sign_of, is_arc_start};
 
 use super::syntax_refusal::SyntaxRefusal;
@@ -67,7 +68,8 @@ fn read_first_arc(
     tokens: &[Token],
     at: usize,
 ) -> Result<(FirstArc, usize), SyntaxRefusal>
-    ensures { (grammar : ℕ → Form) → Reads tokens.now grammar (is_sign_of (codes "(")) first_arc at first_arc_tree result }
+    ensures { (grammar : ℕ → Form)
+        → Reads tokens.now grammar (is_sign_of (codes "(")) first_arc at first_arc_tree result }
 {
     if is_name_without(tokens, at, "(") {
         let (name, next) = read_name(alloc, tokens, at)?;
@@ -83,7 +85,8 @@ pub fn read_arcs(
     tokens: &[Token],
     at: usize,
 ) -> Result<(Vec<Arc>, usize), SyntaxRefusal>
-    ensures { (grammar : ℕ → Form) → Reads tokens.now grammar is_arc_start (Many Empty arc) at (vector_tree arc_tree) result }
+    ensures { (grammar : ℕ → Form)
+        → Reads tokens.now grammar is_arc_start (Many Empty arc) at (vector_tree arc_tree) result }
 {
     let mut arcs = Vec::new(alloc);
     let mut next = at;
@@ -101,7 +104,8 @@ pub fn read_object_identifier(
     tokens: &[Token],
     at: usize,
 ) -> Result<(ObjectIdentifier, usize), SyntaxRefusal>
-    ensures { (grammar : ℕ → Form) → Reads tokens.now grammar closed object_identifier at object_identifier_tree result }
+    ensures { (grammar : ℕ → Form)
+        → Reads tokens.now grammar closed object_identifier at object_identifier_tree result }
 {
     let (brace, next) = read_sign(alloc, tokens, at, "{")?;
     let (first, next) = read_first_arc(alloc, tokens, next)?;

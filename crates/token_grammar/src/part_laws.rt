@@ -1,7 +1,8 @@
 //! What holds of each part of a template and its tree (X.722, section 8.2).
 
 ghost use Rattle.token_grammar.specs.Form.{Leaf};
-ghost use Rattle.token_grammar.specs.Parts.{arc_tree, document_name_tree, first_arc_tree, label_reference_tree, object_identifier_tree, qualified_name_tree};
+ghost use Rattle.token_grammar.specs.Parts.{arc_tree, document_name_tree, first_arc_tree, label_reference_tree};
+ghost use Rattle.token_grammar.specs.Parts.{object_identifier_tree, qualified_name_tree};
 ghost use Rattle.token_grammar.specs.PartLaws.{IdentifiersAgree, OneTreeBy, OneValue, OneValueBy};
 
 /// No two values of a part have one tree. Two object identifiers of one tree agree in all but the memory

@@ -1,7 +1,8 @@
 //! A token of a document: its kind, its place and its octets.
 
 ghost use Rattle.std.specs.Prelude.{◌≡◌};
-ghost use Rattle.token_grammar.specs.Kinds.{word_kind, number_kind, string_kind, hexadecimal_kind, binary_kind, sign_kind};
+ghost use Rattle.token_grammar.specs.Kinds.{word_kind, number_kind, string_kind, hexadecimal_kind, binary_kind};
+ghost use Rattle.token_grammar.specs.Kinds.{sign_kind};
 
 use super::bytes::Bytes;
 

@@ -1,13 +1,15 @@
 //! Readers of single tokens and of keywords in a row (X.722, section 8.2). Each answers the place behind
 //! what it read, or the one place of the fault. A place past the end of the tokens has no token.
 
-ghost use Rattle.std.specs.Prelude.{◌≡◌, ◌+◌, ℕ, Bool, List, [], ◌∷◌, true, false, Some, None, slice_get, map, MatchOption, IfOk};
+ghost use Rattle.std.specs.Prelude.{◌≡◌, ◌+◌, ℕ, Bool, List, [], ◌∷◌, true, false, Some, None, slice_get, map};
+ghost use Rattle.std.specs.Prelude.{MatchOption, IfOk};
 ghost use Rattle.std.specs.List.{list_any};
 ghost use Rattle.token_grammar.specs.declared.token.Token.{Token};
 ghost use Rattle.token_grammar.specs.Form.{Form, Marks, Keep, Bare, Leaf};
 ghost use Rattle.token_grammar.specs.Spelling.{passes};
 ghost use Rattle.token_grammar.specs.Outcome.{Reads, Skips, closed};
-ghost use Rattle.token_grammar.specs.TokenTests.{is_word_of, is_sign_of, is_label, is_name, is_word, is_number, is_string};
+ghost use Rattle.token_grammar.specs.TokenTests.{is_word_of, is_sign_of, is_label, is_name, is_word, is_number};
+ghost use Rattle.token_grammar.specs.TokenTests.{is_string};
 
 use super::syntax_refusal::SyntaxRefusal;
 use super::token::Token;
@@ -76,7 +78,8 @@ pub fn skip_sign(tokens: &[Token], at: usize, sign: &str) -> Result<usize, Synta
 
 /// The place behind the sign, where it stands at a place.
 pub fn place_behind(tokens: &[Token], at: usize, sign: &str) -> Option<usize>
-    ensures { MatchOption result (passes (is_sign_of sign.now) (slice_get tokens.now at) ≡ false) (λ next. (passes (is_sign_of sign.now) (slice_get tokens.now at) ≡ true) × (next ≡ at + 1)) }
+    ensures { MatchOption result (passes (is_sign_of sign.now) (slice_get tokens.now at) ≡ false)
+        (λ next. (passes (is_sign_of sign.now) (slice_get tokens.now at) ≡ true) × (next ≡ at + 1)) }
 {
     if let Some((token, next)) = token_at(tokens, at) {
         if is_sign_of(token, sign) {
@@ -88,7 +91,8 @@ pub fn place_behind(tokens: &[Token], at: usize, sign: &str) -> Option<usize>
 
 /// Goes past the words, which stand in a row.
 pub fn skip_words(tokens: &[Token], at: usize, words: &[&str]) -> Result<usize, SyntaxRefusal>
-    ensures { (grammar : ℕ → Form) → Skips tokens.now grammar closed (Marks (map (λ word. is_word_of word.now) words.now)) at Bare result }
+    ensures { (grammar : ℕ → Form)
+        → Skips tokens.now grammar closed (Marks (map (λ word. is_word_of word.now) words.now)) at Bare result }
 {
     let mut next = at;
     for word in words {
@@ -104,7 +108,9 @@ pub fn read_one_of(
     at: usize,
     words: &[&str],
 ) -> Result<(Token, usize), SyntaxRefusal>
-    ensures { (grammar : ℕ → Form) → Reads tokens.now grammar closed (Keep (λ token. list_any (λ word. is_word_of word.now token) words.now)) at Leaf result }
+    ensures { (grammar : ℕ → Form)
+        → Reads tokens.now grammar closed (Keep (λ token. list_any (λ word. is_word_of word.now token) words.now)) at
+        Leaf result }
 {
     keep_token(alloc, tokens, at, is_one_of_at(tokens, at, words))
 }

@@ -3,7 +3,8 @@
 ghost use Rattle.std.specs.Prelude.{◌≡◌, ◌+◌, ◌&&◌, not, ℕ, Some, None, MatchOption, slice_get};
 ghost use Rattle.std.specs.List.{list_any};
 ghost use Rattle.token_grammar.specs.Spelling.{passes};
-ghost use Rattle.token_grammar.specs.TokenTests.{is_word_of, is_sign_of, is_one_of, is_label, is_name, is_word, is_number, is_string, is_lower_case, is_arc_start, reserved_words};
+ghost use Rattle.token_grammar.specs.TokenTests.{is_word_of, is_sign_of, is_one_of, is_label, is_name, is_word};
+ghost use Rattle.token_grammar.specs.TokenTests.{is_number, is_string, is_lower_case, is_arc_start, reserved_words};
 
 use super::token::{NUMBER, SIGN, STRING, Token, WORD};
 
@@ -107,7 +108,8 @@ pub fn is_name(token: &Token) -> bool
 
 /// The token at a place and the place behind it, where there is one.
 pub fn token_at(tokens: &[Token], at: usize) -> Option<(&Token, usize)>
-    ensures { MatchOption result (slice_get tokens.now at ≡ None) (λ found. (slice_get tokens.now at ≡ Some found.0.now) × (found.1 ≡ at + 1)) }
+    ensures { MatchOption result (slice_get tokens.now at ≡ None) (λ found. (slice_get tokens.now at ≡ Some found.0.now)
+        × (found.1 ≡ at + 1)) }
 {
     if at < tokens.len() {
         Some((&tokens[at], at + 1))
@@ -128,7 +130,8 @@ pub fn is_word_at(tokens: &[Token], at: usize, word: &str) -> bool
 
 /// Whether the token at a place is there and is one of the words.
 pub fn is_one_of_at(tokens: &[Token], at: usize, words: &[&str]) -> bool
-    ensures { result ≡ passes (λ token. list_any (λ word. is_word_of word.now token) words.now) (slice_get tokens.now at) }
+    ensures { result ≡ passes (λ token. list_any (λ word. is_word_of word.now token) words.now)
+        (slice_get tokens.now at) }
 {
     match tokens.get(at) {
         Some(token) => is_one_of(token, words),
@@ -198,7 +201,8 @@ pub fn is_string_at(tokens: &[Token], at: usize) -> bool
 
 /// Whether a label stands at a place and the word behind it: a template of the kind that the word says.
 pub fn is_template_at(tokens: &[Token], at: usize, word: &str) -> bool
-    ensures { result ≡ (passes is_label (slice_get tokens.now at) && passes (is_word_of word.now) (slice_get tokens.now (at + 1))) }
+    ensures { result ≡ (passes is_label (slice_get tokens.now at) && passes (is_word_of word.now)
+        (slice_get tokens.now (at + 1))) }
 {
     match token_at(tokens, at) {
         Some((token, next)) => is_label(token) && is_word_at(tokens, next, word),
@@ -208,7 +212,8 @@ pub fn is_template_at(tokens: &[Token], at: usize, word: &str) -> bool
 
 /// Whether a name stands at a place and another token than the sign behind it, or none.
 pub fn is_name_without(tokens: &[Token], at: usize, sign: &str) -> bool
-    ensures { result ≡ (passes is_name (slice_get tokens.now at) && not (passes (is_sign_of sign.now) (slice_get tokens.now (at + 1)))) }
+    ensures { result ≡ (passes is_name (slice_get tokens.now at) && not
+        (passes (is_sign_of sign.now) (slice_get tokens.now (at + 1)))) }
 {
     match token_at(tokens, at) {
         Some((token, next)) => is_name(token) && !is_sign_at(tokens, next, sign),
@@ -228,7 +233,8 @@ pub fn is_arc_at(tokens: &[Token], at: usize) -> bool
 
 /// Whether two words stand in a row at a place.
 pub fn is_pair_at(tokens: &[Token], at: usize, first: &str, second: &str) -> bool
-    ensures { result ≡ (passes (is_word_of first.now) (slice_get tokens.now at) && passes (is_word_of second.now) (slice_get tokens.now (at + 1))) }
+    ensures { result ≡ (passes (is_word_of first.now) (slice_get tokens.now at) && passes (is_word_of second.now)
+        (slice_get tokens.now (at + 1))) }
 {
     match token_at(tokens, at) {
         Some((token, next)) => is_word_of(token, first) && is_word_at(tokens, next, second),
@@ -238,7 +244,9 @@ pub fn is_pair_at(tokens: &[Token], at: usize, first: &str, second: &str) -> boo
 
 /// Whether a label stands at a place and two words in a row behind it.
 pub fn is_pair_template_at(tokens: &[Token], at: usize, first: &str, second: &str) -> bool
-    ensures { result ≡ (passes is_label (slice_get tokens.now at) && (passes (is_word_of first.now) (slice_get tokens.now (at + 1)) && passes (is_word_of second.now) (slice_get tokens.now (at + 1 + 1)))) }
+    ensures { result ≡ (passes is_label (slice_get tokens.now at)
+        && (passes (is_word_of first.now) (slice_get tokens.now (at + 1)) && passes (is_word_of second.now)
+        (slice_get tokens.now (at + 1 + 1)))) }
 {
     match token_at(tokens, at) {
         Some((token, next)) => is_label(token) && is_pair_at(tokens, next, first, second),

@@ -5,7 +5,8 @@ use Rattle.token_grammar.specs.TokenTests.{is_word_of}
 use Rattle.token_grammar.specs.Turns.{Leads}
 use Rattle.gdmo_members.specs.Clauses.{parameters, comma, reference}
 use Rattle.gdmo_members.specs.Templates.{templates, attribute_clauses, parameter_clauses}
-use Rattle.gdmo_members.specs.MemberTrees.{attribute_slots, parameter_slots, parameter_reference_tree, is_attribute_clause, is_parameter_clause}
+use Rattle.gdmo_members.specs.MemberTrees.{attribute_slots, parameter_slots, parameter_reference_tree}
+use Rattle.gdmo_members.specs.MemberTrees.{is_attribute_clause, is_parameter_clause}
 use Rattle.gdmo_members.proofs.+templates.Given as goal
 
 -- the tokens that are left, and for one place the order in which the functions call one another
@@ -47,21 +48,27 @@ decreases-parameter::read_parameter_syntax l = 4 * (length l.tokens.now - l.at) 
 
 -- the clauses that didn't come yet are left to be read
 abbrev pub invariant-attribute::read_attribute_clauses-turns : goal.invariant-attribute::read_attribute_clauses-turns
-invariant-attribute::read_attribute_clauses-turns l = Leads l.tokens templates is_attribute_clause (AnyOrder attribute_clauses) l.at (AnyOrder (attribute_slots l.draft)) l.next
+invariant-attribute::read_attribute_clauses-turns l =
+    Leads l.tokens templates is_attribute_clause (AnyOrder attribute_clauses) l.at
+    (AnyOrder (attribute_slots l.draft)) l.next
 
 abbrev pub decreases-attribute::read_attribute_clauses-turns : goal.decreases-attribute::read_attribute_clauses-turns
 decreases-attribute::read_attribute_clauses-turns l = length l.tokens - l.next
 
 -- the clauses that didn't come yet are left to be read
 abbrev pub invariant-parameter::read_parameter_clauses-turns : goal.invariant-parameter::read_parameter_clauses-turns
-invariant-parameter::read_parameter_clauses-turns l = Leads l.tokens templates is_parameter_clause (AnyOrder parameter_clauses) l.at (AnyOrder (parameter_slots l.draft)) l.next
+invariant-parameter::read_parameter_clauses-turns l =
+    Leads l.tokens templates is_parameter_clause (AnyOrder parameter_clauses) l.at
+    (AnyOrder (parameter_slots l.draft)) l.next
 
 abbrev pub decreases-parameter::read_parameter_clauses-turns : goal.decreases-parameter::read_parameter_clauses-turns
 decreases-parameter::read_parameter_clauses-turns l = length l.tokens - l.next
 
 -- the references from the next one on are left to be read
 abbrev pub invariant-parameter::read_parameter_list-turns : goal.invariant-parameter::read_parameter_list-turns
-invariant-parameter::read_parameter_list-turns l = Leads l.tokens templates (either comma (is_word_of (codes "PARAMETER"))) (Listed comma Empty (reference parameters)) l.at (Listed comma (list_tree parameter_reference_tree Empty l.list.items) (reference parameters)) l.next
+invariant-parameter::read_parameter_list-turns l =
+    Leads l.tokens templates (either comma (is_word_of (codes "PARAMETER"))) (Listed comma Empty (reference parameters))
+    l.at (Listed comma (list_tree parameter_reference_tree Empty l.list.items) (reference parameters)) l.next
 
 abbrev pub decreases-parameter::read_parameter_list-turns : goal.decreases-parameter::read_parameter_list-turns
 decreases-parameter::read_parameter_list-turns l = length l.tokens - l.next

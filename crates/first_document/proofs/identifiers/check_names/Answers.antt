@@ -12,7 +12,8 @@ returns-in_err-identifiers-clause-outside c =
     λ e labels ids.
     let class = c.args.class.now in
     let known = record_labels c.args.records.now in
-    c.in_err-identifiers.ensures.outside (first_of (search rules, grind arith)) (pairs_tail class.package.text known (pairs_tail class.label.text (class.package.text ∷ known) labels))
+    c.in_err-identifiers.ensures.outside (first_of (search rules, grind arith))
+    (pairs_tail class.package.text known (pairs_tail class.label.text (class.package.text ∷ known) labels))
 
 pub returns-then-are_free-clause-labels : goal.returns-then-are_free-clause-labels
 returns-then-are_free-clause-labels c =
@@ -24,14 +25,17 @@ returns-then-are_free-clause-labels c =
     let identifiers = c.in_ok-identifiers.identifiers in
     let free = c.are_free.ensures.0 c.if-are_free.true in
     let index = c.in_ok-identifiers.ensures.found in
-    let no_label = lacks identifiers records label index (ap (found_under identifiers) (sym c.in_ok-class_label.ensures) ∙ free.1) in
-    let no_package = lacks identifiers records package_label index (ap (found_under identifiers) (sym c.in_ok-package_label.ensures) ∙ free.2) in
+    let no_label = lacks identifiers records label index
+    (ap (found_under identifiers) (sym c.in_ok-class_label.ensures) ∙ free.1) in
+    let no_package = lacks identifiers records package_label index
+    (ap (found_under identifiers) (sym c.in_ok-package_label.ensures) ∙ free.2) in
     let other : Contains (package_label ∷ known) label → ⊥ =
     λ at. elim (first_or_later package_label label known at) [
       | inl same ↦ free.0 (c.in_ok-class_label.ensures ∙ sym same ∙ sym c.in_ok-package_label.ensures)
       | inr later ↦ no_label later
     ] in
-    pairs_cons label (package_label ∷ known) other (pairs_cons package_label known no_package c.in_ok-identifiers.ensures.distinct)
+    pairs_cons label (package_label ∷ known) other
+    (pairs_cons package_label known no_package c.in_ok-identifiers.ensures.distinct)
 
 pub returns-else-are_free-clause-outside : goal.returns-else-are_free-clause-outside
 returns-else-are_free-clause-outside c =
@@ -44,8 +48,12 @@ returns-else-are_free-clause-outside c =
     let identifiers = c.in_ok-identifiers.identifiers in
     let index = c.in_ok-identifiers.ensures.found in
     let rest = pairs_head label (package_label ∷ known) labels in
-    let no_label = ap (found_under identifiers) c.in_ok-class_label.ensures ∙ is_lacking identifiers records label index (λ at. rest (there package_label label known at)) in
-    let no_package = ap (found_under identifiers) c.in_ok-package_label.ensures ∙ is_lacking identifiers records package_label index (pairs_head package_label known (pairs_tail label (package_label ∷ known) labels)) in
+    let no_label = ap (found_under identifiers) c.in_ok-class_label.ensures
+    ∙ is_lacking identifiers records label index (λ at. rest (there package_label label known at)) in
+    let no_package = ap (found_under identifiers) c.in_ok-package_label.ensures
+    ∙ is_lacking identifiers records package_label index
+    (pairs_head package_label known (pairs_tail label (package_label ∷ known) labels)) in
     let apart : c.in_ok-class_label.class_label ≡ c.in_ok-package_label.package_label → ⊥ =
-    λ same. rest (subst (Contains (package_label ∷ known)) (sym (sym c.in_ok-class_label.ensures ∙ same ∙ c.in_ok-package_label.ensures)) (here package_label known)) in
+    λ same. rest (subst (Contains (package_label ∷ known))
+    (sym (sym c.in_ok-class_label.ensures ∙ same ∙ c.in_ok-package_label.ensures)) (here package_label known)) in
     false≢true (sym c.if-are_free.false ∙ c.are_free.ensures.1 (apart, no_label, no_package))

@@ -5,4 +5,5 @@ use Rattle.first_document.proofs.LabelLaws.{Gone}
 use Rattle.first_document.proofs.label_sets.check_given.Given as goal
 
 abbrev pub invariant-loop-given : goal.invariant-loop-given
-invariant-loop-given l = Gone l.fn.labels l.labels (given_texts (l.root.named_by ∷ take l.given-index l.root.others.items))
+invariant-loop-given l =
+    Gone l.fn.labels l.labels (given_texts (l.root.named_by ∷ take l.given-index l.root.others.items))

@@ -7,7 +7,8 @@ use Rattle.first_document.specs.DocumentForm.{is_mark_of}
 use Rattle.first_document.proofs.marks.skip_mark.Goals as goal
 
 pub returns-in-Some : goal.returns-in-Some
-returns-in-Some c = λ grammar. spelt_to (sym c.in-Some.ensures.1) (mark_spelt (sym c.is_mark_at.ensures ∙ c.if-is_mark_at.true))
+returns-in-Some c = λ grammar. spelt_to (sym c.in-Some.ensures.1)
+    (mark_spelt (sym c.is_mark_at.ensures ∙ c.if-is_mark_at.true))
 
 pub returns-else-is_mark_at : goal.returns-else-is_mark_at
 returns-else-is_mark_at c = λ grammar. fails_at (marks_fault (sym c.is_mark_at.ensures ∙ c.if-is_mark_at.false))

@@ -7,10 +7,14 @@ use Rattle.token_grammar.proofs.Exits.{exit_skips}
 use Rattle.first_document.proofs.marks.skip_marks.Goals as goal
 
 pub loop-text-preserved : goal.loop-text-preserved
-loop-text-preserved c = λ grammar. words_lead (λ text. is_mark_of text.now) c.args.texts.now c.loop-text.text-index _ c.loop-text-test.true (c.loop-text.invariant grammar) (c.in_ok-next.ensures grammar)
+loop-text-preserved c = λ grammar. words_lead (λ text. is_mark_of text.now) c.args.texts.now c.loop-text.text-index _
+    c.loop-text-test.true (c.loop-text.invariant grammar) (c.in_ok-next.ensures grammar)
 
 pub returns-in_err-next : goal.returns-in_err-next
-returns-in_err-next c = λ grammar. exit_skips Bare c.from_residual.result c.from_residual.ensures.1 (fails_by (λ k. words_fault (λ text. is_mark_of text.now) c.args.texts.now c.loop-text.text-index _ c.loop-text-test.true (c.loop-text.invariant grammar)) (c.in_err-next.ensures grammar))
+returns-in_err-next c = λ grammar. exit_skips Bare c.from_residual.result c.from_residual.ensures.1
+    (fails_by (λ k. words_fault (λ text. is_mark_of text.now) c.args.texts.now c.loop-text.text-index _
+    c.loop-text-test.true (c.loop-text.invariant grammar)) (c.in_err-next.ensures grammar))
 
 pub returns : goal.returns
-returns c = λ grammar. words_end (λ text. is_mark_of text.now) c.args.texts.now c.loop-text.text-index c.loop-text-test.false (c.loop-text.invariant grammar)
+returns c = λ grammar. words_end (λ text. is_mark_of text.now) c.args.texts.now c.loop-text.text-index
+    c.loop-text-test.false (c.loop-text.invariant grammar)

@@ -7,4 +7,6 @@ use Rattle.first_document.proofs.marks.skip_marks.Given as goal
 
 -- the words and signs from the next one on are left to be read
 abbrev pub invariant-loop-text : goal.invariant-loop-text
-invariant-loop-text l = (grammar : ℕ → Form) → Leads l.tokens grammar closed (Marks (map (λ text. is_mark_of text.now) l.texts)) l.at (Marks (map (λ text. is_mark_of text.now) (drop l.text-index l.texts))) l.next
+invariant-loop-text l = (grammar : ℕ → Form)
+    → Leads l.tokens grammar closed (Marks (map (λ text. is_mark_of text.now) l.texts)) l.at
+    (Marks (map (λ text. is_mark_of text.now) (drop l.text-index l.texts))) l.next

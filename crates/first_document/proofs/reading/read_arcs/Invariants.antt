@@ -8,7 +8,8 @@ use Rattle.first_document.proofs.reading.read_arcs.Given as goal
 
 -- the arcs from the next one on are left to be read
 abbrev pub invariant-turns : goal.invariant-turns
-invariant-turns l = Leads l.tokens no_names is_number (Many Empty (Keep is_number)) l.at (Many (list_tree Leaf Empty l.arcs.items) (Keep is_number)) l.next
+invariant-turns l = Leads l.tokens no_names is_number (Many Empty (Keep is_number)) l.at
+    (Many (list_tree Leaf Empty l.arcs.items) (Keep is_number)) l.next
 
 abbrev pub decreases-turns : goal.decreases-turns
 decreases-turns l = length l.tokens - l.next

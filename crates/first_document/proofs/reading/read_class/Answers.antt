@@ -5,16 +5,28 @@ use Rattle.first_document.specs.DocumentForm.{no_names}
 use Rattle.first_document.proofs.reading.read_class.Goals as goal
 
 pub returns-in_err-label : goal.returns-in_err-label
-returns-in_err-label c = exit_reads _ c.from_residual.result c.from_residual.ensures.1 (fails_front apart_closed (c.in_err-label.ensures no_names))
+returns-in_err-label c =
+    exit_reads _ c.from_residual.result c.from_residual.ensures.1
+    (fails_front apart_closed (c.in_err-label.ensures no_names))
 
 pub returns-in_err-next : goal.returns-in_err-next
-returns-in_err-next c = exit_reads _ c.from_residual-in_err-next.result c.from_residual-in_err-next.ensures.1 (fails_rest (c.in_ok-label.ensures no_names) apart_closed (fails_front apart_closed (c.in_err-next.ensures no_names)))
+returns-in_err-next c = exit_reads _ c.from_residual-in_err-next.result c.from_residual-in_err-next.ensures.1
+    (fails_rest (c.in_ok-label.ensures no_names) apart_closed
+    (fails_front apart_closed (c.in_err-next.ensures no_names)))
 
 pub returns-in_err-package : goal.returns-in_err-package
-returns-in_err-package c = exit_reads _ c.from_residual-in_err-package.result c.from_residual-in_err-package.ensures.1 (fails_rest (c.in_ok-label.ensures no_names) apart_closed (fails_rest (c.in_ok-next.ensures no_names) apart_closed (fails_front apart_closed c.in_err-package.ensures)))
+returns-in_err-package c =
+    exit_reads _ c.from_residual-in_err-package.result c.from_residual-in_err-package.ensures.1
+    (fails_rest (c.in_ok-label.ensures no_names) apart_closed
+    (fails_rest (c.in_ok-next.ensures no_names) apart_closed (fails_front apart_closed c.in_err-package.ensures)))
 
 pub returns-in_err-arcs : goal.returns-in_err-arcs
-returns-in_err-arcs c = exit_reads _ c.from_residual-in_err-arcs.result c.from_residual-in_err-arcs.ensures.1 (fails_rest (c.in_ok-label.ensures no_names) apart_closed (fails_rest (c.in_ok-next.ensures no_names) apart_closed (fails_rest c.in_ok-package.ensures apart_closed c.in_err-arcs.ensures)))
+returns-in_err-arcs c = exit_reads _ c.from_residual-in_err-arcs.result c.from_residual-in_err-arcs.ensures.1
+    (fails_rest (c.in_ok-label.ensures no_names) apart_closed
+    (fails_rest (c.in_ok-next.ensures no_names) apart_closed
+    (fails_rest c.in_ok-package.ensures apart_closed c.in_err-arcs.ensures)))
 
 pub returns : goal.returns
-returns c = spelt_then (c.in_ok-label.ensures no_names) apart_closed (spelt_then (c.in_ok-next.ensures no_names) apart_closed (spelt_then c.in_ok-package.ensures apart_closed c.in_ok-arcs.ensures))
+returns c = spelt_then (c.in_ok-label.ensures no_names) apart_closed
+    (spelt_then (c.in_ok-next.ensures no_names) apart_closed
+    (spelt_then c.in_ok-package.ensures apart_closed c.in_ok-arcs.ensures))

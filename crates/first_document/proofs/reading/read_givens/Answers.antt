@@ -14,13 +14,20 @@ pub turns-init : goal.turns-init
 turns-init c = list_start given_tree c.new-givens.result.items c.new-givens.ensures.items
 
 pub returns-in_err-one : goal.returns-in_err-one
-returns-in_err-one c = exit_reads _ c.from_residual.result c.from_residual.ensures.1 (fails_by (λ k r. fault_led c.turns.invariant (list_fault separates_closed r)) c.in_err-one.ensures)
+returns-in_err-one c = exit_reads _ c.from_residual.result c.from_residual.ensures.1
+    (fails_by (λ k r. fault_led c.turns.invariant (list_fault separates_closed r)) c.in_err-one.ensures)
 
 pub turns-preserved : goal.turns-preserved
-turns-preserved c = list_push given_tree Empty c.turns.givens.items c.push.new.self.items separates_closed c.turns.invariant c.in_ok-one.ensures c.in_ok-push.ensures.items (record { passed = c.in-Some.ensures.0 }) c.in-Some.ensures.1
+turns-preserved c = list_push given_tree Empty c.turns.givens.items c.push.new.self.items separates_closed
+    c.turns.invariant c.in_ok-one.ensures c.in_ok-push.ensures.items (record { passed = c.in-Some.ensures.0 })
+    c.in-Some.ensures.1
 
 pub turns-smaller : goal.turns-smaller
-turns-smaller c = let forward = advances unknown heads_unknown refl c.in_ok-one.ensures.spelt in let within = at_within c.args.tokens.now c.in_ok-one.behind comma c.in-Some.ensures.0 in let next = c.in-Some.ensures.1 in omega arith
+turns-smaller c = let forward = advances unknown heads_unknown refl c.in_ok-one.ensures.spelt in let within =
+    at_within c.args.tokens.now c.in_ok-one.behind comma c.in-Some.ensures.0 in let next =
+    c.in-Some.ensures.1 in omega arith
 
 pub returns-in_default : goal.returns-in_default
-returns-in_default c = spelt_led c.turns.invariant (list_last given_tree Empty c.turns.givens.items c.push.new.self.items separates_closed c.in_ok-one.ensures c.in_ok-push.ensures.items c.in_default.ensures)
+returns-in_default c = spelt_led c.turns.invariant
+    (list_last given_tree Empty c.turns.givens.items c.push.new.self.items separates_closed c.in_ok-one.ensures
+    c.in_ok-push.ensures.items c.in_default.ensures)

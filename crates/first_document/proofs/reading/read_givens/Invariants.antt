@@ -8,7 +8,8 @@ use Rattle.first_document.proofs.reading.read_givens.Given as goal
 
 -- the parts from the next one on are left to be read
 abbrev pub invariant-turns : goal.invariant-turns
-invariant-turns l = Leads l.tokens no_names comma (Listed comma Empty given_form) l.at (Listed comma (list_tree given_tree Empty l.givens.items) given_form) l.next
+invariant-turns l = Leads l.tokens no_names comma (Listed comma Empty given_form) l.at
+    (Listed comma (list_tree given_tree Empty l.givens.items) given_form) l.next
 
 abbrev pub decreases-turns : goal.decreases-turns
 decreases-turns l = length l.tokens - l.next

@@ -7,16 +7,29 @@ use Rattle.first_document.proofs.Ends.{list_end}
 use Rattle.first_document.proofs.reading.read_package.Goals as goal
 
 pub returns-in_err-label : goal.returns-in_err-label
-returns-in_err-label c = exit_reads _ c.from_residual.result c.from_residual.ensures.1 (fails_front apart_closed (c.in_err-label.ensures no_names))
+returns-in_err-label c =
+    exit_reads _ c.from_residual.result c.from_residual.ensures.1
+    (fails_front apart_closed (c.in_err-label.ensures no_names))
 
 pub returns-in_err-next : goal.returns-in_err-next
-returns-in_err-next c = exit_reads _ c.from_residual-in_err-next.result c.from_residual-in_err-next.ensures.1 (fails_rest (c.in_ok-label.ensures no_names) apart_closed (fails_front apart_closed (c.in_err-next.ensures no_names)))
+returns-in_err-next c = exit_reads _ c.from_residual-in_err-next.result c.from_residual-in_err-next.ensures.1
+    (fails_rest (c.in_ok-label.ensures no_names) apart_closed
+    (fails_front apart_closed (c.in_err-next.ensures no_names)))
 
 pub returns-in_err-uses : goal.returns-in_err-uses
-returns-in_err-uses c = exit_reads _ c.from_residual-in_err-uses.result c.from_residual-in_err-uses.ensures.1 (fails_rest (c.in_ok-label.ensures no_names) apart_closed (fails_rest (c.in_ok-next.ensures no_names) apart_closed (fails_front (list_end (codes ";" ∷ codes ";" ∷ [])) c.in_err-uses.ensures)))
+returns-in_err-uses c = exit_reads _ c.from_residual-in_err-uses.result c.from_residual-in_err-uses.ensures.1
+    (fails_rest (c.in_ok-label.ensures no_names) apart_closed
+    (fails_rest (c.in_ok-next.ensures no_names) apart_closed
+    (fails_front (list_end (codes ";" ∷ codes ";" ∷ [])) c.in_err-uses.ensures)))
 
 pub returns-in_err-next-2 : goal.returns-in_err-next-2
-returns-in_err-next-2 c = exit_reads _ c.from_residual-in_err-next-2.result c.from_residual-in_err-next-2.ensures.1 (fails_rest (c.in_ok-label.ensures no_names) apart_closed (fails_rest (c.in_ok-next.ensures no_names) apart_closed (fails_rest c.in_ok-uses.ensures (list_end (codes ";" ∷ codes ";" ∷ [])) (c.in_err-next-2.ensures no_names))))
+returns-in_err-next-2 c =
+    exit_reads _ c.from_residual-in_err-next-2.result c.from_residual-in_err-next-2.ensures.1
+    (fails_rest (c.in_ok-label.ensures no_names) apart_closed
+    (fails_rest (c.in_ok-next.ensures no_names) apart_closed
+    (fails_rest c.in_ok-uses.ensures (list_end (codes ";" ∷ codes ";" ∷ [])) (c.in_err-next-2.ensures no_names))))
 
 pub returns : goal.returns
-returns c = spelt_then (c.in_ok-label.ensures no_names) apart_closed (spelt_then (c.in_ok-next.ensures no_names) apart_closed (spelt_then c.in_ok-uses.ensures (list_end (codes ";" ∷ codes ";" ∷ [])) (c.in_ok-next-2.ensures no_names)))
+returns c = spelt_then (c.in_ok-label.ensures no_names) apart_closed
+    (spelt_then (c.in_ok-next.ensures no_names) apart_closed
+    (spelt_then c.in_ok-uses.ensures (list_end (codes ";" ∷ codes ";" ∷ [])) (c.in_ok-next-2.ensures no_names)))

@@ -8,7 +8,8 @@ use Rattle.first_document.proofs.reading.read_uses.Given as goal
 
 -- the parts from the next one on are left to be read
 abbrev pub invariant-turns : goal.invariant-turns
-invariant-turns l = Leads l.tokens no_names comma (Listed comma Empty use_form) l.at (Listed comma (list_tree use_tree Empty l.uses.items) use_form) l.next
+invariant-turns l = Leads l.tokens no_names comma (Listed comma Empty use_form) l.at
+    (Listed comma (list_tree use_tree Empty l.uses.items) use_form) l.next
 
 abbrev pub decreases-turns : goal.decreases-turns
 decreases-turns l = length l.tokens - l.next

@@ -10,7 +10,8 @@ use Rattle.gdmo_classes.proofs.attribute_use.read_attribute_uses.Given as goal
 
 -- the parts from the next one on are left to be read
 abbrev pub invariant-turns : goal.invariant-turns
-invariant-turns l = Leads l.tokens templates is_part_end (Listed comma Empty attribute_use) l.at (Listed comma (list_tree attribute_use_tree Empty l.list.items) attribute_use) l.next
+invariant-turns l = Leads l.tokens templates is_part_end (Listed comma Empty attribute_use) l.at
+    (Listed comma (list_tree attribute_use_tree Empty l.list.items) attribute_use) l.next
 
 abbrev pub decreases-turns : goal.decreases-turns
 decreases-turns l = length l.tokens - l.next

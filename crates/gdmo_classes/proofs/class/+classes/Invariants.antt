@@ -29,14 +29,17 @@ decreases-read_class_clause l = 4 * (length l.tokens.now - l.at) + 2
 
 -- the clauses that didn't come yet are left to be read
 abbrev pub invariant-read_class_clauses-turns : goal.invariant-read_class_clauses-turns
-invariant-read_class_clauses-turns l = Leads l.tokens templates is_class_clause (AnyOrder class_clauses) l.at (AnyOrder (class_slots l.clauses)) l.next
+invariant-read_class_clauses-turns l =
+    Leads l.tokens templates is_class_clause (AnyOrder class_clauses) l.at (AnyOrder (class_slots l.clauses)) l.next
 
 abbrev pub decreases-read_class_clauses-turns : goal.decreases-read_class_clauses-turns
 decreases-read_class_clauses-turns l = length l.tokens - l.next
 
 -- the references from the next one on are left to be read
 abbrev pub invariant-read_class_list-turns : goal.invariant-read_class_list-turns
-invariant-read_class_list-turns l = Leads l.tokens templates (either comma (is_word_of (codes "MANAGED"))) (Listed comma Empty (reference classes)) l.at (Listed comma (list_tree class_reference_tree Empty l.list.items) (reference classes)) l.next
+invariant-read_class_list-turns l =
+    Leads l.tokens templates (either comma (is_word_of (codes "MANAGED"))) (Listed comma Empty (reference classes)) l.at
+    (Listed comma (list_tree class_reference_tree Empty l.list.items) (reference classes)) l.next
 
 abbrev pub decreases-read_class_list-turns : goal.decreases-read_class_list-turns
 decreases-read_class_list-turns l = length l.tokens - l.next

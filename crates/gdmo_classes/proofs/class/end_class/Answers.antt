@@ -9,7 +9,15 @@ use Rattle.gdmo_classes.specs.declared.class.ObjectClassTemplate.{ObjectClassTem
 use Rattle.gdmo_classes.proofs.class.end_class.Goals as goal
 
 pub returns-in_err-registration-clause-reads : goal.returns-in_err-registration-clause-reads
-returns-in_err-registration-clause-reads c = exit_reads _ c.from_residual.result c.from_residual.ensures.1 c.in_err-registration.ensures
+returns-in_err-registration-clause-reads c =
+    exit_reads _ c.from_residual.result c.from_residual.ensures.1 c.in_err-registration.ensures
 
 pub returns : goal.returns
-returns c = record { reads = spelt_as (ap (λ (x : ObjectClassTemplate). registered_ending_tree x.registration) c.in_ok-template.ensures.ok) c.in_ok-registration.ensures; made = subst (λ (x : ObjectClassTemplate). class_tree x ≡ template_tree 0 c.args.label (class_clauses_tree c.args.clauses) (registered_ending_tree x.registration)) (sym c.in_ok-template.ensures.ok) refl }
+returns c = record {
+  reads =
+      spelt_as (ap (λ (x : ObjectClassTemplate). registered_ending_tree x.registration) c.in_ok-template.ensures.ok)
+      c.in_ok-registration.ensures;
+  made =
+      subst (λ (x : ObjectClassTemplate). class_tree x ≡ template_tree 0 c.args.label (class_clauses_tree c.args.clauses)
+      (registered_ending_tree x.registration)) (sym c.in_ok-template.ensures.ok) refl;
+}

@@ -9,7 +9,8 @@ use Rattle.gdmo_classes.proofs.class.read_conditional_list.Given as goal
 
 -- the parts from the next one on are left to be read
 abbrev pub invariant-turns : goal.invariant-turns
-invariant-turns l = Leads l.tokens templates comma (Listed comma Empty conditional_package) l.at (Listed comma (list_tree conditional_tree Empty l.list.items) conditional_package) l.next
+invariant-turns l = Leads l.tokens templates comma (Listed comma Empty conditional_package) l.at
+    (Listed comma (list_tree conditional_tree Empty l.list.items) conditional_package) l.next
 
 abbrev pub decreases-turns : goal.decreases-turns
 decreases-turns l = length l.tokens - l.next

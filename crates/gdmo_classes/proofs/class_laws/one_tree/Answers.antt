@@ -1,5 +1,6 @@
 use Rattle.gdmo_classes.proofs.SameUses.{group_references_alike, action_references_alike, notification_references_alike}
-use Rattle.gdmo_classes.proofs.SameTemplates.{templates_alike, classes_alike, package_templates_alike, name_bindings_alike, class_references_alike, package_references_alike}
+use Rattle.gdmo_classes.proofs.SameTemplates.{templates_alike, classes_alike, package_templates_alike}
+use Rattle.gdmo_classes.proofs.SameTemplates.{name_bindings_alike, class_references_alike, package_references_alike}
 use Rattle.gdmo_classes.proofs.class_laws.one_tree.Goals as goal
 
 pub returns : goal.returns

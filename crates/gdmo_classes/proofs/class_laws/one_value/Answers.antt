@@ -1,6 +1,8 @@
 -- By the laws of each template.
-use Rattle.gdmo_classes.proofs.UseValues.{group_references_agree, action_references_agree, notification_references_agree, one_properties}
-use Rattle.gdmo_classes.proofs.TemplateValues.{one_template, one_class, one_package, one_name_binding, class_references_agree, package_references_agree}
+use Rattle.gdmo_classes.proofs.UseValues.{group_references_agree, action_references_agree}
+use Rattle.gdmo_classes.proofs.UseValues.{notification_references_agree, one_properties}
+use Rattle.gdmo_classes.proofs.TemplateValues.{one_template, one_class, one_package, one_name_binding}
+use Rattle.gdmo_classes.proofs.TemplateValues.{class_references_agree, package_references_agree}
 use Rattle.gdmo_classes.proofs.class_laws.one_value.Goals as goal
 
 pub returns : goal.returns

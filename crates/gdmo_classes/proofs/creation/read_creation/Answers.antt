@@ -11,7 +11,9 @@ use Rattle.gdmo_classes.specs.BindingTrees.{modifiers_tree}
 use Rattle.gdmo_classes.proofs.creation.read_creation.Goals as goal
 
 pub returns-in_err-modifiers : goal.returns-in_err-modifiers
-returns-in_err-modifiers c = exit_reads _ c.from_residual.result c.from_residual.ensures.1 (fails_front_on modifiers_meet c.in_err-modifiers.ensures)
+returns-in_err-modifiers c =
+    exit_reads _ c.from_residual.result c.from_residual.ensures.1
+    (fails_front_on modifiers_meet c.in_err-modifiers.ensures)
 
 pub returns-in_err-parts : goal.returns-in_err-parts
 returns-in_err-parts c = exit_reads _ c.from_residual-in_err-parts.result c.from_residual-in_err-parts.ensures.1

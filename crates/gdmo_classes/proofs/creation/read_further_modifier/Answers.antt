@@ -9,10 +9,18 @@ use Rattle.gdmo_members.specs.Templates.{templates}
 use Rattle.gdmo_classes.proofs.creation.read_further_modifier.Goals as goal
 
 pub returns-in_err-comma : goal.returns-in_err-comma
-returns-in_err-comma c = exit_reads _ c.from_residual.result c.from_residual.ensures.1 (fails_front (sign_apart (codes ",") (Keep (is_one_of (c.args.word.now ∷ []))) refl (λ at. refl)) c.in_err-comma.ensures)
+returns-in_err-comma c =
+    exit_reads _ c.from_residual.result c.from_residual.ensures.1
+    (fails_front (sign_apart (codes ",") (Keep (is_one_of (c.args.word.now ∷ []))) refl (λ at. refl))
+    c.in_err-comma.ensures)
 
 pub returns-in_err-word : goal.returns-in_err-word
-returns-in_err-word c = exit_reads _ c.from_residual-in_err-word.result c.from_residual-in_err-word.ensures.1 (fails_rest c.in_ok-comma.ensures (sign_apart (codes ",") (Keep (is_one_of (c.args.word.now ∷ []))) refl (λ at. refl)) (c.in_err-word.ensures templates))
+returns-in_err-word c = exit_reads _ c.from_residual-in_err-word.result c.from_residual-in_err-word.ensures.1
+    (fails_rest c.in_ok-comma.ensures
+    (sign_apart (codes ",") (Keep (is_one_of (c.args.word.now ∷ []))) refl (λ at. refl))
+    (c.in_err-word.ensures templates))
 
 pub returns : goal.returns
-returns c = (spelt_then c.in_ok-comma.ensures (sign_apart (codes ",") (Keep (is_one_of (c.args.word.now ∷ []))) refl (λ at. refl)) (c.in_ok-word.ensures templates))
+returns c = (spelt_then c.in_ok-comma.ensures
+    (sign_apart (codes ",") (Keep (is_one_of (c.args.word.now ∷ []))) refl (λ at. refl))
+    (c.in_ok-word.ensures templates))

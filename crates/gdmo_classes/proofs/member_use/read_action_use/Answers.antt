@@ -11,7 +11,10 @@ use Rattle.gdmo_classes.specs.UseTrees.{action_reference_tree}
 use Rattle.gdmo_classes.proofs.member_use.read_action_use.Goals as goal
 
 pub returns-in_err-action : goal.returns-in_err-action
-returns-in_err-action c = exit_reads _ c.from_residual.result c.from_residual.ensures.1 (fails_front_on (word_meets (codes "ACTION") is_word_or_string (reference_row parameters) (λ at. refl) (λ at. refl)) c.in_err-action.ensures)
+returns-in_err-action c =
+    exit_reads _ c.from_residual.result c.from_residual.ensures.1
+    (fails_front_on (word_meets (codes "ACTION") is_word_or_string (reference_row parameters) (λ at. refl) (λ at. refl))
+    c.in_err-action.ensures)
 
 pub returns-in_err-parts : goal.returns-in_err-parts
 returns-in_err-parts c = exit_reads _ c.from_residual-in_err-parts.result c.from_residual-in_err-parts.ensures.1

@@ -11,7 +11,10 @@ use Rattle.gdmo_classes.specs.UseTrees.{group_reference_tree}
 use Rattle.gdmo_classes.proofs.member_use.read_group_use.Goals as goal
 
 pub returns-in_err-group : goal.returns-in_err-group
-returns-in_err-group c = exit_reads _ c.from_residual.result c.from_residual.ensures.1 (fails_front_on (word_meets (codes "ATTRIBUTE") is_word_or_string (reference_row attributes) (λ at. refl) (λ at. refl)) c.in_err-group.ensures)
+returns-in_err-group c =
+    exit_reads _ c.from_residual.result c.from_residual.ensures.1
+    (fails_front_on (word_meets (codes "ATTRIBUTE") is_word_or_string (reference_row attributes) (λ at. refl)
+    (λ at. refl)) c.in_err-group.ensures)
 
 pub returns-in_err-parts : goal.returns-in_err-parts
 returns-in_err-parts c = exit_reads _ c.from_residual-in_err-parts.result c.from_residual-in_err-parts.ensures.1

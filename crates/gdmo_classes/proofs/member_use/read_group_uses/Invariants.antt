@@ -10,7 +10,8 @@ use Rattle.gdmo_classes.proofs.member_use.read_group_uses.Given as goal
 
 -- the parts from the next one on are left to be read
 abbrev pub invariant-turns : goal.invariant-turns
-invariant-turns l = Leads l.tokens templates is_part_end (Listed comma Empty (member_use groups attributes)) l.at (Listed comma (list_tree group_use_tree Empty l.list.items) (member_use groups attributes)) l.next
+invariant-turns l = Leads l.tokens templates is_part_end (Listed comma Empty (member_use groups attributes)) l.at
+    (Listed comma (list_tree group_use_tree Empty l.list.items) (member_use groups attributes)) l.next
 
 abbrev pub decreases-turns : goal.decreases-turns
 decreases-turns l = length l.tokens - l.next

@@ -7,7 +7,8 @@ use Rattle.gdmo_classes.proofs.PartEnds.{part_end_apart}
 use Rattle.gdmo_classes.proofs.member_use.read_groups_clause.Goals as goal
 
 pub returns-in_err-next : goal.returns-in_err-next
-returns-in_err-next c = exit_reads _ c.from_residual.result c.from_residual.ensures.1 (fails_front apart_closed (c.in_err-next.ensures templates))
+returns-in_err-next c = exit_reads _ c.from_residual.result c.from_residual.ensures.1
+    (fails_front apart_closed (c.in_err-next.ensures templates))
 
 pub returns : goal.returns
 returns c = clause_ends c.args.tokens.now _ _ c.read_group_uses.result c.end_clause.result

@@ -11,7 +11,10 @@ use Rattle.gdmo_classes.specs.UseTrees.{notification_reference_tree}
 use Rattle.gdmo_classes.proofs.member_use.read_notification_use.Goals as goal
 
 pub returns-in_err-notification : goal.returns-in_err-notification
-returns-in_err-notification c = exit_reads _ c.from_residual.result c.from_residual.ensures.1 (fails_front_on (word_meets (codes "NOTIFICATION") is_word_or_string (reference_row parameters) (λ at. refl) (λ at. refl)) c.in_err-notification.ensures)
+returns-in_err-notification c =
+    exit_reads _ c.from_residual.result c.from_residual.ensures.1
+    (fails_front_on (word_meets (codes "NOTIFICATION") is_word_or_string (reference_row parameters) (λ at. refl)
+    (λ at. refl)) c.in_err-notification.ensures)
 
 pub returns-in_err-parts : goal.returns-in_err-parts
 returns-in_err-parts c = exit_reads _ c.from_residual-in_err-parts.result c.from_residual-in_err-parts.ensures.1

@@ -11,7 +11,10 @@ use Rattle.gdmo_classes.specs.BindingTrees.{subclasses_tree}
 use Rattle.gdmo_classes.proofs.name_binding.read_class_scope.Goals as goal
 
 pub returns-in_err-class : goal.returns-in_err-class
-returns-in_err-class c = exit_reads _ c.from_residual.result c.from_residual.ensures.1 (fails_front_on (word_meets (codes "MANAGED") is_part_end (Maybe subclasses) (λ at. refl) (λ at. refl)) c.in_err-class.ensures)
+returns-in_err-class c =
+    exit_reads _ c.from_residual.result c.from_residual.ensures.1
+    (fails_front_on (word_meets (codes "MANAGED") is_part_end (Maybe subclasses) (λ at. refl) (λ at. refl))
+    c.in_err-class.ensures)
 
 pub returns-in_err-parts : goal.returns-in_err-parts
 returns-in_err-parts c = exit_reads _ c.from_residual-in_err-parts.result c.from_residual-in_err-parts.ensures.1

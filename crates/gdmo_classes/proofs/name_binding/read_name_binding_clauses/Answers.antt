@@ -6,7 +6,8 @@ use Rattle.gdmo_classes.specs.BindingTrees.{name_binding_slots, is_name_binding_
 use Rattle.gdmo_classes.proofs.name_binding.read_name_binding_clauses.Goals as goal
 
 pub returns-in_err-behind : goal.returns-in_err-behind
-returns-in_err-behind c = exit_reads _ c.from_residual.result c.from_residual.ensures.1 (fails_led c.turns.invariant c.in_err-behind.ensures)
+returns-in_err-behind c =
+    exit_reads _ c.from_residual.result c.from_residual.ensures.1 (fails_led c.turns.invariant c.in_err-behind.ensures)
 
 pub returns-in-None : goal.returns-in-None
 returns-in-None c = clauses_missing (name_binding_slots c.turns.draft)

@@ -7,7 +7,8 @@ use Rattle.gdmo_classes.proofs.name_binding.read_name_binding_clauses.Given as g
 
 -- the clauses that didn't come yet are left to be read
 abbrev pub invariant-turns : goal.invariant-turns
-invariant-turns l = Leads l.tokens templates is_name_binding_clause (AnyOrder name_binding_clauses) l.at (AnyOrder (name_binding_slots l.draft)) l.next
+invariant-turns l = Leads l.tokens templates is_name_binding_clause (AnyOrder name_binding_clauses) l.at
+    (AnyOrder (name_binding_slots l.draft)) l.next
 
 abbrev pub decreases-turns : goal.decreases-turns
 decreases-turns l = length l.tokens - l.next

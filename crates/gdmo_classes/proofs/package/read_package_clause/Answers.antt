@@ -2,7 +2,8 @@
 use Rattle.std.proofs.Common.{◌∙◌, sym, refl, true, false, arith, codes}
 use Rattle.token_grammar.proofs.Heads.{stops_unless}
 use Rattle.token_grammar.proofs.Known.{at_word}
-use Rattle.token_grammar.proofs.Clauses.{no_slots_stop, slot_stops, opens_but, fails_clause, clause_taken, came_not, comes_here, comes_not, exit_clause}
+use Rattle.token_grammar.proofs.Clauses.{no_slots_stop, slot_stops, opens_but, fails_clause, clause_taken, came_not}
+use Rattle.token_grammar.proofs.Clauses.{comes_here, comes_not, exit_clause}
 use Rattle.token_grammar.specs.TokenTests.{is_word_of}
 use Rattle.gdmo_members.proofs.FirstTokens.{labels, labels_lead}
 use Rattle.gdmo_members.specs.Clauses.{behaviour_clause}
@@ -53,4 +54,16 @@ returns-then-has_notifications c = word_kept c.args.tokens.now labels labels_lea
     c.keep_clause-then-has_notifications.ensures
 
 pub returns : goal.returns
-returns c = record { same = refl; none = (slot_not labels labels_lead (codes "BEHAVIOUR") _ _ _ refl (λ t e. e) c.is_none.ensures c.is_word_at.ensures c.if-has_behaviour.false (slot_not labels labels_lead (codes "ATTRIBUTES") _ _ _ refl (λ t e. e) c.is_none-2.ensures c.is_word_at-2.ensures c.if-has_attributes.false (slot_not labels labels_lead (codes "ATTRIBUTE") _ _ _ refl (λ t e. e) c.is_none-3.ensures c.is_word_at-3.ensures c.if-has_groups.false (slot_not labels labels_lead (codes "ACTIONS") _ _ _ refl (λ t e. e) c.is_none-4.ensures c.is_word_at-4.ensures c.if-has_actions.false (slot_not labels labels_lead (codes "NOTIFICATIONS") _ _ _ refl (λ t e. e) c.is_none-5.ensures c.is_word_at-5.ensures c.if-has_notifications.false no_slots_stop))))) }
+returns c = record {
+  same = refl;
+  none =
+      (slot_not labels labels_lead (codes "BEHAVIOUR") _ _ _ refl (λ t e. e) c.is_none.ensures c.is_word_at.ensures
+      c.if-has_behaviour.false
+      (slot_not labels labels_lead (codes "ATTRIBUTES") _ _ _ refl (λ t e. e) c.is_none-2.ensures c.is_word_at-2.ensures
+      c.if-has_attributes.false
+      (slot_not labels labels_lead (codes "ATTRIBUTE") _ _ _ refl (λ t e. e) c.is_none-3.ensures c.is_word_at-3.ensures
+      c.if-has_groups.false (slot_not labels labels_lead (codes "ACTIONS") _ _ _ refl (λ t e. e) c.is_none-4.ensures
+      c.is_word_at-4.ensures c.if-has_actions.false
+      (slot_not labels labels_lead (codes "NOTIFICATIONS") _ _ _ refl (λ t e. e) c.is_none-5.ensures
+      c.is_word_at-5.ensures c.if-has_notifications.false no_slots_stop)))));
+}

@@ -7,7 +7,11 @@ use Rattle.gdmo_classes.specs.UseTrees.{properties_slots}
 use Rattle.gdmo_classes.proofs.properties.read_properties.Goals as goal
 
 pub returns-in_err-behind : goal.returns-in_err-behind
-returns-in_err-behind c = exit_reads _ c.from_residual.result c.from_residual.ensures.1 (fails_led c.turns.invariant c.in_err-behind.ensures)
+returns-in_err-behind c =
+    exit_reads _ c.from_residual.result c.from_residual.ensures.1 (fails_led c.turns.invariant c.in_err-behind.ensures)
 
 pub returns : goal.returns
-returns c = clauses_done (properties_slots c.turns.properties) (properties_slots c.read_property.new.properties) c.turns.invariant (over is_keyword (properties_slots c.turns.properties) (properties_slots c.read_property.new.properties) c.turns.next c.in_ok-behind.field-0 c.in_default.is c.in_ok-behind.ensures) refl refl
+returns c = clauses_done (properties_slots c.turns.properties) (properties_slots c.read_property.new.properties)
+    c.turns.invariant (over is_keyword (properties_slots c.turns.properties)
+    (properties_slots c.read_property.new.properties) c.turns.next c.in_ok-behind.field-0 c.in_default.is
+    c.in_ok-behind.ensures) refl refl

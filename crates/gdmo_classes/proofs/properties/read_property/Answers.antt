@@ -11,7 +11,8 @@ use Rattle.gdmo_members.proofs.FirstTokens.{labels, labels_lead}
 use Rattle.gdmo_members.specs.Templates.{templates}
 use Rattle.gdmo_classes.proofs.OpenClauses.{open_clause_kept, reads_wider}
 use Rattle.gdmo_classes.proofs.PartEnds.{properties_meet}
-use Rattle.gdmo_classes.specs.ClassForms.{is_keyword, reset_property, default_property, initial_property, permitted_property, required_property, access_property, members_property}
+use Rattle.gdmo_classes.specs.ClassForms.{is_keyword, reset_property, default_property, initial_property}
+use Rattle.gdmo_classes.specs.ClassForms.{permitted_property, required_property, access_property, members_property}
 use Rattle.gdmo_classes.specs.UseTrees.{valued_tree, named_type_tree, properties_slots}
 use Rattle.gdmo_classes.proofs.properties.read_property.Goals as goal
 
@@ -23,7 +24,8 @@ returns-then-has_reset c = open_clause_kept c.args.tokens.now labels labels_lead
     c.args.at c.read_one_of.result c.keep_clause.result refl (properties_meet c.args.properties.now) refl (at_one_of
     (codes "REPLACE-WITH-DEFAULT" ∷ []) true is_keyword ((λ at. refl), tt)) (at_one_of (codes "REPLACE-WITH-DEFAULT" ∷
     []) false (opens_but labels 0 (properties_slots c.args.properties.now)) ((λ at. refl), tt)) (λ x. refl)
-    c.is_none.ensures c.is_one_of_at.ensures c.if-has_reset.true (reads_wider c.args.tokens.now templates (is_word_of (codes
+    c.is_none.ensures c.is_one_of_at.ensures c.if-has_reset.true
+    (reads_wider c.args.tokens.now templates (is_word_of (codes
     "BEHAVIOUR")) reset_property Leaf c.args.at c.read_one_of.result (c.read_one_of.ensures templates))
     c.keep_clause.ensures
 
@@ -109,7 +111,8 @@ returns-then-has_members c = open_clause_kept c.args.tokens.now labels labels_le
           tt,
         ),
       ),
-    )) (λ x. refl) c.is_none-7.ensures c.is_one_of_at-3.ensures c.if-has_members.true (reads_wider c.args.tokens.now templates (is_word_of (codes "BEHAVIOUR")) members_property Leaf c.args.at
+    )) (λ x. refl) c.is_none-7.ensures c.is_one_of_at-3.ensures c.if-has_members.true
+    (reads_wider c.args.tokens.now templates (is_word_of (codes "BEHAVIOUR")) members_property Leaf c.args.at
     c.read_one_of-then-has_members.result (c.read_one_of-then-has_members.ensures templates))
     c.keep_clause-then-has_members.ensures
 

@@ -10,7 +10,8 @@ use Rattle.gdmo_classes.proofs.rows.read_parameter_row.Given as goal
 
 -- the references from the next one on are left to be read
 abbrev pub invariant-turns : goal.invariant-turns
-invariant-turns l = Leads l.tokens templates is_word_or_string (Many Empty (reference parameters)) l.at (Many (list_tree parameter_reference_tree Empty l.row.items) (reference parameters)) l.next
+invariant-turns l = Leads l.tokens templates is_word_or_string (Many Empty (reference parameters)) l.at
+    (Many (list_tree parameter_reference_tree Empty l.row.items) (reference parameters)) l.next
 
 abbrev pub decreases-turns : goal.decreases-turns
 decreases-turns l = length l.tokens - l.next

@@ -11,13 +11,20 @@ use Rattle.gdmo_members.proofs.WithClauses.{action_apart}
 use Rattle.gdmo_members.proofs.action.read_action.Goals as goal
 
 pub returns-in_err-label : goal.returns-in_err-label
-returns-in_err-label c = exit_reads _ c.from_residual.result c.from_residual.ensures.1 (fails_named actions (fails_front apart_closed (c.in_err-label.ensures templates)))
+returns-in_err-label c =
+    exit_reads _ c.from_residual.result c.from_residual.ensures.1
+    (fails_named actions (fails_front apart_closed (c.in_err-label.ensures templates)))
 
 pub returns-in_err-next : goal.returns-in_err-next
-returns-in_err-next c = exit_reads _ c.from_residual-in_err-next.result c.from_residual-in_err-next.ensures.1 (fails_named actions (fails_rest (c.in_ok-label.ensures templates) apart_closed (fails_front apart_closed (c.in_err-next.ensures templates))))
+returns-in_err-next c = exit_reads _ c.from_residual-in_err-next.result c.from_residual-in_err-next.ensures.1
+    (fails_named actions (fails_rest (c.in_ok-label.ensures templates) apart_closed
+    (fails_front apart_closed (c.in_err-next.ensures templates))))
 
 pub returns-in_err-clauses : goal.returns-in_err-clauses
-returns-in_err-clauses c = exit_reads _ c.from_residual-in_err-clauses.result c.from_residual-in_err-clauses.ensures.1 (fails_named actions (fails_rest (c.in_ok-label.ensures templates) apart_closed (fails_rest (c.in_ok-next.ensures templates) apart_closed (fails_front action_apart c.in_err-clauses.ensures))))
+returns-in_err-clauses c =
+    exit_reads _ c.from_residual-in_err-clauses.result c.from_residual-in_err-clauses.ensures.1
+    (fails_named actions (fails_rest (c.in_ok-label.ensures templates) apart_closed
+    (fails_rest (c.in_ok-next.ensures templates) apart_closed (fails_front action_apart c.in_err-clauses.ensures))))
 
 pub returns-in_err-parts : goal.returns-in_err-parts
 returns-in_err-parts c = exit_reads _ c.from_residual-in_err-parts.result c.from_residual-in_err-parts.ensures.1

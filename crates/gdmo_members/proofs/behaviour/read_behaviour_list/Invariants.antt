@@ -10,7 +10,9 @@ use Rattle.gdmo_members.proofs.behaviour.read_behaviour_list.Given as goal
 
 -- the parts from the next one on are left to be read
 abbrev pub invariant-turns : goal.invariant-turns
-invariant-turns l = Leads l.tokens templates (either comma (is_word_of (codes "BEHAVIOUR"))) (Listed comma Empty (reference behaviours)) l.at (Listed comma (list_tree behaviour_reference_tree Empty l.list.items) (reference behaviours)) l.next
+invariant-turns l = Leads l.tokens templates (either comma (is_word_of (codes "BEHAVIOUR")))
+    (Listed comma Empty (reference behaviours)) l.at
+    (Listed comma (list_tree behaviour_reference_tree Empty l.list.items) (reference behaviours)) l.next
 
 abbrev pub decreases-turns : goal.decreases-turns
 decreases-turns l = length l.tokens - l.next

@@ -9,10 +9,15 @@ use Rattle.gdmo_members.specs.Templates.{templates}
 use Rattle.gdmo_members.proofs.context.read_context_word.Goals as goal
 
 pub returns-in_err-point : goal.returns-in_err-point
-returns-in_err-point c = exit_reads _ c.from_residual.result c.from_residual.ensures.1 (fails_front (sign_apart (codes ".") (Keep is_word) refl (λ at. refl)) c.in_err-point.ensures)
+returns-in_err-point c =
+    exit_reads _ c.from_residual.result c.from_residual.ensures.1
+    (fails_front (sign_apart (codes ".") (Keep is_word) refl (λ at. refl)) c.in_err-point.ensures)
 
 pub returns-in_err-word : goal.returns-in_err-word
-returns-in_err-word c = exit_reads _ c.from_residual-in_err-word.result c.from_residual-in_err-word.ensures.1 (fails_rest c.in_ok-point.ensures (sign_apart (codes ".") (Keep is_word) refl (λ at. refl)) (c.in_err-word.ensures templates))
+returns-in_err-word c = exit_reads _ c.from_residual-in_err-word.result c.from_residual-in_err-word.ensures.1
+    (fails_rest c.in_ok-point.ensures (sign_apart (codes ".") (Keep is_word) refl (λ at. refl))
+    (c.in_err-word.ensures templates))
 
 pub returns : goal.returns
-returns c = (spelt_then c.in_ok-point.ensures (sign_apart (codes ".") (Keep is_word) refl (λ at. refl)) (c.in_ok-word.ensures templates))
+returns c = (spelt_then c.in_ok-point.ensures (sign_apart (codes ".") (Keep is_word) refl (λ at. refl))
+    (c.in_ok-word.ensures templates))

@@ -5,10 +5,12 @@ use Rattle.gdmo_members.specs.Templates.{templates}
 use Rattle.gdmo_members.proofs.group.read_fixed_clause.Goals as goal
 
 pub returns-in_err-word : goal.returns-in_err-word
-returns-in_err-word c = exit_reads _ c.from_residual.result c.from_residual.ensures.1 (fails_front apart_closed (c.in_err-word.ensures templates))
+returns-in_err-word c = exit_reads _ c.from_residual.result c.from_residual.ensures.1
+    (fails_front apart_closed (c.in_err-word.ensures templates))
 
 pub returns-in_err-next : goal.returns-in_err-next
-returns-in_err-next c = exit_reads _ c.from_residual-in_err-next.result c.from_residual-in_err-next.ensures.1 (fails_rest (c.in_ok-word.ensures templates) apart_closed (c.in_err-next.ensures templates))
+returns-in_err-next c = exit_reads _ c.from_residual-in_err-next.result c.from_residual-in_err-next.ensures.1
+    (fails_rest (c.in_ok-word.ensures templates) apart_closed (c.in_err-next.ensures templates))
 
 pub returns : goal.returns
 returns c = (spelt_then (c.in_ok-word.ensures templates) apart_closed (c.in_ok-next.ensures templates))

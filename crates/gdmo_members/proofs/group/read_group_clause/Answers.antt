@@ -2,7 +2,8 @@
 use Rattle.std.proofs.Common.{◌∙◌, sym, refl, true, false, arith, codes, [], ◌∷◌}
 use Rattle.token_grammar.proofs.Heads.{stops_unless}
 use Rattle.token_grammar.proofs.Known.{at_word}
-use Rattle.token_grammar.proofs.Clauses.{no_slots_stop, slot_stops, opens_but, fails_clause, clause_taken, fails_clause, came_not, comes_here, comes_not, exit_clause}
+use Rattle.token_grammar.proofs.Clauses.{no_slots_stop, slot_stops, opens_but, fails_clause, clause_taken, fails_clause}
+use Rattle.token_grammar.proofs.Clauses.{came_not, comes_here, comes_not, exit_clause}
 use Rattle.token_grammar.specs.Form.{Keep, Leaf}
 use Rattle.token_grammar.specs.TokenTests.{is_word_of, is_string}
 use Rattle.token_grammar.proofs.Parts.{one_word}
@@ -38,4 +39,16 @@ returns-then-has_description c = word_kept c.args.tokens.now labels labels_lead 
     c.keep_clause-then-has_description.ensures
 
 pub returns : goal.returns
-returns c = record { same = refl; none = (slot_not labels labels_lead (codes "GROUP") _ _ _ refl (λ t e. e) c.is_none.ensures c.is_word_at.ensures c.if-has_elements.false (slot_stops (λ open_now. stops_unless labels labels_lead (is_word_of (codes "FIXED")) (word_clause (codes "FIXED")) c.args.at c.args.at (omega arith) refl (λ t e. one_word (is_word_of (codes "FIXED") t) e) (sym c.is_word_at-2.ensures ∙ comes_not word_clause_tree c.args.clauses.now.fixed c.is_none-2.result c.is_word_at-2.result c.is_none-2.ensures c.if-has_fixed.false open_now)) (slot_not labels labels_lead (codes "DESCRIPTION") _ _ _ refl (λ t e. e) c.is_none-3.ensures c.is_word_at-3.ensures c.if-has_description.false no_slots_stop))) }
+returns c = record {
+  same = refl;
+  none =
+      (slot_not labels labels_lead (codes "GROUP") _ _ _ refl (λ t e. e) c.is_none.ensures c.is_word_at.ensures
+      c.if-has_elements.false (slot_stops
+      (λ open_now. stops_unless labels labels_lead (is_word_of (codes "FIXED")) (word_clause (codes "FIXED")) c.args.at
+      c.args.at (omega arith) refl (λ t e. one_word (is_word_of (codes "FIXED") t) e)
+      (sym c.is_word_at-2.ensures
+      ∙ comes_not word_clause_tree c.args.clauses.now.fixed c.is_none-2.result c.is_word_at-2.result c.is_none-2.ensures
+      c.if-has_fixed.false open_now))
+      (slot_not labels labels_lead (codes "DESCRIPTION") _ _ _ refl (λ t e. e) c.is_none-3.ensures c.is_word_at-3.ensures
+      c.if-has_description.false no_slots_stop)));
+}

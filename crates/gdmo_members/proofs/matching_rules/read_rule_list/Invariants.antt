@@ -8,7 +8,8 @@ use Rattle.gdmo_members.proofs.matching_rules.read_rule_list.Given as goal
 
 -- the parts from the next one on are left to be read
 abbrev pub invariant-turns : goal.invariant-turns
-invariant-turns l = Leads l.tokens templates comma (Listed comma Empty matching_rule) l.at (Listed comma (list_tree Leaf Empty l.list.items) matching_rule) l.next
+invariant-turns l = Leads l.tokens templates comma (Listed comma Empty matching_rule) l.at
+    (Listed comma (list_tree Leaf Empty l.list.items) matching_rule) l.next
 
 abbrev pub decreases-turns : goal.decreases-turns
 decreases-turns l = length l.tokens - l.next

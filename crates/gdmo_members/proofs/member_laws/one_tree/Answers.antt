@@ -1,4 +1,5 @@
-use Rattle.gdmo_members.proofs.SameTrees.{references_alike, parameter_references_alike, attributes_alike, parameter_templates_alike}
+use Rattle.gdmo_members.proofs.SameTrees.{references_alike, parameter_references_alike, attributes_alike}
+use Rattle.gdmo_members.proofs.SameTrees.{parameter_templates_alike}
 use Rattle.gdmo_members.proofs.FurtherSameTrees.{groups_alike, actions_alike, notifications_alike, members_alike}
 use Rattle.gdmo_members.proofs.member_laws.one_tree.Goals as goal
 

@@ -10,7 +10,8 @@ use Rattle.gdmo_members.proofs.notification.read_field_list.Given as goal
 
 -- the parts from the next one on are left to be read
 abbrev pub invariant-turns : goal.invariant-turns
-invariant-turns l = Leads l.tokens templates (either comma (is_word_of (codes "ATTRIBUTE"))) (Listed comma Empty field) l.at (Listed comma (list_tree field_tree Empty l.list.items) field) l.next
+invariant-turns l = Leads l.tokens templates (either comma (is_word_of (codes "ATTRIBUTE"))) (Listed comma Empty field)
+    l.at (Listed comma (list_tree field_tree Empty l.list.items) field) l.next
 
 abbrev pub decreases-turns : goal.decreases-turns
 decreases-turns l = length l.tokens - l.next

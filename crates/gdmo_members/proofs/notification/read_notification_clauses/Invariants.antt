@@ -7,7 +7,8 @@ use Rattle.gdmo_members.proofs.notification.read_notification_clauses.Given as g
 
 -- the clauses that didn't come yet are left to be read
 abbrev pub invariant-turns : goal.invariant-turns
-invariant-turns l = Leads l.tokens templates is_notification_clause (AnyOrder notification_clauses) l.at (AnyOrder (notification_slots l.clauses)) l.next
+invariant-turns l = Leads l.tokens templates is_notification_clause (AnyOrder notification_clauses) l.at
+    (AnyOrder (notification_slots l.clauses)) l.next
 
 abbrev pub decreases-turns : goal.decreases-turns
 decreases-turns l = length l.tokens - l.next

@@ -8,10 +8,15 @@ use Rattle.gdmo_members.specs.Templates.{templates}
 use Rattle.gdmo_members.proofs.registration.read_ending.Goals as goal
 
 pub returns-in_err-identifier : goal.returns-in_err-identifier
-returns-in_err-identifier c = exit_reads _ c.from_residual.result c.from_residual.ensures.1 (fails_front (word_apart (codes "REGISTERED") semicolon refl (λ at. refl)) c.in_err-identifier.ensures)
+returns-in_err-identifier c =
+    exit_reads _ c.from_residual.result c.from_residual.ensures.1
+    (fails_front (word_apart (codes "REGISTERED") semicolon refl (λ at. refl)) c.in_err-identifier.ensures)
 
 pub returns-in_err-next : goal.returns-in_err-next
-returns-in_err-next c = exit_reads _ c.from_residual-in_err-next.result c.from_residual-in_err-next.ensures.1 (fails_rest c.in_ok-identifier.ensures (word_apart (codes "REGISTERED") semicolon refl (λ at. refl)) (c.in_err-next.ensures templates))
+returns-in_err-next c = exit_reads _ c.from_residual-in_err-next.result c.from_residual-in_err-next.ensures.1
+    (fails_rest c.in_ok-identifier.ensures (word_apart (codes "REGISTERED") semicolon refl (λ at. refl))
+    (c.in_err-next.ensures templates))
 
 pub returns : goal.returns
-returns c = (spelt_then c.in_ok-identifier.ensures (word_apart (codes "REGISTERED") semicolon refl (λ at. refl)) (c.in_ok-next.ensures templates))
+returns c = (spelt_then c.in_ok-identifier.ensures (word_apart (codes "REGISTERED") semicolon refl (λ at. refl))
+    (c.in_ok-next.ensures templates))

@@ -6,7 +6,8 @@ use Rattle.gdmo_members.specs.Templates.{templates}
 use Rattle.gdmo_members.proofs.type_clause.read_type_clause.Goals as goal
 
 pub returns-in_err-next : goal.returns-in_err-next
-returns-in_err-next c = exit_reads _ c.from_residual.result c.from_residual.ensures.1 (fails_front apart_closed (c.in_err-next.ensures templates))
+returns-in_err-next c = exit_reads _ c.from_residual.result c.from_residual.ensures.1
+    (fails_front apart_closed (c.in_err-next.ensures templates))
 
 pub returns : goal.returns
 returns c = clause_ends c.args.tokens.now _ _ c.read_qualified_name.result c.end_clause.result

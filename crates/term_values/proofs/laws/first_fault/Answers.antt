@@ -1,4 +1,5 @@
-use Rattle.term_values.proofs.Statements.{no_fault_beside_tree_holds, some_fault_holds, one_fault_holds, found_fault_holds}
+use Rattle.term_values.proofs.Statements.{no_fault_beside_tree_holds, some_fault_holds, one_fault_holds}
+use Rattle.term_values.proofs.Statements.{found_fault_holds}
 use Rattle.term_values.proofs.laws.first_fault.Goals as goal
 
 pub returns-clause-beside : goal.returns-clause-beside

@@ -14,13 +14,22 @@ pub turns-init : goal.turns-init
 turns-init c = λ grammar. many_start arc_tree c.new-arcs.result.items c.new-arcs.ensures.items
 
 pub returns-in_err-arc : goal.returns-in_err-arc
-returns-in_err-arc c = λ grammar. exit_reads _ c.from_residual.result c.from_residual.ensures.1 (fails_by (λ k r. fault_led (c.turns.invariant grammar) (many_fault (record { passed = sym c.is_arc_at.ensures ∙ c.turns-test.true }) (λ m here. not_closed here) apart_closed r)) (c.in_err-arc.ensures grammar))
+returns-in_err-arc c = λ grammar. exit_reads _ c.from_residual.result c.from_residual.ensures.1
+    (fails_by (λ k r. fault_led (c.turns.invariant grammar)
+    (many_fault (record { passed = sym c.is_arc_at.ensures ∙ c.turns-test.true }) (λ m here. not_closed here)
+    apart_closed r)) (c.in_err-arc.ensures grammar))
 
 pub turns-preserved : goal.turns-preserved
-turns-preserved c = λ grammar. many_push arc_tree Empty c.turns.arcs.items c.push.new.self.items (λ m here. not_closed here) apart_closed (record { passed = sym c.is_arc_at.ensures ∙ c.turns-test.true }) (c.turns.invariant grammar) (c.in_ok-arc.ensures grammar) c.in_ok-push.ensures.items
+turns-preserved c = λ grammar. many_push arc_tree Empty c.turns.arcs.items c.push.new.self.items
+    (λ m here. not_closed here) apart_closed (record { passed = sym c.is_arc_at.ensures ∙ c.turns-test.true })
+    (c.turns.invariant grammar) (c.in_ok-arc.ensures grammar) c.in_ok-push.ensures.items
 
 pub turns-smaller : goal.turns-smaller
-turns-smaller c = let forward = advances unknown heads_unknown refl (c.in_ok-arc.ensures (λ n. Marks [])).spelt in let within = at_within c.args.tokens.now c.turns.next is_arc_start (sym c.is_arc_at.ensures ∙ c.turns-test.true) in omega arith
+turns-smaller c = let forward =
+    advances unknown heads_unknown refl (c.in_ok-arc.ensures (λ n. Marks [])).spelt in let within =
+    at_within c.args.tokens.now c.turns.next is_arc_start (sym c.is_arc_at.ensures ∙ c.turns-test.true) in omega arith
 
 pub returns : goal.returns
-returns c = λ grammar. spelt_led (c.turns.invariant grammar) (many_ends (stops_unless unknown heads_unknown is_arc_start arc c.turns.next c.turns.next (omega arith) refl (λ t e. e) (sym c.is_arc_at.ensures ∙ c.turns-test.false)))
+returns c = λ grammar. spelt_led (c.turns.invariant grammar)
+    (many_ends (stops_unless unknown heads_unknown is_arc_start arc c.turns.next c.turns.next (omega arith) refl
+    (λ t e. e) (sym c.is_arc_at.ensures ∙ c.turns-test.false)))

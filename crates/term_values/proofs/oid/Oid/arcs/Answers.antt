@@ -8,4 +8,5 @@ use Rattle.term_values.proofs.oid.Oid.arcs.Goals as goal
 pub returns-clause-numbers : goal.returns-clause-numbers
 returns-clause-numbers c =
     let fits : (k : ℕ) → Fits w32 (get_or c.as_slice-arcs.result.now k 0) = search rules in
-    ap (list_all is_arc) (sym c.self.view_is ∙ sym c.as_slice-arcs.ensures.value) ∙ all_arcs c.as_slice-arcs.result.now (λ k. omega (arith, fits k))
+    ap (list_all is_arc) (sym c.self.view_is ∙ sym c.as_slice-arcs.ensures.value)
+    ∙ all_arcs c.as_slice-arcs.result.now (λ k. omega (arith, fits k))
