@@ -7,3 +7,4 @@ pub mod PieceLaws
 pub mod SameIs
 pub mod SetLaws
 pub mod SizeLaws
+mod StandardFacts

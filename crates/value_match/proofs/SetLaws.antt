@@ -1,5 +1,5 @@
 -- Components of a SET by the octets of their tags, and numbers in turn.
-use Rattle.std.proofs.Common.{◌≡◌, ◌≤◌, ◌<◌, ◌+◌, min, ⊎_elim, ℕ, zero, suc, true, false, cond, List, [], ◌∷◌, ◌++◌, length, drop, get_or, Option, refl, sym, ap, ◌∙◌, subst, arith}
+use Rattle.std.proofs.Common.{◌≡◌, ◌≤◌, ◌<◌, ◌+◌, min, ⊎_elim, ℕ, zero, suc, true, false, cond, List, [], ◌∷◌, ◌++◌, length, drop, get_or, ◌⊎◌, inl, inr, Bool, Option, None, Some, IfSome, refl, sym, ap, ◌∙◌, subst, arith}
 use Rattle.std.proofs.lemmas.Bool.{cases_lt, false≢true}
 use Rattle.std.proofs.lemmas.List.{drop_all, get_or_read}
 use Rattle.term_values.specs.PartsView.{parts_listed}
@@ -13,7 +13,7 @@ use Rattle.term_values.specs.declared.value.Slot.TheVariants.{Absent, Present}
 use Rattle.value_match.specs.InTurn.{in_turn, mark_count}
 use Rattle.value_match.specs.MemberKeys.{component_key, member_key}
 use Rattle.value_match.specs.MemberOrder.{StandsBefore}
-use Rattle.value_match.specs.SetMarks.{IsBelow, IsLeastMark, IsUnmarked, key_at}
+use Rattle.value_match.specs.SetMarks.{IsBelow, IsLeastMark, IsMarkFrom, IsMarkOfEither, IsUnmarked, key_at}
 use Rattle.value_match.specs.SlotKeys.{BeginsWith, has_mark, marked_key}
 use Rattle.value_match.specs.declared.told.MemberOrder.TheVariants.{Before}
 use Rattle.value_match.proofs.OrderLaws.{before_first, tells_first_before, tells_next}
@@ -115,6 +115,51 @@ pub key_found : (xs : List Part) (ys : List Slot) (i : ℕ) (x p : Part) (y s : 
 key_found xs ys i x p y s h k is_x is_y e f =
     ap (λ z. marked_key z y) (read_same xs i x p h is_x e)
     ∙ ap (marked_key p) (read_same ys i y s k is_y f)
+
+begins_on : (i : ℕ) (xs : List Part) (ys : List Slot) (x : Part) (y : Slot) (mark : ℕ) (b : Bool)
+    → drop i xs ≡ x ∷ drop (i + 1) xs → drop i ys ≡ y ∷ drop (i + 1) ys → has_mark x y mark ≡ b
+    → BeginsWith 0 (key_at (drop (i + 1) xs) (drop (i + 1) ys) mark)
+    → BeginsWith 0 (key_at (drop i xs) (drop i ys) mark)
+begins_on i xs ys x y mark true e f h later =
+    here_begins x y mark (key_at (drop i xs) (drop i ys) mark) h (here_at i xs ys x y mark e f h)
+begins_on i xs ys x y mark false e f h later =
+    subst (λ zs. BeginsWith 0 zs) (sym (later_at i xs ys x y mark e f h)) later
+
+-- what the components behind one have, those from that one on have too
+pub later_there : (i : ℕ) (xs : List Part) (ys : List Slot) (x : Part) (y : Slot) (from : ℕ) (found : Option ℕ)
+    → drop i xs ≡ x ∷ drop (i + 1) xs → drop i ys ≡ y ∷ drop (i + 1) ys
+    → IsMarkFrom (drop (i + 1) xs) (drop (i + 1) ys) from found → IsMarkFrom (drop i xs) (drop i ys) from found
+later_there i xs ys x y from None e f there = tt
+later_there i xs ys x y from (Some mark) e f there =
+    (there.0, begins_on i xs ys x y mark (has_mark x y mark) e f refl there.1)
+
+-- and what that one has
+pub own_there : (i : ℕ) (xs : List Part) (ys : List Slot) (x : Part) (y : Slot) (from : ℕ) (own found : Option ℕ)
+    → drop i xs ≡ x ∷ drop (i + 1) xs → drop i ys ≡ y ∷ drop (i + 1) ys
+    → IfSome own (λ mark. has_mark x y mark ≡ true) → IfSome found (λ mark. (from ≤ mark) × (own ≡ Some mark))
+    → IsMarkFrom (drop i xs) (drop i ys) from found
+own_there i xs ys x y from own None e f h same = tt
+own_there i xs ys x y from own (Some mark) e f h same =
+    let has : has_mark x y mark ≡ true = subst (λ o. IfSome o (λ k. has_mark x y k ≡ true)) same.1 h in
+    (same.0, here_begins x y mark (key_at (drop i xs) (drop i ys) mark) has (here_at i xs ys x y mark e f has))
+
+first_there : (xs : List Part) (ys zs : List Slot) (from : ℕ) (found : Option ℕ) → IsMarkFrom xs ys from found
+    → IsMarkOfEither xs ys zs from found
+first_there xs ys zs from None there = tt
+first_there xs ys zs from (Some mark) there = (there.0, inl there.1)
+
+second_there : (xs : List Part) (ys zs : List Slot) (from : ℕ) (found : Option ℕ) → IsMarkFrom xs zs from found
+    → IsMarkOfEither xs ys zs from found
+second_there xs ys zs from None there = tt
+second_there xs ys zs from (Some mark) there = (there.0, inr there.1)
+
+pub either_there : (xs : List Part) (ys zs : List Slot) (from : ℕ) (a b found : Option ℕ)
+    → IsMarkFrom xs ys from a → IsMarkFrom xs zs from b → (found ≡ a) ⊎ (found ≡ b)
+    → IsMarkOfEither xs ys zs from found
+either_there xs ys zs from a b found first second (inl e) =
+    subst (λ o. IsMarkOfEither xs ys zs from o) (sym e) (first_there xs ys zs from a first)
+either_there xs ys zs from a b found first second (inr e) =
+    subst (λ o. IsMarkOfEither xs ys zs from o) (sym e) (second_there xs ys zs from b second)
 
 -- ---- two values of a SET
 

@@ -1,5 +1,5 @@
 -- What is told of the order of the numbers of two members.
-use Rattle.std.specs.Prelude.{◌≡◌, ◌<◌, ℕ, List, ◌∷◌, ◌++◌}
+use Rattle.std.specs.Prelude.{◌≡◌, ◌<◌, ℕ, Bool, true, false, List, ◌∷◌, ◌++◌}
 use Rattle.value_match.specs.declared.told.MemberOrder.{MemberOrder}
 use Rattle.value_match.specs.declared.told.MemberOrder.TheVariants.{Before, Alike, After, Untold}
 
@@ -14,3 +14,10 @@ TellsOrder Before xs ys = StandsBefore xs ys
 TellsOrder Alike xs ys = xs ≡ ys
 TellsOrder After xs ys = StandsBefore ys xs
 TellsOrder Untold xs ys = Unit {0}
+
+-- it is told that the first one may stand before the second
+abbrev pub is_rising : MemberOrder → Bool
+is_rising Before = true
+is_rising Alike = true
+is_rising After = false
+is_rising Untold = false

@@ -1,5 +1,5 @@
 -- What is found of the octets of tags among the components of a SET: X.690, section 10.3.
-use Rattle.std.specs.Prelude.{◌≡◌, ◌≢◌, ◌≤◌, ◌<◌, ℕ, List, [], ◌∷◌, false, Option, None, Some, length, slice_index_or, MatchOption}
+use Rattle.std.specs.Prelude.{◌≡◌, ◌≢◌, ◌⊎◌, ◌≤◌, ◌<◌, ℕ, List, [], ◌∷◌, false, Option, None, Some, length, slice_index_or, IfSome, MatchOption}
 use Rattle.term_values.specs.PartsView.{parts_listed}
 use Rattle.term_values.specs.SlotsView.{slots_listed}
 use Rattle.term_values.specs.declared.syntax.Part.{Part}
@@ -31,6 +31,16 @@ IsUnmarked parts slots mark = key_at parts slots mark ≡ 1 ∷ []
 -- no component has octets from `from` on that are less than those found
 abbrev pub IsLeastMark : List Part → List Slot → ℕ → Option ℕ → Type 0
 IsLeastMark parts slots from found = (mark : ℕ) → from ≤ mark → IsBelow found mark → IsUnmarked parts slots mark
+
+-- what was found isn't before `from`, and a component has it
+abbrev pub IsMarkFrom : List Part → List Slot → ℕ → Option ℕ → Type 0
+IsMarkFrom parts slots from found = IfSome found (λ mark. (from ≤ mark) × BeginsWith 0 (key_at parts slots mark))
+
+-- the same, where a component of either value has it
+abbrev pub IsMarkOfEither : List Part → List Slot → List Slot → ℕ → Option ℕ → Type 0
+IsMarkOfEither parts slots others from found =
+    IfSome found (λ mark. (from ≤ mark)
+    × (BeginsWith 0 (key_at parts slots mark) ⊎ BeginsWith 0 (key_at parts others mark)))
 
 -- the place of the component that has these octets, or none
 abbrev pub IsPlaceOfMark : List Part → List Slot → ℕ → Option ℕ → Type 0

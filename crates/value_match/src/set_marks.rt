@@ -1,8 +1,8 @@
 //! The octets of the tags of a SET's components, in rising order and without memory: X.690, sections 8.1.2 and 10.3.
 
-ghost use Rattle.std.specs.Prelude.{◌≡◌, ◌≤◌, ℕ};
+ghost use Rattle.std.specs.Prelude.{◌≡◌, ◌⊎◌, ◌≤◌, ℕ, IfSome, true};
 ghost use Rattle.value_match.specs.MemberKeys.{is_written};
-ghost use Rattle.value_match.specs.SetMarks.{IsBelow, IsLeastMark, IsMarkOf, IsOther, IsPlaceOfMark};
+ghost use Rattle.value_match.specs.SetMarks.{IsBelow, IsLeastMark, IsMarkFrom, IsMarkOf, IsMarkOfEither, IsOther, IsPlaceOfMark};
 ghost use Rattle.value_match.specs.SlotKeys.{has_mark};
 
 use crate::marks::mark_of;
@@ -36,7 +36,8 @@ fn has_mark(part: &Part, slot: &Slot, mark: u64) -> bool
 
 /// The octets of the tag of a component, or none where it isn't written.
 fn mark_of_slot(part: &Part, slot: &Slot) -> Option<u64>
-    ensures { IsMarkOf part.now slot.now result }
+    ensures other { IsMarkOf part.now slot.now result }
+    ensures own { IfSome result (λ own. has_mark part.now slot.now own ≡ true) }
 {
     match slot {
         Slot::Absent => None,
@@ -54,6 +55,7 @@ fn mark_of_slot(part: &Part, slot: &Slot) -> Option<u64>
 fn lesser(first: Option<u64>, second: Option<u64>) -> Option<u64>
     ensures first { (n : ℕ) → IsBelow result n → IsBelow first n }
     ensures second { (n : ℕ) → IsBelow result n → IsBelow second n }
+    ensures one { (result ≡ first) ⊎ (result ≡ second) }
 {
     match first {
         None => second,
@@ -66,7 +68,8 @@ fn lesser(first: Option<u64>, second: Option<u64>) -> Option<u64>
 
 /// A number from `from` on, or none.
 fn at_least(number: Option<u64>, from: u64) -> Option<u64>
-    ensures { (n : ℕ) → from ≤ n → IsBelow result n → IsOther number n }
+    ensures other { (n : ℕ) → from ≤ n → IsBelow result n → IsOther number n }
+    ensures same { IfSome result (λ found. (from ≤ found) × (number ≡ Some found)) }
 {
     match number {
         None => None,
@@ -76,7 +79,8 @@ fn at_least(number: Option<u64>, from: u64) -> Option<u64>
 
 /// The least octets from `from` on that a component has. Looks at each component once.
 fn least_mark(items: &[Part], slots: &[Slot], from: u64) -> Option<u64>
-    ensures { IsLeastMark items.now slots.now from result }
+    ensures least { IsLeastMark items.now slots.now from result }
+    ensures there { IsMarkFrom items.now slots.now from result }
 {
     let count = items.len().min(slots.len());
     let mut least = None;
@@ -91,6 +95,7 @@ fn least_mark(items: &[Part], slots: &[Slot], from: u64) -> Option<u64>
 pub fn least_of_both(items: &[Part], slots: &[Slot], others: &[Slot], from: u64) -> Option<u64>
     ensures first { IsLeastMark items.now slots.now from result }
     ensures second { IsLeastMark items.now others.now from result }
+    ensures there { IsMarkOfEither items.now slots.now others.now from result }
 {
     lesser(
         least_mark(items, slots, from),

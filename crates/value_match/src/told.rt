@@ -2,7 +2,7 @@
 
 ghost use Rattle.std.specs.Prelude.{◌≡◌, ◌∷◌, [], ◌++◌, ℕ, List, IsTrue};
 ghost use Rattle.term_values.specs.Rearranged.{may_precede};
-ghost use Rattle.value_match.specs.MemberOrder.{TellsOrder};
+ghost use Rattle.value_match.specs.MemberOrder.{TellsOrder, is_rising};
 
 /// What is told of two members. Nothing is told of values of two forms, nor of an ANY that begins another one.
 #[derive(Clone, Copy, Debug, PartialEq, Eq, Drop)]
@@ -45,7 +45,8 @@ pub fn order_of_numbers(number: u64, other: u64) -> MemberOrder
 
 /// Whether it is told that the first one may stand before the second.
 pub fn may_precede(told: MemberOrder) -> bool
-    ensures { (xs ys : List ℕ) → TellsOrder told xs ys → IsTrue result → IsTrue (may_precede xs ys) }
+    ensures exact { result ≡ is_rising told }
+    ensures rises { (xs ys : List ℕ) → TellsOrder told xs ys → IsTrue result → IsTrue (may_precede xs ys) }
 {
     match told {
         MemberOrder::Before => true,

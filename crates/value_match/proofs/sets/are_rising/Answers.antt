@@ -20,7 +20,7 @@ loop-next-preserved c h =
     let rest : AreRising key (drop i xs) = subst (λ n. AreRising key (drop n xs)) (omega arith) h in
     c.loop-next.invariant (subst (λ zs. AreRising key zs) (sym first) (rising_next key x y (drop i xs)
     (drop (i + 1) xs) second
-    (c.may_precede.ensures (key x) (key y) c.order_of_members.ensures (search rules)) rest))
+    (c.may_precede.ensures.rises (key x) (key y) c.order_of_members.ensures (search rules)) rest))
 
 pub returns : goal.returns
 returns c e =
