@@ -1,3 +1,4 @@
+mod ApduDenoted
 mod ApduTold
 mod ApduTrees
 mod Backwards
