@@ -6,4 +6,5 @@ mod CuttingLaws
 mod FramingLaws
 mod LengthLaws
 mod RowLaws
+mod StandardFacts
 mod StreamLaws

@@ -126,6 +126,7 @@ impl Framer {
         // what is taken
         ensures taken { IfOk result (λ size. (self.new ≡ record self.old { octets = in_hand (self.old.octets ++ piece.now) })
             × (length self.old.octets + size ≡ length self.new.octets)) }
+        ensures within { IfOk result (λ size. size ≤ length piece.now) }
         ensures nothing { (result ≡ Ok 0)
             ↔ ((fault_in self.old.place self.old.octets ≡ None) × ((is_whole self.old.octets ≡ true) ⊎ (piece.now ≡ []))) }
 
