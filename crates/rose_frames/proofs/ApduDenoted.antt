@@ -1,28 +1,26 @@
 -- The tree of a sound APDU denotes it, and what denotes an APDU is its tree.
-use Rattle.std.proofs.Common.{◌≡◌, ◌⊎◌, inl, inr, ℕ, zero, suc, ◌<◌, ℤ, pos, negsuc, Bool, true, false, ◌&&◌, ◌||◌, List, [], ◌∷◌, ◌++◌, Option, None, Some, FitsSigned, refl, sym, ap, ◌∙◌, subst, arith}
+use Rattle.std.proofs.Common.{◌≡◌, inl, inr, ℕ, zero, suc, ◌<◌, ℤ, pos, negsuc, Bool, true, false, ◌&&◌, ◌||◌, List, [], ◌∷◌, Option, None, Some, FitsSigned, refl, sym, ap, ◌∙◌, subst, arith}
 use Rattle.std.specs.Int.{w64}
 use Rattle.std.specs.Prelude.{codes}
 use Rattle.std.proofs.Math.Dec.{leb}
 use Rattle.std.proofs.lemmas.Bool.{le-leb, leb-true, lt-ltb, ltb-true}
-use Rattle.std.proofs.lemmas.Option.{none-some, same_Some}
+use Rattle.std.proofs.lemmas.Option.{same_Some}
 use Rattle.term_values.specs.Bounded.{allowed}
 use Rattle.term_values.specs.CmipTypes.{at_most_one, implicit, number, one}
-use Rattle.term_values.specs.Denotes.{Denotes, DenotesAs, IsWhole, PartsDenote, PickDenotes}
-use Rattle.term_values.specs.Octets.{integer_contents}
+use Rattle.term_values.specs.Denotes.{Denotes, IsWhole, PartsDenote, PickDenotes}
 use Rattle.term_values.specs.PduSyntaxes.{invoke, invoke_id, operation_result, problem, reject, return_error, return_result}
 use Rattle.term_values.specs.Syntaxes.{TypeSyntax, TypeParts}
 use Rattle.term_values.specs.Syntaxes.TypeSyntax.{Any, Choice, NullType, Sequence, Tagged}
 use Rattle.term_values.specs.Syntaxes.TypeParts.{NoParts}
 use Rattle.term_values.specs.Tag.{context, universal}
-use Rattle.term_values.specs.Tree.{TreeValue, TreeValues, listed as trees_listed}
+use Rattle.term_values.specs.Tree.{TreeValue, listed as trees_listed}
 use Rattle.term_values.specs.Tree.TreeValue.{Primitive, Constructed}
 use Rattle.term_values.specs.Tree.TreeValues.{Nothing, Then}
 use Rattle.term_values.specs.Typed.{TypedValue, TypedSlots}
-use Rattle.term_values.specs.Typed.TypedValue.{Int, Null, Parts, Pick, Raw}
+use Rattle.term_values.specs.Typed.TypedValue.{Int, Null, Parts, Pick}
 use Rattle.term_values.specs.Typed.TypedSlots.{NoSlots, Filled, Empty}
 use Rattle.term_values.specs.declared.tag.Tag.{Tag}
-use Rattle.term_model.specs.Apdu.{AnyIsLast, IsApdu, IsLast, IsLastOfLast, any_slot, apdu_value, number_slot, rejected, result_slots}
-use Rattle.term_model.specs.RemoteOperation.{is_within_32_bits}
+use Rattle.term_model.specs.Apdu.{AnyIsLast, IsApdu, IsLast, IsLastOfLast, any_slot, number_slot, rejected, result_slots}
 use Rattle.term_model.specs.declared.apdu.Apdu.{Apdu}
 use Rattle.term_model.specs.declared.apdu.Apdu.TheVariants as apdus
 use Rattle.rose_frames.specs.ApduLaws.{AreTogether, IsId, IsOptionalId, IsSound, any_tree, apdu_tree, linked_tree, rejected_tree, result_tree, whole_tree}
@@ -79,62 +77,144 @@ problem_denotes (suc (suc (suc (suc class)))) n few fits = absurd (omega (arith,
 pub sound_denotes : (apdu : Apdu) → IsSound apdu → IsApdu (apdu_tree apdu) apdu
 sound_denotes (apdus.Invoke id None op None) s =
     record {
-      denotes = (whole_tree (universal 2) id ∷ (whole_tree (universal 2) op ∷ []), _, refl,
-      inl (id_denotes (universal 2) id s.0, inr (inl (number_denotes (universal 2) op s.2, inr (refl, refl)))), refl);
-      any = tt }
+      denotes = (
+        whole_tree (universal 2) id ∷ (whole_tree (universal 2) op ∷ []),
+        _,
+        refl,
+        inl (id_denotes (universal 2) id s.0, inr (inl (number_denotes (universal 2) op s.2, inr (refl, refl)))),
+        refl,
+      );
+      any = tt;
+    }
 sound_denotes (apdus.Invoke id None op (Some x)) s =
     record {
-      denotes = (whole_tree (universal 2) id ∷ (whole_tree (universal 2) op ∷ (x ∷ [])), _, refl,
-      inl (id_denotes (universal 2) id s.0, inr (inl (number_denotes (universal 2) op s.2, inl (refl, (refl, refl))))), refl);
-      any = refl }
+      denotes = (
+        whole_tree (universal 2) id ∷ (whole_tree (universal 2) op ∷ (x ∷ [])),
+        _,
+        refl,
+        inl (id_denotes (universal 2) id s.0, inr (inl (number_denotes (universal 2) op s.2, inl (refl, (refl, refl))))),
+        refl,
+      );
+      any = refl;
+    }
 sound_denotes (apdus.Invoke id (Some l) op None) s =
     record {
-      denotes = (whole_tree (universal 2) id ∷ (whole_tree (context 0) l ∷ (whole_tree (universal 2) op ∷ [])), _, refl,
-      inl (id_denotes (universal 2) id s.0, inl (id_denotes (context 0) l s.1,
-      inl (number_denotes (universal 2) op s.2, inr (refl, refl)))), refl);
-      any = tt }
+      denotes = (
+        whole_tree (universal 2) id ∷ (whole_tree (context 0) l ∷ (whole_tree (universal 2) op ∷ [])),
+        _,
+        refl,
+        inl (
+          id_denotes (universal 2) id s.0,
+          inl (
+            id_denotes (context 0) l s.1,
+            inl (number_denotes (universal 2) op s.2, inr (refl, refl)),
+          ),
+        ),
+        refl,
+      );
+      any = tt;
+    }
 sound_denotes (apdus.Invoke id (Some l) op (Some x)) s =
     record {
-      denotes = (whole_tree (universal 2) id ∷ (whole_tree (context 0) l ∷ (whole_tree (universal 2) op ∷ (x ∷ []))), _, refl,
-      inl (id_denotes (universal 2) id s.0, inl (id_denotes (context 0) l s.1,
-      inl (number_denotes (universal 2) op s.2, inl (refl, (refl, refl))))), refl);
-      any = refl }
+      denotes = (
+        whole_tree (universal 2) id ∷ (whole_tree (context 0) l ∷ (whole_tree (universal 2) op ∷ (x ∷ []))),
+        _,
+        refl,
+        inl (
+          id_denotes (universal 2) id s.0,
+          inl (
+            id_denotes (context 0) l s.1,
+            inl (number_denotes (universal 2) op s.2, inl (refl, (refl, refl))),
+          ),
+        ),
+        refl,
+      );
+      any = refl;
+    }
 sound_denotes (apdus.Result id (Some op) (Some x)) s =
     record {
-      denotes = (whole_tree (universal 2) id
-      ∷ (Constructed (universal 16) (Then (whole_tree (universal 2) op) (Then x Nothing)) ∷ []), _, refl,
-      inl (id_denotes (universal 2) id s.0, inl (
-      (whole_tree (universal 2) op ∷ (x ∷ []), _, refl,
-      inl (number_denotes (universal 2) op s.1, inl (refl, (refl, refl))), refl), (refl, refl))), refl);
-      any = (Constructed (universal 16) (Then (whole_tree (universal 2) op) (Then x Nothing)), refl, refl) }
+      denotes = (
+        whole_tree (universal 2) id
+            ∷ (Constructed (universal 16) (Then (whole_tree (universal 2) op) (Then x Nothing)) ∷ []),
+        _,
+        refl,
+        inl (
+          id_denotes (universal 2) id s.0,
+          inl (
+            (
+              whole_tree (universal 2) op ∷ (x ∷ []),
+              _,
+              refl,
+              inl (number_denotes (universal 2) op s.1, inl (refl, (refl, refl))),
+              refl,
+            ),
+            (refl, refl),
+          ),
+        ),
+        refl,
+      );
+      any = (Constructed (universal 16) (Then (whole_tree (universal 2) op) (Then x Nothing)), refl, refl);
+    }
 sound_denotes (apdus.Result id (Some op) None) s = absurd s.1
 sound_denotes (apdus.Result id None (Some x)) s = absurd s.1
 sound_denotes (apdus.Result id None None) s =
     record {
-      denotes = (whole_tree (universal 2) id ∷ [], _, refl,
-      inl (id_denotes (universal 2) id s.0, inr (refl, refl)), refl);
-      any = tt }
+      denotes = (
+        whole_tree (universal 2) id ∷ [],
+        _,
+        refl,
+        inl (id_denotes (universal 2) id s.0, inr (refl, refl)),
+        refl,
+      );
+      any = tt;
+    }
 sound_denotes (apdus.Error id error None) s =
     record {
-      denotes = (whole_tree (universal 2) id ∷ (whole_tree (universal 2) error ∷ []), _, refl,
-      inl (id_denotes (universal 2) id s.0, inl (number_denotes (universal 2) error s.1, inr (refl, refl))), refl);
-      any = tt }
+      denotes = (
+        whole_tree (universal 2) id ∷ (whole_tree (universal 2) error ∷ []),
+        _,
+        refl,
+        inl (id_denotes (universal 2) id s.0, inl (number_denotes (universal 2) error s.1, inr (refl, refl))),
+        refl,
+      );
+      any = tt;
+    }
 sound_denotes (apdus.Error id error (Some x)) s =
     record {
-      denotes = (whole_tree (universal 2) id ∷ (whole_tree (universal 2) error ∷ (x ∷ [])), _, refl,
-      inl (id_denotes (universal 2) id s.0, inl (number_denotes (universal 2) error s.1, inl (refl, (refl, refl)))), refl);
-      any = refl }
+      denotes = (
+        whole_tree (universal 2) id ∷ (whole_tree (universal 2) error ∷ (x ∷ [])),
+        _,
+        refl,
+        inl (id_denotes (universal 2) id s.0, inl (number_denotes (universal 2) error s.1, inl (refl, (refl, refl)))),
+        refl,
+      );
+      any = refl;
+    }
 sound_denotes (apdus.Reject None class n) s =
     record {
-      denotes = (Primitive (universal 5) [] ∷ (whole_tree (context class) n ∷ []), _, refl,
-      inl ((1, Null, (refl, refl), refl), inl ((class, Int n, problem_denotes class n s.1 s.2, refl), (refl, refl))), refl);
-      any = tt }
+      denotes = (
+        Primitive (universal 5) [] ∷ (whole_tree (context class) n ∷ []),
+        _,
+        refl,
+        inl ((1, Null, (refl, refl), refl), inl ((class, Int n, problem_denotes class n s.1 s.2, refl), (refl, refl))),
+        refl,
+      );
+      any = tt;
+    }
 sound_denotes (apdus.Reject (Some id) class n) s =
     record {
-      denotes = (whole_tree (universal 2) id ∷ (whole_tree (context class) n ∷ []), _, refl,
-      inl ((0, Int id, id_denotes (universal 2) id s.0, refl),
-      inl ((class, Int n, problem_denotes class n s.1 s.2, refl), (refl, refl))), refl);
-      any = tt }
+      denotes = (
+        whole_tree (universal 2) id ∷ (whole_tree (context class) n ∷ []),
+        _,
+        refl,
+        inl (
+          (0, Int id, id_denotes (universal 2) id s.0, refl),
+          inl ((class, Int n, problem_denotes class n s.1 s.2, refl), (refl, refl)),
+        ),
+        refl,
+      );
+      any = tt;
+    }
 
 -- ---- what denotes an APDU is its tree
 
@@ -194,11 +274,12 @@ number_denoted : (xs : List TreeValue) (n : ℤ) (any : Option TreeValue) →
 number_denoted [] n any p = elim p [ inl f ↦ absurd f | inr f ↦ absurd f ]
 number_denoted (x ∷ xs) n any p =
     elim p [
-      inl f ↦
-      let b = number_back (universal 2) x n f.0 in
-      let a = any_denoted xs any f.1 in
-      (a.0, (λ i. Then (b.0 i) (a.1 i)), a.2, b.1)
-    | inr f ↦ absurd f ]
+      | inl f ↦
+          let b = number_back (universal 2) x n f.0 in
+          let a = any_denoted xs any f.1 in
+          (a.0, (λ i. Then (b.0 i) (a.1 i)), a.2, b.1)
+      | inr f ↦ absurd f
+    ]
 
 linked_denoted : (xs : List TreeValue) (linked : Option ℤ) (n : ℤ) (any : Option TreeValue) →
     PartsDenote linked_parts xs (number_slot linked (Filled (Int n) (any_slot any NoSlots))) →
@@ -212,11 +293,12 @@ linked_denoted (x ∷ xs) None n any p =
 linked_denoted [] (Some l) n any p = elim p [ inl f ↦ absurd f | inr f ↦ absurd f ]
 linked_denoted (x ∷ xs) (Some l) n any p =
     elim p [
-      inl f ↦
-      let b = id_back (context 0) x l f.0 in
-      let a = number_denoted xs n any f.1 in
-      (a.0, (λ i. Then (b.0 i) (a.1 i)), a.2, b.1, a.3)
-    | inr f ↦ absurd f ]
+      | inl f ↦
+          let b = id_back (context 0) x l f.0 in
+          let a = number_denoted xs n any f.1 in
+          (a.0, (λ i. Then (b.0 i) (a.1 i)), a.2, b.1, a.3)
+      | inr f ↦ absurd f
+    ]
 
 -- what is of any type is the last one
 last_linked : (tag : Tag) (x y : TreeValue) (linked : Option ℤ) (any given : Option TreeValue) → AreAlike any given →
@@ -237,11 +319,12 @@ invoke_row : (inside : List TreeValue) (id : ℤ) (linked : Option ℤ) (op : �
 invoke_row [] id linked op argument p = elim p [ inl f ↦ absurd f | inr f ↦ absurd f ]
 invoke_row (x ∷ xs) id linked op argument p =
     elim p [
-      inl f ↦
-      let b = id_back (universal 2) x id f.0 in
-      let a = linked_denoted xs linked op argument f.1 in
-      (a.0, (λ i. Then (b.0 i) (a.1 i)), a.2, (b.1, a.3, a.4))
-    | inr f ↦ absurd f ]
+      | inl f ↦
+          let b = id_back (universal 2) x id f.0 in
+          let a = linked_denoted xs linked op argument f.1 in
+          (a.0, (λ i. Then (b.0 i) (a.1 i)), a.2, (b.1, a.3, a.4))
+      | inr f ↦ absurd f
+    ]
 
 invoke_tree : (tree : TreeValue) (id : ℤ) (linked : Option ℤ) (op : ℤ) (argument : Option TreeValue) →
     IsApdu tree (apdus.Invoke id linked op argument) → IsTreeOf tree (apdus.Invoke id linked op argument)
@@ -253,9 +336,11 @@ invoke_tree tree id linked op argument a =
     (linked_tree linked (Then (whole_tree (universal 2) op) (any_tree r.0)))) = d.2 ∙ ap (Constructed (context 1)) r.1 in
     let same : r.0 ≡ argument =
     last_linked (context 1) (whole_tree (universal 2) id) (whole_tree (universal 2) op) linked argument r.0 r.2
-    (subst (AnyIsLast argument) whole a.any) in
-    (whole ∙ ap (λ (g : Option TreeValue). Constructed (context 1) (Then (whole_tree (universal 2) id)
-    (linked_tree linked (Then (whole_tree (universal 2) op) (any_tree g))))) same, r.3)
+    (subst (AnyIsLast argument) whole a.any) in (
+      whole ∙ ap (λ (g : Option TreeValue). Constructed (context 1) (Then (whole_tree (universal 2) id)
+          (linked_tree linked (Then (whole_tree (universal 2) op) (any_tree g))))) same,
+      r.3,
+    )
 
 -- the operation and the value of a result
 abbrev body_parts : TypeParts
@@ -280,11 +365,12 @@ body_row : (xs : List TreeValue) (op : ℤ) (value : TreeValue) →
 body_row [] op value p = elim p [ inl f ↦ absurd f | inr f ↦ absurd f ]
 body_row (x ∷ xs) op value p =
     elim p [
-      inl f ↦
-      let b = number_back (universal 2) x op f.0 in
-      let v = value_row xs value f.1 in
-      (v.0, (λ i. Then (b.0 i) (v.1 i)), b.1)
-    | inr f ↦ absurd f ]
+      | inl f ↦
+          let b = number_back (universal 2) x op f.0 in
+          let v = value_row xs value f.1 in
+          (v.0, (λ i. Then (b.0 i) (v.1 i)), b.1)
+      | inr f ↦ absurd f
+    ]
 
 no_body : (xs : List TreeValue) (op : ℤ) → PartsDenote body_parts xs (Filled (Int op) (Empty NoSlots)) → ⊥
 no_body [] op p = elim p [ inl f ↦ f | inr f ↦ f ]
@@ -302,23 +388,26 @@ result_denoted (y ∷ ys) None None p = elim p [ inl f ↦ absurd f | inr f ↦ 
 result_denoted [] (Some op) (Some v) p = elim p [ inl f ↦ absurd f | inr f ↦ absurd f ]
 result_denoted (y ∷ ys) (Some op) (Some v) p =
     elim p [
-      inl f ↦
-      let d = f.0 in
-      let b = body_row d.0 op v (subst (PartsDenote body_parts d.0) (sym (ap slots_back d.4)) d.3) in
-      let body = d.2 ∙ ap (Constructed (universal 16)) b.1 in
-      (Some b.0, (λ i. Then (body i) (trees_listed (f.1.0 i))), tt, b.2)
-    | inr f ↦ absurd f ]
+      | inl f ↦
+          let d = f.0 in
+          let b = body_row d.0 op v (subst (PartsDenote body_parts d.0) (sym (ap slots_back d.4)) d.3) in
+          let body = d.2 ∙ ap (Constructed (universal 16)) b.1 in
+          (Some b.0, (λ i. Then (body i) (trees_listed (f.1.0 i))), tt, b.2)
+      | inr f ↦ absurd f
+    ]
 result_denoted [] (Some op) None p = elim p [ inl f ↦ absurd f | inr f ↦ absurd f ]
 result_denoted (y ∷ ys) (Some op) None p =
     elim p [
-      inl f ↦ let d = f.0 in absurd (no_body d.0 op (subst (PartsDenote body_parts d.0) (sym (ap slots_back d.4)) d.3))
-    | inr f ↦ absurd f ]
+      | inl f ↦ let d = f.0 in absurd (no_body d.0 op (subst (PartsDenote body_parts d.0) (sym (ap slots_back d.4)) d.3))
+      | inr f ↦ absurd f
+    ]
 result_denoted [] None (Some v) p = elim p [ inl f ↦ absurd f | inr f ↦ absurd f ]
 result_denoted (y ∷ ys) None (Some v) p =
     elim p [
-      inl f ↦
-      let d = f.0 in absurd (no_operation d.0 _ (subst (PartsDenote body_parts d.0) (sym (ap slots_back d.4)) d.3))
-    | inr f ↦ absurd f ]
+      | inl f ↦
+          let d = f.0 in absurd (no_operation d.0 _ (subst (PartsDenote body_parts d.0) (sym (ap slots_back d.4)) d.3))
+      | inr f ↦ absurd f
+    ]
 
 result_row : (inside : List TreeValue) (id : ℤ) (op : Option ℤ) (value : Option TreeValue) →
     PartsDenote (parts_of return_result) inside (Filled (Int id) (result_slots op value)) →
@@ -327,11 +416,12 @@ result_row : (inside : List TreeValue) (id : ℤ) (op : Option ℤ) (value : Opt
 result_row [] id op value p = elim p [ inl f ↦ absurd f | inr f ↦ absurd f ]
 result_row (x ∷ xs) id op value p =
     elim p [
-      inl f ↦
-      let b = id_back (universal 2) x id f.0 in
-      let a = result_denoted xs op value f.1 in
-      (a.0, (λ i. Then (b.0 i) (a.1 i)), a.2, (b.1, a.3))
-    | inr f ↦ absurd f ]
+      | inl f ↦
+          let b = id_back (universal 2) x id f.0 in
+          let a = result_denoted xs op value f.1 in
+          (a.0, (λ i. Then (b.0 i) (a.1 i)), a.2, (b.1, a.3))
+      | inr f ↦ absurd f
+    ]
 
 -- what is of any type in a result
 abbrev ValueIsLast : Option TreeValue → TreeValue → Type 0
@@ -363,9 +453,10 @@ result_is tree id op value a =
     d.2 ∙ ap (Constructed (context 2)) r.1 in
     let same : r.0 ≡ value =
     last_value (whole_tree (universal 2) id) op value r.0 r.2 r.3.1
-    (subst (ValueIsLast value) whole (result_any id op value tree a)) in
-    (whole ∙ ap (λ (g : Option TreeValue). Constructed (context 2) (Then (whole_tree (universal 2) id) (result_tree op g))) same,
-    r.3)
+    (subst (ValueIsLast value) whole (result_any id op value tree a)) in (
+      whole ∙ ap (λ (g : Option TreeValue). Constructed (context 2) (Then (whole_tree (universal 2) id) (result_tree op g))) same,
+      r.3,
+    )
 
 error_row : (inside : List TreeValue) (id error : ℤ) (parameter : Option TreeValue) →
     PartsDenote (parts_of return_error) inside (Filled (Int id) (Filled (Int error) (any_slot parameter NoSlots))) →
@@ -375,11 +466,12 @@ error_row : (inside : List TreeValue) (id error : ℤ) (parameter : Option TreeV
 error_row [] id error parameter p = elim p [ inl f ↦ absurd f | inr f ↦ absurd f ]
 error_row (x ∷ xs) id error parameter p =
     elim p [
-      inl f ↦
-      let b = id_back (universal 2) x id f.0 in
-      let a = number_denoted xs error parameter f.1 in
-      (a.0, (λ i. Then (b.0 i) (a.1 i)), a.2, (b.1, a.3))
-    | inr f ↦ absurd f ]
+      | inl f ↦
+          let b = id_back (universal 2) x id f.0 in
+          let a = number_denoted xs error parameter f.1 in
+          (a.0, (λ i. Then (b.0 i) (a.1 i)), a.2, (b.1, a.3))
+      | inr f ↦ absurd f
+    ]
 
 error_is : (tree : TreeValue) (id error : ℤ) (parameter : Option TreeValue) →
     IsApdu tree (apdus.Error id error parameter) → IsTreeOf tree (apdus.Error id error parameter)
@@ -391,9 +483,11 @@ error_is tree id error parameter a =
     (Then (whole_tree (universal 2) error) (any_tree r.0))) = d.2 ∙ ap (Constructed (context 3)) r.1 in
     let same : r.0 ≡ parameter =
     last_linked (context 3) (whole_tree (universal 2) id) (whole_tree (universal 2) error) None parameter r.0 r.2
-    (subst (AnyIsLast parameter) whole a.any) in
-    (whole ∙ ap (λ (g : Option TreeValue). Constructed (context 3) (Then (whole_tree (universal 2) id)
-    (Then (whole_tree (universal 2) error) (any_tree g)))) same, r.3)
+    (subst (AnyIsLast parameter) whole a.any) in (
+      whole ∙ ap (λ (g : Option TreeValue). Constructed (context 3) (Then (whole_tree (universal 2) id)
+          (Then (whole_tree (universal 2) error) (any_tree g)))) same,
+      r.3,
+    )
 
 -- the alternative of a CHOICE
 picked_back : (parts : TypeParts) (x : TreeValue) (k : ℕ) (v : TypedValue) → Denotes (Choice parts) x (Pick k v) →
@@ -426,13 +520,15 @@ reject_row (x ∷ []) id class n p =
     elim p [ inl f ↦ elim f.1 [ inl g ↦ absurd g | inr g ↦ absurd g ] | inr f ↦ absurd f ]
 reject_row (x ∷ (y ∷ ys)) id class n p =
     elim p [
-      inl f ↦ elim f.1 [
-        inl g ↦
-        let b = rejected_denoted x id f.0 in
-        let c = problem_denoted y class n (picked_back (parts_of problem) y class (Int n) g.0) in
-        ((λ i. Then (b.0 i) (Then (c.0 i) (trees_listed (g.1.0 i)))), (b.1, c.1, c.2))
-      | inr g ↦ absurd g ]
-    | inr f ↦ absurd f ]
+      | inl f ↦ elim f.1 [
+        | inl g ↦
+            let b = rejected_denoted x id f.0 in
+            let c = problem_denoted y class n (picked_back (parts_of problem) y class (Int n) g.0) in
+            ((λ i. Then (b.0 i) (Then (c.0 i) (trees_listed (g.1.0 i)))), (b.1, c.1, c.2))
+        | inr g ↦ absurd g
+      ]
+      | inr f ↦ absurd f
+    ]
 
 reject_is : (tree : TreeValue) (id : Option ℤ) (class : ℕ) (n : ℤ) →
     IsApdu tree (apdus.Reject id class n) → IsTreeOf tree (apdus.Reject id class n)

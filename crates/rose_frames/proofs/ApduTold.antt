@@ -1,11 +1,10 @@
 -- What is read as an APDU is the tree of it.
-use Rattle.std.proofs.Common.{◌≡◌, ◌⊎◌, inl, inr, ℕ, ◌<◌, ℤ, Bool, true, false, ◌&&◌, ◌==◌, List, [], ◌∷◌, ◌++◌, Option, None, Some, FitsSigned, refl, sym, ap, ◌∙◌, subst, arith}
+use Rattle.std.proofs.Common.{◌≡◌, ◌⊎◌, inl, inr, ℕ, ◌<◌, ℤ, Bool, true, false, ◌==◌, [], ◌∷◌, Option, None, Some, FitsSigned, refl, sym, ap, ◌∙◌, subst}
 use Rattle.std.specs.Int.{w64}
 use Rattle.std.specs.Prelude.{option_map, option_and_then, if◌then◌else◌, nat_lt}
 use Rattle.std.proofs.lemmas.Bool.{and_parts, eqb-true, ltb-true}
 use Rattle.std.proofs.lemmas.Option.{none-some, same_Some}
-use Rattle.term_values.specs.Octets.{integer_contents, integer_in}
-use Rattle.term_values.specs.SpellingLaws.{AreOctets}
+use Rattle.term_values.specs.Octets.{integer_in}
 use Rattle.term_values.specs.Tag.{context, is_same_tag, universal}
 use Rattle.term_values.specs.Tree.{TreeValue, TreeValues}
 use Rattle.term_values.specs.Tree.TreeValue.{Primitive, Constructed}
@@ -15,7 +14,7 @@ use Rattle.term_values.specs.declared.tag.Tag.{Tag}
 use Rattle.typed_laws.proofs.Choosing.{if_some, map_some, same_tag, then_some}
 use Rattle.typed_laws.proofs.LeavesTold.{whole_of}
 use Rattle.typed_laws.specs.TreeOctets.{HasOctets, HaveOctets}
-use Rattle.term_model.specs.ApduReading.{apdu_of, at_most_one, error_id, error_in, error_number, fields_in, first_by, id_under, invoke_id, invoke_in, invoke_linked, invoke_operation, is_class, linked_first, null_in, problem_in, reject_in, reject_parts, rejected_in, result_body, result_id, result_in, result_parts, within_32_bits}
+use Rattle.term_model.specs.ApduReading.{apdu_of, at_most_one, error_id, error_in, error_number, id_under, invoke_id, invoke_in, invoke_linked, invoke_operation, is_class, null_in, problem_in, reject_in, rejected_in, result_id, result_in, result_parts, within_32_bits}
 use Rattle.term_model.specs.Parts.{contents_under, inside_under, integer_under, two, two_under}
 use Rattle.term_model.specs.RemoteOperation.{is_within_32_bits}
 use Rattle.term_model.specs.declared.apdu.Apdu.{Apdu}
@@ -81,7 +80,12 @@ linked_by : (b : Bool) (id : ℤ) (x : TreeValue) (xs : TreeValues) (apdu : Apdu
     Linked id (Then x xs) apdu
 linked_by false id x xs apdu h e =
     record {
-      linked = None; rest = Then x xs; operation = operation_told id None (Then x xs) apdu h e; trees = refl; within = tt }
+      linked = None;
+      rest = Then x xs;
+      operation = operation_told id None (Then x xs) apdu h e;
+      trees = refl;
+      within = tt;
+    }
 linked_by true id x xs apdu h e =
     let f = then_some (λ (f : Option ℤ × TreeValues). invoke_linked id f.0 f.1)
     (option_map (λ n. (Some n, xs)) (id_under (context 0) x)) apdu e in
@@ -90,8 +94,12 @@ linked_by true id x xs apdu h e =
     let rest : invoke_linked id (Some m.0) xs ≡ Some apdu =
     subst (λ (p : Option ℤ × TreeValues). invoke_linked id p.0 p.1 ≡ Some apdu) (sym m.2) f.2 in
     record {
-      linked = Some m.0; rest = xs; operation = operation_told id (Some m.0) xs apdu h.1 rest;
-      trees = ap (λ y. Then y xs) n.0; within = n.1 }
+      linked = Some m.0;
+      rest = xs;
+      operation = operation_told id (Some m.0) xs apdu h.1 rest;
+      trees = ap (λ y. Then y xs) n.0;
+      within = n.1;
+    }
 
 linked_told : (id : ℤ) (xs : TreeValues) (apdu : Apdu) → HaveOctets xs → invoke_id id xs ≡ Some apdu → Linked id xs apdu
 linked_told id Nothing apdu h e = absurd (none-some _ e)
@@ -155,9 +163,12 @@ body_told id (Then x Nothing) apdu h e =
     let octets : HasOctets (Constructed (universal 16) (Then f.0.0 (Then f.0.1 Nothing))) = subst HasOctets p h.0 in
     let n = integer_told (universal 2) f.0.0 m.0 octets.0 m.1 in
     record {
-      op = Some m.0; value = Some f.0.1; is = sym m.2;
+      op = Some m.0;
+      value = Some f.0.1;
+      is = sym m.2;
       trees = ap (λ y. Then y Nothing) (p ∙ ap (λ y. Constructed (universal 16) (Then y (Then f.0.1 Nothing))) n.0);
-      sound = n.1 }
+      sound = n.1;
+    }
 
 result_told : (inside : TreeValues) (apdu : Apdu) → HaveOctets inside → result_in inside ≡ Some apdu →
     IsTreeOf (Constructed (context 2) inside) apdu
@@ -268,11 +279,15 @@ pub tree_told : (tree : TreeValue) (apdu : Apdu) → HasOctets tree → apdu_of 
 tree_told (Primitive tag contents) apdu h e = absurd (none-some _ e)
 tree_told (Constructed tag inside) apdu h e =
     elim (if_else (is_same_tag tag (context 1)) (invoke_in inside) _ apdu e) [
-      inl one ↦ under_tag tag (context 1) inside apdu one.0 (invoke_told inside apdu h one.1)
-    | inr e2 ↦ elim (if_else (is_same_tag tag (context 2)) (result_in inside) _ apdu e2) [
-        inl two ↦ under_tag tag (context 2) inside apdu two.0 (result_told inside apdu h two.1)
-      | inr e3 ↦ elim (if_else (is_same_tag tag (context 3)) (error_in inside) _ apdu e3) [
-          inl three ↦ under_tag tag (context 3) inside apdu three.0 (error_told inside apdu h three.1)
-        | inr e4 ↦ elim (if_else (is_same_tag tag (context 4)) (reject_in inside) None apdu e4) [
-            inl four ↦ under_tag tag (context 4) inside apdu four.0 (reject_told inside apdu h four.1)
-          | inr never ↦ absurd (none-some _ never) ] ] ] ]
+      | inl one ↦ under_tag tag (context 1) inside apdu one.0 (invoke_told inside apdu h one.1)
+      | inr e2 ↦ elim (if_else (is_same_tag tag (context 2)) (result_in inside) _ apdu e2) [
+        | inl two ↦ under_tag tag (context 2) inside apdu two.0 (result_told inside apdu h two.1)
+        | inr e3 ↦ elim (if_else (is_same_tag tag (context 3)) (error_in inside) _ apdu e3) [
+          | inl three ↦ under_tag tag (context 3) inside apdu three.0 (error_told inside apdu h three.1)
+          | inr e4 ↦ elim (if_else (is_same_tag tag (context 4)) (reject_in inside) None apdu e4) [
+            | inl four ↦ under_tag tag (context 4) inside apdu four.0 (reject_told inside apdu h four.1)
+            | inr never ↦ absurd (none-some _ never)
+          ]
+        ]
+      ]
+    ]

@@ -1,26 +1,21 @@
 -- Sound APDUs and their trees: what is written for them, and what is read of it.
-use Rattle.std.proofs.Common.{◌≡◌, ℕ, ◌+◌, ◌^◌, ◌<◌, ◌≤◌, ℤ, pos, negsuc, Bool, true, false, ◌&&◌, ◌||◌, List, [], ◌∷◌, ◌++◌, length, Option, None, Some, FitsSigned, refl, sym, ap, ◌∙◌, subst, arith}
+use Rattle.std.proofs.Common.{◌≡◌, ℕ, ℤ, pos, negsuc, true, List, [], ◌++◌, length, None, Some, FitsSigned, refl, ap, ◌∙◌, arith}
 use Rattle.std.specs.Int.{w64}
-use Rattle.std.specs.Prelude.{int_le, option_map, option_and_then, nat_lt}
-use Rattle.std.proofs.Math.Dec.{ltb, leb}
-use Rattle.std.proofs.lemmas.Bool.{and_parts, eq-eqb, le-leb, leb-true, lt-ltb, ltb-true}
+use Rattle.std.specs.Prelude.{option_and_then}
+use Rattle.std.proofs.lemmas.Bool.{lt-ltb, ltb-true}
 use Rattle.std.proofs.lemmas.List.{append-nil}
 use Rattle.term_values.proofs.IntegerLaws.{whole_read}
-use Rattle.term_values.specs.Bounded.{allowed}
-use Rattle.term_values.specs.Der.{encoded, written, written_all, identifier_octets, length_octets}
-use Rattle.term_values.specs.Octets.{integer_contents, integer_in}
-use Rattle.term_values.specs.Tag.{context, is_same_tag, universal}
-use Rattle.term_values.specs.Tree.{TreeValue, TreeValues}
+use Rattle.term_values.specs.Der.{encoded, written, identifier_octets, length_octets}
+use Rattle.term_values.specs.Tag.{context, universal}
 use Rattle.term_values.specs.Tree.TreeValue.{Primitive, Constructed}
 use Rattle.term_values.specs.Tree.TreeValues.{Nothing, Then}
 use Rattle.term_values.specs.declared.tag.Tag.{Tag}
-use Rattle.term_model.specs.ApduReading.{apdu_of, first_by, id_under, problem_in, rejected_in, within_32_bits}
-use Rattle.term_model.specs.ApduWriting.{any_octets, apdu_octets, linked_octets}
+use Rattle.term_model.specs.ApduReading.{apdu_of, id_under, within_32_bits}
+use Rattle.term_model.specs.ApduWriting.{apdu_octets}
 use Rattle.term_model.specs.Parts.{integer_under}
-use Rattle.term_model.specs.RemoteOperation.{is_within_32_bits}
 use Rattle.term_model.specs.declared.apdu.Apdu.{Apdu}
 use Rattle.term_model.specs.declared.apdu.Apdu.TheVariants as apdus
-use Rattle.rose_frames.specs.ApduLaws.{AreTogether, IsId, IsOptionalId, IsSound, WrittenIsApdu, any_tree, apdu_tree, linked_tree, rejected_tree, result_tree, whole_tree}
+use Rattle.rose_frames.specs.ApduLaws.{IsId, IsSound, WrittenIsApdu, apdu_tree, whole_tree}
 
 -- ids are numbers of 64 bits
 pub id_fits : (n : ℤ) → IsId n → FitsSigned w64 n

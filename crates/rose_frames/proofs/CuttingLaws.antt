@@ -1,14 +1,14 @@
 -- Octets that are fed in pieces, as frames one after another.
-use Rattle.std.proofs.Common.{◌≡◌, ◌⊎◌, ℕ, zero, suc, ◌+◌, ◌-◌, ◌^◌, ◌<◌, ◌≤◌, Bool, true, false, ◌&&◌, ◌==◌, inl, inr, List, [], ◌∷◌, ◌++◌, length, take, drop, get_or, min, All, flat_map, Option, Some, None, refl, sym, ap, ◌∙◌, subst, arith, append_assoc, take-append-drop, length-append, length-take, length-drop}
+use Rattle.std.proofs.Common.{◌≡◌, ◌⊎◌, ℕ, zero, suc, ◌+◌, ◌-◌, ◌^◌, ◌<◌, ◌≤◌, true, false, ◌&&◌, ◌==◌, inl, inr, List, [], ◌∷◌, ◌++◌, length, take, drop, get_or, min, All, flat_map, Some, None, refl, sym, ap, ◌∙◌, arith, append_assoc, take-append-drop, length-append, length-take, length-drop}
 use Rattle.std.proofs.Math.Dec.{ltb, leb}
 use Rattle.std.proofs.Math.Seq.{take-append-add}
 use Rattle.std.proofs.lemmas.Bool.{le-ltb, lt-ltb, le-leb, eq-eqb, cases_lt}
 use Rattle.std.proofs.lemmas.Grind.{flat_map-append}
-use Rattle.std.proofs.lemmas.List.{append-nil, take_at, take-take, take_min, take_rest, length-take-le}
+use Rattle.std.proofs.lemmas.List.{append-nil, take-take, take_min, length-take-le}
 use Rattle.std.proofs.lemmas.List.Elements.{All-append}
 use Rattle.term_values.specs.Octets.{number}
 use Rattle.term_model.specs.RemoteOperation.{frame}
-use Rattle.rose_frames.specs.Cutting.{Begins, IsCut, IsFramed}
+use Rattle.rose_frames.specs.Cutting.{Begins, IsFramed}
 use Rattle.rose_frames.specs.declared.frame_refusal.FrameRefusal.{FrameRefusal}
 use Rattle.rose_frames.specs.declared.frame_refusal.FrameRefusal.TheVariants.{Memory}
 use Rattle.rose_frames.specs.Framing.{Framing, announced, fault_of, fault_in, frame_size, in_hand, is_size, is_whole, place_behind}

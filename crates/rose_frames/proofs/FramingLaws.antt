@@ -1,5 +1,5 @@
 -- What is held of a stream, by the four octets of the length and what stands behind them.
-use Rattle.std.proofs.Common.{◌≡◌, ◌⊎◌, inl, inr, ℕ, ◌+◌, ◌-◌, ◌<◌, ◌≤◌, Bool, true, false, not, All, ◌&&◌, ◌==◌, List, [], ◌∷◌, ◌++◌, length, take, drop, min, Option, Some, None, refl, sym, ap, ◌∙◌, subst, arith, zero, suc, append_assoc, take-append-drop, length-append, length-take}
+use Rattle.std.proofs.Common.{◌≡◌, ◌⊎◌, inl, inr, ℕ, ◌+◌, ◌-◌, ◌<◌, ◌≤◌, Bool, true, false, not, All, ◌&&◌, ◌==◌, List, [], ◌∷◌, ◌++◌, length, take, drop, min, Some, None, refl, sym, ap, ◌∙◌, subst, arith, zero, suc, append_assoc, take-append-drop, length-append, length-take}
 use Rattle.std.proofs.Math.Dec.{ltb, leb}
 use Rattle.std.proofs.Math.Seq.{take-length, take-append-add}
 use Rattle.std.proofs.lemmas.Bool.{le-ltb, lt-ltb, ltb-true, le-leb, lt-leb, leb-true, eqb-true, eq-eqb, cases_lt, and_parts}

@@ -1,5 +1,5 @@
 -- The four octets of a length, as they are written.
-use Rattle.std.proofs.Common.{◌≡◌, ℕ, zero, suc, ◌/◌, ◌%◌, ◌^◌, ◌<◌, get_or, arith, List, [], ◌∷◌, length, All, refl, sym, ap, ◌∙◌}
+use Rattle.std.proofs.Common.{◌≡◌, ℕ, zero, suc, ◌/◌, ◌%◌, ◌^◌, ◌<◌, get_or, arith, [], ◌∷◌, length, All, sym, ap, ◌∙◌}
 use Rattle.std.proofs.Math.Nat.{div-one}
 use Rattle.byteorder.specs.Endian.{big_bytes}
 use Rattle.term_values.specs.Octets.{number, octets}

@@ -1,5 +1,5 @@
 -- Values in a row that are not two.
-use Rattle.std.proofs.Common.{◌≡◌, ℕ, List, [], ◌∷◌, length, None, refl}
+use Rattle.std.proofs.Common.{◌≡◌, List, [], ◌∷◌, length, None, refl}
 use Rattle.term_values.specs.Tree.{TreeValue, listed}
 use Rattle.term_model.specs.Parts.{two}
 

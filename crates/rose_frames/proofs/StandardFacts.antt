@@ -1,5 +1,5 @@
 -- The definitions at examples: X.229, section 9; docs/PROFILE.md, section 4.
-use Rattle.std.proofs.Common.{◌≡◌, List, [], ◌∷◌, true, false, pos, None, Some, refl}
+use Rattle.std.proofs.Common.{◌≡◌, [], ◌∷◌, true, false, pos, None, Some, refl}
 use Rattle.term_values.specs.Der.{identifier_octets, length_octets}
 use Rattle.term_values.specs.Octets.{integer_contents, integer_in}
 use Rattle.term_values.specs.Tag.{context, universal}

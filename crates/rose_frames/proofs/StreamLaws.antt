@@ -1,5 +1,5 @@
 -- Whole streams: that they are cut in one way, and what each piece adds.
-use Rattle.std.proofs.Common.{◌≡◌, ◌⊎◌, inl, inr, ℕ, zero, suc, ◌+◌, ◌-◌, ◌*◌, ◌^◌, ◌<◌, ◌≤◌, Bool, true, false, ◌&&◌, ◌==◌, List, [], ◌∷◌, ◌++◌, length, take, drop, get_or, min, All, flat_map, Option, Some, None, refl, sym, ap, ◌∙◌, subst, arith, append_assoc, take-append-drop, length-append}
+use Rattle.std.proofs.Common.{◌≡◌, ◌⊎◌, inl, inr, ℕ, zero, suc, ◌+◌, ◌-◌, ◌^◌, ◌<◌, ◌≤◌, Bool, true, false, ◌&&◌, List, [], ◌∷◌, ◌++◌, length, take, drop, get_or, All, flat_map, Some, None, refl, sym, ap, ◌∙◌, subst, arith, append_assoc, take-append-drop, length-append}
 use Rattle.std.proofs.lemmas.Bool.{le-ltb, lt-leb, cases_lt}
 use Rattle.std.proofs.Math.Dec.{ltb, leb}
 use Rattle.std.proofs.Math.Seq.{take-length}
@@ -13,7 +13,7 @@ use Rattle.rose_frames.specs.Cutting.{Begins, IsCut, IsFramed, OneCut, joined, p
 use Rattle.rose_frames.specs.declared.frame_refusal.FrameRefusal.{FrameRefusal}
 use Rattle.rose_frames.specs.declared.frame_refusal.FrameRefusal.TheVariants.{Memory}
 use Rattle.rose_frames.specs.Framing.{Framing, announced, fault_of, fault_in, frame_size, in_hand, is_size, is_whole, place_behind}
-use Rattle.rose_frames.proofs.CuttingLaws.{IsRefusedAt, all_none, is_held, place_on}
+use Rattle.rose_frames.proofs.CuttingLaws.{IsRefusedAt, all_none, is_held}
 use Rattle.rose_frames.proofs.FramingLaws.{IsSame, announced_is, fault_short, faulty_size, hand_long, true_not_false}
 
 -- a whole frame in front

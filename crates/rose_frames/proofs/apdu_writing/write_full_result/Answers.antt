@@ -1,11 +1,7 @@
 -- The parts in a row, the last one first.
-use Rattle.std.proofs.Common.{rules, ◌≡◌, ◌++◌, false, true, pos, reverse, w64}
+use Rattle.std.proofs.Common.{rules, w64}
 use Rattle.std.proofs.Math.Facts.{to_z-of_z}
-use Rattle.term_values.specs.Der.{encoded, written}
-use Rattle.term_values.specs.Octets.{integer_contents}
-use Rattle.term_values.specs.Tag.{context}
-use Rattle.term_model.specs.ApduWriting.{any_octets, linked_octets}
-use Rattle.term_model.specs.RemoteOperation.{integer, linked_id, rejected_id}
+use Rattle.term_model.specs.RemoteOperation.{integer}
 use Rattle.rose_frames.proofs.Backwards.{before}
 use Rattle.rose_frames.proofs.apdu_writing.write_full_result.Goals as goal
 

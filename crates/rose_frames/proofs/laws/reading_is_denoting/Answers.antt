@@ -1,5 +1,5 @@
 -- What is read is the tree of an APDU, and that denotes it.
-use Rattle.std.proofs.Common.{◌≡◌, sym, ap, ◌∙◌, subst}
+use Rattle.std.proofs.Common.{sym, ap, ◌∙◌, subst}
 use Rattle.term_values.specs.Tree.{TreeValue}
 use Rattle.term_model.specs.Apdu.{IsApdu}
 use Rattle.term_model.specs.ApduReading.{apdu_of}

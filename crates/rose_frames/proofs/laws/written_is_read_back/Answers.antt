@@ -1,5 +1,5 @@
 -- The tree of an APDU is what is written for it, and a written tree is read.
-use Rattle.std.proofs.Common.{◌≡◌, ◌++◌, sym, ap, ◌∙◌}
+use Rattle.std.proofs.Common.{◌++◌, sym, ap, ◌∙◌}
 use Rattle.term_values.specs.Ber.{most_depth}
 use Rattle.term_values.specs.BerReading.{tree_at}
 use Rattle.term_values.proofs.Statements.{written_is_read_holds}

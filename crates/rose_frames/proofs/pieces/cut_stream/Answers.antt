@@ -1,5 +1,5 @@
 -- What each piece adds to the frames, and the frames of all pieces.
-use Rattle.std.proofs.Common.{rules, ◌≡◌, ◌∙◌, sym, ℕ, List, [], arith}
+use Rattle.std.proofs.Common.{rules, ◌∙◌, arith}
 use Rattle.std.proofs.lemmas.Result.{err_from_is_err_and}
 use Rattle.rose_frames.proofs.StreamLaws.{all_cut, cutting_on, refused_in}
 use Rattle.rose_frames.proofs.pieces.cut_stream.Goals as goal

@@ -1,10 +1,10 @@
 -- The frames so far, and what is left of the piece.
-use Rattle.std.proofs.Common.{rules, ℕ, ◌≡◌, ◌⊎◌, inl, inr, List, ◌++◌, ◌+◌, ◌-◌, ◌<◌, ◌≤◌, Some, None, false, length, drop, flat_map, sym, ap, ◌∙◌, subst, arith}
+use Rattle.std.proofs.Common.{rules, ◌≡◌, ◌++◌, length, flat_map, sym, ap, ◌∙◌, arith}
 use Rattle.std.proofs.lemmas.List.{take_rest}
 use Rattle.std.proofs.lemmas.Result.{err_from_is_err_and}
 use Rattle.term_model.specs.RemoteOperation.{frame}
 use Rattle.rose_frames.specs.Framing.{Framing, fault_in, in_hand, is_whole}
-use Rattle.rose_frames.proofs.CuttingLaws.{Feeding, ended, fed_on, feeding_start, frame_some, handed_on, refusal_of}
+use Rattle.rose_frames.proofs.CuttingLaws.{ended, fed_on, feeding_start, frame_some, handed_on, refusal_of}
 use Rattle.rose_frames.proofs.pieces.feed_piece.Goals as goal
 
 pub frames-init : goal.frames-init

@@ -1,5 +1,5 @@
 -- The frames so far, and what is left of the piece.
-use Rattle.std.proofs.Common.{ℕ, ◌+◌, ◌-◌, ◌≤◌, length}
+use Rattle.std.proofs.Common.{◌+◌, ◌-◌, length}
 use Rattle.rose_frames.proofs.CuttingLaws.{Feeding}
 use Rattle.rose_frames.proofs.pieces.feed_piece.Given as goal
 

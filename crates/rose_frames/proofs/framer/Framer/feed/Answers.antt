@@ -1,8 +1,8 @@
 -- What is taken of a piece, by the octets of the length and those behind them.
-use Rattle.std.proofs.Common.{rules, ℕ, ◌≡◌, ◌⊎◌, inl, inr, ◌+◌, ◌-◌, ◌<◌, ◌≤◌, [], ◌++◌, Some, None, Ok, Err, length, take, drop, min, true, false, IsErr, subst, refl, sym, ap, ◌∙◌, arith}
+use Rattle.std.proofs.Common.{rules, ◌≡◌, inr, ◌+◌, ◌-◌, ◌++◌, Some, None, Ok, Err, length, take, drop, min, IsErr, subst, sym, ap, ◌∙◌, arith}
 use Rattle.std.proofs.lemmas.List.{take_rest}
 use Rattle.term_values.specs.Octets.{number}
-use Rattle.rose_frames.specs.Framing.{fault_of, fault_in, in_hand, is_whole}
+use Rattle.rose_frames.specs.Framing.{fault_of, fault_in}
 use Rattle.rose_frames.proofs.FramingLaws.{Long, due_is, fault_now, fed, no_fewer, refused, nothing_taken, none_taken, sound_before, true_not_false}
 use Rattle.rose_frames.proofs.framer.Framer.feed.Goals as goal
 

@@ -1,5 +1,5 @@
 -- A frame that is begun and not held.
-use Rattle.std.proofs.Common.{rules, ◌≡◌, ◌<◌, length, true, false, sym, ap, ◌∙◌, arith, if◌then◌else◌, Some, None}
+use Rattle.std.proofs.Common.{sym, ap, arith}
 use Rattle.rose_frames.specs.Framing.{Framing}
 use Rattle.rose_frames.proofs.FramingLaws.{begun_some, Fields, fields_size}
 use Rattle.rose_frames.proofs.framer.Framer.inside.Goals as goal

@@ -1,7 +1,7 @@
 -- The tests of a whole frame, behind its four octets of length.
-use Rattle.std.proofs.Common.{rules, ◌≡◌, ◌&&◌, ◌==◌, length, true, false, refl, sym, ap, ◌∙◌, arith}
+use Rattle.std.proofs.Common.{◌≡◌, ◌&&◌, ◌==◌, length, true, false, sym, ap, ◌∙◌, arith}
 use Rattle.term_values.specs.Octets.{number}
-use Rattle.rose_frames.specs.Framing.{is_size, is_whole}
+use Rattle.rose_frames.specs.Framing.{is_size}
 use Rattle.rose_frames.proofs.FramingLaws.{Fields, whole_fields}
 use Rattle.rose_frames.proofs.framer.Framer.is_held.Goals as goal
 
