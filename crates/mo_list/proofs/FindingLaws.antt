@@ -22,21 +22,21 @@ use Rattle.mo_list.specs.Places.{AllInFront, IsPlace, NoneInFront}
 use Rattle.mo_list.proofs.PlaceLaws.{Entry, is_greater, length_objects}
 use mir.Val.{bool_byte}
 
-is_equal : (o : Ordering) → is_eq o ≡ true → o ≡ Equal
+pub is_equal : (o : Ordering) → is_eq o ≡ true → o ≡ Equal
 is_equal Less h = absurd (false≢true h)
 is_equal Equal h = refl
 is_equal Greater h = absurd (false≢true h)
 
-is_less : (o : Ordering) → is_eq o ≡ false → is_gt o ≡ false → o ≡ Less
+pub is_less : (o : Ordering) → is_eq o ≡ false → is_gt o ≡ false → o ≡ Less
 is_less Less h k = refl
 is_less Equal h k = absurd (false≢true (sym h))
 is_less Greater h k = absurd (false≢true (sym k))
 
 -- an object in front has another name
-other_name : (name : List Rdn) (x : NamedObject) → is_gt (name_cmp name x.name) ≡ true → is_same_name x.name name ≡ false
+pub other_name : (name : List Rdn) (x : NamedObject) → is_gt (name_cmp name x.name) ≡ true → is_same_name x.name name ≡ false
 other_name name x h = not_same x.name name Less (turned name x.name Greater (is_greater (name_cmp name x.name) h)) refl
 
-same_name : (name : List Rdn) (x : NamedObject) → is_eq (name_cmp name x.name) ≡ true → is_same_name x.name name ≡ true
+pub same_name : (name : List Rdn) (x : NamedObject) → is_eq (name_cmp name x.name) ≡ true → is_same_name x.name name ≡ true
 same_name name x h =
     name_ties x.name name ∙ ap is_eq (turned name x.name Equal (is_equal (name_cmp name x.name) h))
 

@@ -1,3 +1,4 @@
 -- Lemmas of this crate.
+pub mod ChangeLaws
 pub mod FindingLaws
 pub mod PlaceLaws

@@ -1,15 +1,23 @@
 //! The map as a list of shared entries by rising name, which is itself shared.
 
-ghost use Rattle.std.specs.Prelude.{◌≡◌, [], IfOk, length};
-ghost use Rattle.term_model.specs.NamedObjects.{IsByName, object_at};
+ghost use Rattle.std.specs.Prelude.{◌≡◌, [], IfErr, IfOk, OnErr, OnOk, is_some, length};
+ghost use Rattle.term_model.specs.NamedObjects.{IsByName, object_at, removed, stored};
 ghost use Rattle.term_model.specs.StepCounts.{IsOneCall};
 ghost use Rattle.mo_list.specs.Entries.{objects_in, objects_of};
 
+use crate::changes::{add_entry, drop_entry};
 use crate::places::{has_name_at, place_of};
-use std::alloc::AllocError;
+use std::alloc::{AllocError, Global};
 use std::marker::{Model, PhantomData};
 use std::sync::Arc;
 use term_model::{Name, NamedObject, Object, Ranged, StepLedger, Steps};
+
+/// The name and the object that weren't stored.
+#[derive(Drop)]
+pub struct Back {
+    pub name: Name,
+    pub object: Object,
+}
 
 /// A finite map from names to objects. Copying it with [`ListMib::share`] copies one reference.
 #[derive(Drop)]
@@ -61,6 +69,60 @@ impl<L: StepLedger> ListMib<L> {
         ensures { result ≡ length self.now }
     {
         entries_of(&self.entries).len() as u64
+    }
+
+    /// Puts an object under its name, in place of the one that had it, and answers whether the name was there. For want of
+    /// memory the map is as it was, and both are handed back. The list of references is copied where it is shared, and
+    /// else the references behind the place are moved.
+    pub fn put(
+        &mut self,
+        alloc: Global,
+        name: Name,
+        object: Object,
+        steps: &mut Steps<L>,
+    ) -> Result<bool, Back>
+        ensures stored { OnOk result (self.new ≡ stored (record { name = name; object = object }) self.old) }
+        ensures had { IfOk result (λ had. had ≡ is_some (object_at self.old name)) }
+        ensures kept { OnErr result (self.new ≡ self.old) }
+        ensures back { IfErr result (λ back. (back.name ≡ name) × (back.object ≡ object)) }
+        ensures visits { IsOneCall self.old steps.old steps.new }
+    {
+        let entries = entries_of(&self.entries);
+        let at = place_of(entries, &name, steps);
+        let had = has_name_at(entries, at, &name, steps);
+        match add_entry(
+            &mut self.entries,
+            alloc,
+            at,
+            had,
+            NamedObject { name, object },
+        ) {
+            Ok(()) => {}
+            Err(NamedObject { name, object }) => return Err(Back { name, object }),
+        }
+        Ok(had)
+    }
+
+    /// Takes the object of a name out, and answers whether the name was there. For want of memory, as it takes where the
+    /// list is shared, the map is as it was.
+    pub fn take_out(
+        &mut self,
+        alloc: Global,
+        name: &Name,
+        steps: &mut Steps<L>,
+    ) -> Result<bool, AllocError>
+        ensures removed { OnOk result (self.new ≡ removed name.now self.old) }
+        ensures had { IfOk result (λ had. had ≡ is_some (object_at self.old name.now)) }
+        ensures kept { OnErr result (self.new ≡ self.old) }
+        ensures visits { IsOneCall self.old steps.old steps.new }
+    {
+        let entries = entries_of(&self.entries);
+        let at = place_of(entries, name, steps);
+        let had = has_name_at(entries, at, name, steps);
+        if had {
+            drop_entry(&mut self.entries, alloc, at)?;
+        }
+        Ok(had)
     }
 
     /// The same map again. Both share their objects, and a change of one leaves the other as it is.

@@ -56,11 +56,9 @@ pub fn has_name_at<L: StepLedger>(
     ensures rises { steps.old ≤ steps.new }
     ensures few { steps.new ≤ steps.old + 1 }
 {
-    match entries.get(at) {
-        Some(entry) => {
-            steps.visit();
-            name.cmp(&entry.name) == Ordering::Equal
-        }
-        None => false,
-    }
+    let Some(entry) = entries.get(at) else {
+        return false;
+    };
+    steps.visit();
+    name.cmp(&entry.name) == Ordering::Equal
 }

@@ -1,6 +1,6 @@
 -- The objects of the system: a finite map from names to objects, as the list of its entries by rising name, each name once. So
 -- equal maps are equal lists. X.720, section 5; the order is this project's own.
-use Rattle.std.specs.Prelude.{ℕ, Bool, false, List, [], ◌∷◌, Option, find, map, slice_get}
+use Rattle.std.specs.Prelude.{ℕ, Bool, false, List, [], ◌∷◌, Option, filter, find, map, not, slice_get}
 use Rattle.std.specs.List.Sorted.{IsStrictlySortedBy}
 use Rattle.std.specs.Option.{option_map, option_map_or}
 use Rattle.std.specs.Ordering.{is_eq}
@@ -40,3 +40,7 @@ stored_by Greater entry first others behind = first ∷ behind
 abbrev pub stored : NamedObject → List NamedObject → List NamedObject
 stored entry [] = entry ∷ []
 stored entry (first ∷ others) = stored_by (name_cmp entry.name first.name) entry first others (stored entry others)
+
+-- the map without the object of a name
+abbrev pub removed : List Rdn → List NamedObject → List NamedObject
+removed name objects = filter (λ (entry : NamedObject). not (is_same_name entry.name name)) objects
