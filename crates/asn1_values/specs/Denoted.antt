@@ -1,0 +1,104 @@
+-- Denoted: which value of a type a text denotes (X.680, sections 18 to 46; X.208, sections 20 to 28).
+use Rattle.std.specs.Prelude.{ℕ, zero, ◌+◌, List, [], ◌∷◌, ◌++◌, Bool, true, false, ◌&&◌, ◌||◌, not, Option, None, Some, option_map, option_and_then, if◌then◌else◌}
+use Rattle.std.specs.List.{list_any}
+use Rattle.term_values.specs.Decoding.{left_out, rising_by, sized_members}
+use Rattle.term_values.specs.Syntaxes.{TypeSyntax, TypeParts}
+use Rattle.term_values.specs.Syntaxes.TypeSyntax.{Boolean, Integer, Enumerated, BitString, OctetString, NullType}
+use Rattle.term_values.specs.Syntaxes.TypeSyntax.{ObjectIdentifier, TextString, GeneralizedTime, Sequence, SetType}
+use Rattle.term_values.specs.Syntaxes.TypeSyntax.{SequenceOf, SetOf, Choice, Tagged, Any, Filter}
+use Rattle.term_values.specs.Syntaxes.TypeParts.{NoParts, Part}
+use Rattle.term_values.specs.Times.{is_nothing}
+use Rattle.term_values.specs.Typed.{TypedValue, TypedSlots, TypedValues}
+use Rattle.term_values.specs.Typed.TypedValue.{Parts, Many, Pick}
+use Rattle.term_values.specs.Typed.TypedSlots.{NoSlots, Filled}
+use Rattle.term_values.specs.Typed.TypedValues.{Nothing, Then}
+use Rattle.term_values.specs.Written.{der}
+use Rattle.asn1_values.specs.LeafTexts.{truth_said, whole_said, enumerated_said, bit_string_said, octet_string_said, null_said, identifier_said, text_said, time_said, any_said}
+use Rattle.asn1_values.specs.Literals.{same_name}
+use Rattle.asn1_values.specs.TextValues.{TextValue, TextParts, parts_of}
+use Rattle.asn1_values.specs.TextValues.TextValue.{Chosen}
+use Rattle.asn1_values.specs.TextValues.TextParts.{NoTexts, AndText}
+
+-- Of two components of one name a text means the first. A component without a name is written by its value alone.
+abbrev pub is_meant : List ℕ → List (List ℕ) → Bool
+is_meant name before = is_nothing name || not (list_any (same_name name) before)
+
+-- the members that texts without names denote, as they come
+abbrev pub members_said : (TextValue → Option TypedValue) → TextParts → Option TypedValues
+members_said member NoTexts = Some Nothing
+members_said member (AndText [] text others) =
+    option_and_then (λ v. option_map (Then v) (members_said member others)) (member text)
+members_said member (AndText (first ∷ more) text others) = None
+
+-- the first text of that name, and the others
+abbrev pub taken_out : List ℕ → TextParts → Option (TextValue × TextParts)
+taken_out name NoTexts = None
+taken_out name (AndText own text others) =
+    if same_name name own then Some (text, others)
+    else option_map (λ (rest : TextValue × TextParts). (rest.0, AndText own text rest.1)) (taken_out name others)
+
+abbrev pub where_taken : Option (TextValue × TextParts) → (TextValue → TextParts → Option TypedSlots)
+    → Option TypedSlots → Option TypedSlots
+where_taken (Some taken) found absent = found taken.0 taken.1
+where_taken None found absent = absent
+
+abbrev pub only_where : Bool → Option (TextValue × TextParts) → Option (TextValue × TextParts)
+only_where true taken = taken
+only_where false taken = None
+
+-- the value behind a chosen name
+abbrev pub chosen_by : (List ℕ → TextValue → Option TypedValue) → TextValue → Option TypedValue
+chosen_by pick (Chosen name text) = pick name text
+chosen_by pick _ = None
+
+abbrev mutual
+  -- the value of the syntax that the text denotes, where `filter` says which CMISFilter a text denotes
+  pub denoted : (TextValue → Option TypedValue) → TypeSyntax → TextValue → Option TypedValue
+  denoted filter Boolean text = truth_said text
+  denoted filter (Integer names ranges) text = whole_said names ranges text
+  denoted filter (Enumerated names) text = enumerated_said names text
+  denoted filter (BitString names sizes) text = bit_string_said names sizes text
+  denoted filter (OctetString sizes) text = octet_string_said sizes text
+  denoted filter NullType text = null_said text
+  denoted filter ObjectIdentifier text = identifier_said text
+  denoted filter (TextString charset sizes) text = text_said charset sizes text
+  denoted filter GeneralizedTime text = time_said text
+  denoted filter (Sequence parts) text = option_map Parts (option_and_then (components_said filter [] parts) (parts_of text))
+  denoted filter (SetType parts) text = option_map Parts (option_and_then (unordered_said filter [] parts) (parts_of text))
+  denoted filter (SequenceOf member sizes) text =
+      option_and_then (sized_members sizes) (option_and_then (members_said (denoted filter member)) (parts_of text))
+  denoted filter (SetOf member sizes) text = option_and_then (sized_members sizes)
+      (option_map (rising_by (der member)) (option_and_then (members_said (denoted filter member)) (parts_of text)))
+  denoted filter (Choice parts) text = chosen_by (picked_said filter zero parts) text
+  denoted filter (Tagged tag explicit of) text = denoted filter of text
+  denoted filter Any text = any_said text
+  denoted filter Filter text = filter text
+
+  -- the first alternative of that name; so many stand before these
+  pub picked_said : (TextValue → Option TypedValue) → ℕ → TypeParts → List ℕ → TextValue → Option TypedValue
+  picked_said filter k NoParts name text = None
+  picked_said filter k (Part own syntax optional default rest) name text =
+      if same_name own name then option_map (Pick k) (denoted filter syntax text)
+      else picked_said filter (k + 1) rest name text
+
+  -- the components that texts in the order of the type denote; these names stand before them
+  pub components_said : (TextValue → Option TypedValue) → List (List ℕ) → TypeParts → TextParts → Option TypedSlots
+  components_said filter before NoParts NoTexts = Some NoSlots
+  components_said filter before NoParts (AndText own text others) = None
+  components_said filter before (Part name syntax optional default rest) NoTexts =
+      left_out optional default (components_said filter (before ++ name ∷ []) rest NoTexts)
+  components_said filter before (Part name syntax optional default rest) (AndText own text others) =
+      if same_name name own && is_meant name before
+      then option_and_then (λ v. option_map (Filled v) (components_said filter (before ++ name ∷ []) rest others))
+      (denoted filter syntax text)
+      else left_out optional default (components_said filter (before ++ name ∷ []) rest (AndText own text others))
+
+  -- the components that texts in any order denote
+  pub unordered_said : (TextValue → Option TypedValue) → List (List ℕ) → TypeParts → TextParts → Option TypedSlots
+  unordered_said filter before NoParts NoTexts = Some NoSlots
+  unordered_said filter before NoParts (AndText own text others) = None
+  unordered_said filter before (Part name syntax optional default rest) texts =
+      where_taken (only_where (is_meant name before) (taken_out name texts))
+      (λ text others. option_and_then (λ v. option_map (Filled v) (unordered_said filter (before ++ name ∷ []) rest others))
+      (denoted filter syntax text))
+      (left_out optional default (unordered_said filter (before ++ name ∷ []) rest texts))

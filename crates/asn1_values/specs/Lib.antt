@@ -1,0 +1,10 @@
+-- The definitions that the contracts of this crate cite.
+pub mod TextValues
+pub mod Bits
+pub mod Literals
+pub mod Arcs
+pub mod LeafTexts
+pub mod Denoted
+pub mod Filters
+pub mod Steps
+pub mod Components

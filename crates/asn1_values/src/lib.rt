@@ -1,0 +1,56 @@
+//! The value that a text denotes in a syntax (X.680, sections 18 to 46; X.208, sections 20 to 28).
+#![tactic(auto)]
+
+ghost use Rattle.std.specs.Prelude.{◌≡◌, ◌≢◌, IfOk, IfErr, Some, None};
+ghost use Rattle.asn1_values.specs.Filters.{value_said};
+ghost use Rattle.asn1_values.specs.TextValues.{said, first_place};
+ghost use Rattle.asn1_values.specs.declared.value_refusal.ValueRefusal.TheVariants.{BadValue, Memory};
+
+mod any_values;
+mod arcs;
+mod bits;
+mod denoting;
+mod filter_syntaxes;
+mod filtering;
+mod leaf_values;
+mod numbers;
+mod strings;
+pub mod value_refusal;
+
+use asn1_values_syntax::value::{NamedValue, ValueText};
+use denoting::denote;
+use filtering::Filters;
+use std::alloc::Global;
+use term_values::{Syntax, Value};
+pub use value_refusal::ValueRefusal;
+
+/// The place of the first token of a text.
+fn first_place(text: &ValueText) -> u64
+    ensures { result ≡ first_place text.now }
+{
+    match text {
+        ValueText::Literal(literal) => literal.at,
+        ValueText::Number(number) => match &number.minus {
+            Some(minus) => minus.at,
+            None => number.number.at,
+        },
+        ValueText::Named(NamedValue::Name(name)) => name.at,
+        ValueText::Named(NamedValue::Choice { name, .. }) => name.at,
+        ValueText::Braces { brace, .. } => brace.at,
+    }
+}
+
+/// The value of the syntax that the text denotes.
+pub fn value_of(alloc: Global, syntax: &Syntax, text: &ValueText) -> Result<Value, ValueRefusal>
+    ensures denoted { IfOk result (λ value. value_said syntax.now (said text.now) ≡ Some value) }
+    ensures bad { IfErr result (λ refusal. refusal ≢ Memory → (refusal ≡ BadValue (first_place text.now))
+        × (value_said syntax.now (said text.now) ≡ None)) }
+{
+    match denote::<Filters>(alloc, syntax, text) {
+        Ok(Some(value)) => Ok(value),
+        Ok(None) => Err(ValueRefusal::BadValue {
+            token: first_place(text),
+        }),
+        Err(_) => Err(ValueRefusal::Memory),
+    }
+}
