@@ -4,5 +4,6 @@ pub mod ComponentLaws
 pub mod FilterLaws
 pub mod NumberLaws
 pub mod RowLaws
+mod StandardFacts
 pub mod StringLaws
 pub mod UnorderedLaws

@@ -40,7 +40,11 @@ fn first_place(text: &ValueText) -> u64
     }
 }
 
-/// The value of the syntax that the text denotes.
+/// The value of the syntax that the text denotes: X.680, sections 18 to 46; X.208, sections 20 to 28.
+///
+/// `BadValue` comes exactly where the text denotes none, with the place of its first token; `Memory` where there is no
+/// memory for the value. A component is looked for by its name alone, in a SEQUENCE from the next one on; members of a
+/// SET OF are sorted by their encodings. The recursion goes down what the text nests.
 pub fn value_of(alloc: Global, syntax: &Syntax, text: &ValueText) -> Result<Value, ValueRefusal>
     ensures denoted { IfOk result (λ value. value_said syntax.now (said text.now) ≡ Some value) }
     ensures bad { IfErr result (λ refusal. refusal ≢ Memory → (refusal ≡ BadValue (first_place text.now))
