@@ -1,4 +1,5 @@
 pub mod BaseLaws
+pub mod BelowLaws
 pub mod EntryLaws
 pub mod ListLaws
 pub mod PrefixLaws

@@ -24,7 +24,7 @@ Names = List (List Rdn)
 abbrev pub AllBehind : List Rdn → Names → Type 0
 AllBehind here names = AllByRecursion (λ (name : List Rdn). name_cmp here name ≡ Less) names
 
-behind_is : (here name : List Rdn) → follows here name ≡ true → name_cmp here name ≡ Less
+pub behind_is : (here name : List Rdn) → follows here name ≡ true → name_cmp here name ≡ Less
 behind_is here name e = by (name_cmp here name) e
   where
     by : (o : Ordering) → is_lt o ≡ true → o ≡ Less

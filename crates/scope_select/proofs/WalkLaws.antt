@@ -142,6 +142,6 @@ pub step_fewer : (base here next : List Rdn) (names : Names) (level : ℕ)
     → length (begun_behind base here names) ≡ length (begun_behind base next names) + 1
 step_fewer base here next names level sorted is =
     let all =
-        ap (filter (begins base)) (next_behind here next names sorted is.next_is)
-        ∙ kept (begins base) next (names_behind next names) (ap is_some is.level_is) in
+    ap (filter (begins base)) (next_behind here next names sorted is.next_is)
+    ∙ kept (begins base) next (names_behind next names) (ap is_some is.level_is) in
     omega (arith, ap length all)

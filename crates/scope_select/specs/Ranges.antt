@@ -1,11 +1,12 @@
 -- Names behind another one, in the order of names; docs/PROFILE.md, section 4.
-use Rattle.std.specs.Prelude.{◌≡◌, ◌≤◌, ◌+◌, ◌*◌, is_some, length, ℕ, Bool, List, MatchOption, None, Option, Some, filter, find}
+use Rattle.std.specs.Prelude.{false, suc, ◌≡◌, ◌≤◌, ◌+◌, ◌*◌, is_some, length, ℕ, Bool, List, MatchOption, None, Option, Some, filter, find}
 use Rattle.std.specs.Ordering.{is_lt}
 use Rattle.term_model.specs.declared.name.Rdn.{Rdn}
 use Rattle.term_model.specs.declared.objects.NamedObject.{NamedObject}
+use Rattle.term_model.specs.declared.scope.Scope.{Scope}
 use Rattle.term_model.specs.NamedObjects.{names}
 use Rattle.term_model.specs.NameOrder.{name_cmp}
-use Rattle.term_model.specs.Scope.{level_below}
+use Rattle.term_model.specs.Scope.{has_level, level_below}
 
 -- the second name stands behind the first
 abbrev pub follows : List Rdn → List Rdn → Bool
@@ -41,3 +42,7 @@ begun_behind base here names = filter (begins base) (names_behind here names)
 abbrev pub IsOneWay : List NamedObject → List Rdn → ℕ → ℕ → Type 0
 IsOneWay objects base before after =
     length objects ≤ 100000 → after ≤ before + 128 * (length (begun_behind base base (names objects)) + 2)
+
+-- the scope reaches no level below the base
+abbrev pub EndsAtBase : Scope → Type 0
+EndsAtBase scope = (level : ℕ) → has_level scope (suc level) ≡ false

@@ -1,7 +1,8 @@
 //! Levels below a base object: X.711, section 7.5, type Scope.
 
-ghost use Rattle.std.specs.Prelude.{◌≡◌};
+ghost use Rattle.std.specs.Prelude.{◌≡◌, IsTrue};
 ghost use Rattle.term_model.specs.Scope.{has_level, level_below};
+ghost use Rattle.scope_select.specs.Ranges.{EndsAtBase};
 
 use term_model::scope::{BASE_OBJECT, FIRST_LEVEL_ONLY, WHOLE_SUBTREE};
 use term_model::{Rdn, Scope};
@@ -36,5 +37,16 @@ pub fn has_level(scope: &Scope, level: usize) -> bool
         },
         Scope::Level(number) => *number >= 0 && *number as u64 == level as u64,
         Scope::Upto(number) => *number >= 0 && level as u64 <= *number as u64,
+    }
+}
+
+/// Whether it is known that the scope reaches no level below its base.
+pub fn ends_at_base(scope: &Scope) -> bool
+    ensures { IsTrue result → EndsAtBase scope.now }
+{
+    match scope {
+        Scope::Plain(number) => *number == BASE_OBJECT,
+        Scope::Level(number) => *number <= 0,
+        Scope::Upto(number) => *number <= 0,
     }
 }

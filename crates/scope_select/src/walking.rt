@@ -6,7 +6,7 @@ ghost use Rattle.term_model.specs.Scope.{has_level, names_in_scope};
 ghost use Rattle.term_model.specs.StepCounts.{IsOneCall};
 ghost use Rattle.scope_select.specs.Ranges.{IsLast, IsNext, IsOneWay};
 
-use crate::levels::{has_level, level_below};
+use crate::levels::{ends_at_base, has_level, level_below};
 use crate::refusal::ScopeRefusal;
 use std::alloc::Global;
 use term_model::ranged::Ranged;
@@ -81,6 +81,9 @@ pub fn in_scope<L: StepLedger, M: Ranged<L>>(
     };
     if mib.at(base, steps).is_some() {
         add_reached(alloc, &mut reached, base, 0, scope, limit)?;
+    }
+    if ends_at_base(scope) {
+        return Ok(reached);
     }
     let mut here = base;
     while let Some((next, level)) = next_below(mib, base, here, steps) {

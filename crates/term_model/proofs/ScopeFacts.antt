@@ -59,6 +59,60 @@ no_level = refl
 to_first_level : names_in_scope system [] (Upto (pos 1)) ≡ [] ∷ (part 5 ∷ []) ∷ (part 50 ∷ []) ∷ []
 to_first_level = refl
 
+-- a tree of five: the root, 5 below it, 6 below that, 7 below that, and 50 beside 5
+abbrev five_six_seven : List Rdn
+five_six_seven = part 5 ∷ part 6 ∷ part 7 ∷ []
+
+abbrev tree : List NamedObject
+tree =
+    record { name = []; object = element } ∷ record { name = part 5 ∷ []; object = element }
+    ∷ record { name = five_six; object = element } ∷ record { name = five_six_seven; object = element }
+    ∷ record { name = part 50 ∷ []; object = element } ∷ []
+
+all_of_it : names_in_scope tree [] (Plain (pos 2)) ≡ [] ∷ (part 5 ∷ []) ∷ five_six ∷ five_six_seven ∷ (part 50 ∷ []) ∷ []
+all_of_it = refl
+
+level_one : names_in_scope tree [] (Level (pos 1)) ≡ (part 5 ∷ []) ∷ (part 50 ∷ []) ∷ []
+level_one = refl
+
+level_two : names_in_scope tree [] (Level (pos 2)) ≡ five_six ∷ []
+level_two = refl
+
+level_three : names_in_scope tree [] (Level (pos 3)) ≡ five_six_seven ∷ []
+level_three = refl
+
+level_four : names_in_scope tree [] (Level (pos 4)) ≡ []
+level_four = refl
+
+to_level_nought : names_in_scope tree [] (Upto (pos 0)) ≡ [] ∷ []
+to_level_nought = refl
+
+to_level_two : names_in_scope tree [] (Upto (pos 2)) ≡ [] ∷ (part 5 ∷ []) ∷ five_six ∷ (part 50 ∷ []) ∷ []
+to_level_two = refl
+
+to_level_three : names_in_scope tree [] (Upto (pos 3)) ≡ [] ∷ (part 5 ∷ []) ∷ five_six ∷ five_six_seven ∷ (part 50 ∷ []) ∷ []
+to_level_three = refl
+
+-- from a base that isn't the root
+below_five : names_in_scope tree (part 5 ∷ []) (Plain (pos 1)) ≡ five_six ∷ []
+below_five = refl
+
+two_below_five : names_in_scope tree (part 5 ∷ []) (Level (pos 2)) ≡ five_six_seven ∷ []
+two_below_five = refl
+
+to_one_below_five : names_in_scope tree (part 5 ∷ []) (Upto (pos 1)) ≡ (part 5 ∷ []) ∷ five_six ∷ []
+to_one_below_five = refl
+
+leaf_alone : names_in_scope tree five_six_seven (Plain (pos 2)) ≡ five_six_seven ∷ []
+leaf_alone = refl
+
+-- no object is in a scope of another number, nor of a level below zero
+no_such_scope : names_in_scope tree [] (Plain (pos 3)) ≡ []
+no_such_scope = refl
+
+to_no_level : names_in_scope tree [] (Upto (negsuc 0)) ≡ []
+to_no_level = refl
+
 -- load is 7 everywhere
 abbrev load_is : ℤ → Given
 load_is number = record { id = Global load_oid; value = Some (Int number); raw = [] }

@@ -2,8 +2,9 @@ use Rattle.std.proofs.Common.{◌≡◌, ◌++◌, ◌≤◌, [], true, false, i
 use Rattle.std.proofs.lemmas.Grind.{common_steps}
 use Rattle.term_model.specs.NamedObjects.{names, object_at}
 use Rattle.scope_select.specs.declared.refusal.ScopeRefusal.TheVariants.{TooMany}
-use Rattle.scope_select.specs.Ranges.{IsNext, names_behind}
+use Rattle.scope_select.specs.Ranges.{EndsAtBase, IsNext, names_behind}
 use Rattle.scope_select.proofs.BaseLaws.{base_missing}
+use Rattle.scope_select.proofs.BelowLaws.{all_at_base}
 use Rattle.scope_select.proofs.EntryLaws.{entry_there}
 use Rattle.scope_select.proofs.WalkLaws.{all_reached, base_first, base_many, next_from, one_reached, step_fewer, step_many, step_reached, step_shorter, within}
 use Rattle.scope_select.proofs.walking.in_scope.Goals as goal
@@ -83,8 +84,8 @@ loop-next-preserved g c =
           (let before = c.loop-next.invariant.3 small in
           let visited = c.in-Some.ensures.visits.few small in
           let fewer =
-              step_fewer c.args.base.now c.loop-next.here.now c.in-Some.next.now (names entries) c.in-Some.level
-              c.at.ensures.rising c.in-Some.ensures.found in
+          step_fewer c.args.base.now c.loop-next.here.now c.in-Some.next.now (names entries) c.in-Some.level
+          c.at.ensures.rising c.in-Some.ensures.found in
           omega arith),
     )
 
@@ -116,3 +117,61 @@ returns-clause-visits g c = λ small.
     let before = c.loop-next.invariant.3 small in
     let visited = c.in_default.ensures.visits.few small in
     omega arith
+
+pub returns-then-ends_at_base-clause-names : goal.returns-then-ends_at_base-clause-names
+returns-then-ends_at_base-clause-names g c =
+    let base = c.args.base.now in
+    let scope = c.args.scope.now in
+    let entries = g.M.Ranged.objects c.args.mib.now in
+    let ends : EndsAtBase scope = first_of (search rules, grind arith) in
+    elim c.if-is_some.branch [
+      | then-is_some+in_ok-add_reached w ↦
+          (let some : is_some (object_at entries base) ≡ true = first_of (search rules, grind (arith, common_steps)) in
+          let there = sym (entry_there base entries) ∙ some in
+          let added : c.if-is_some.reached ≡ one_reached scope 0 base =
+          first_of (search rules, grind (arith, common_steps, w.in_ok-add_reached.ensures.added, c.new.ensures.items)) in
+          let all =
+          all_at_base base scope (names entries) c.if-is_some.reached ends
+          (base_first base scope (names entries) c.at.ensures.rising there
+          ∙ ap (λ ns. ns ++ within base scope (names_behind base (names entries))) (sym added)) in
+          all)
+      | else-is_some w ↦
+          (let none : is_some (object_at entries base) ≡ false = first_of (search rules, grind (arith, common_steps)) in
+          let missing = sym (entry_there base entries) ∙ none in
+          let empty : c.if-is_some.reached ≡ [] = first_of (search rules, grind (arith, common_steps, c.new.ensures.items)) in
+          let all =
+          all_at_base base scope (names entries) c.if-is_some.reached ends
+          (base_missing base scope (names entries) c.at.ensures.rising missing
+          ∙ ap (λ ns. ns ++ within base scope (names_behind base (names entries))) (sym empty)) in
+          all)
+    ]
+
+pub returns-then-ends_at_base-clause-few : goal.returns-then-ends_at_base-clause-few
+returns-then-ends_at_base-clause-few g c =
+    let base = c.args.base.now in
+    let scope = c.args.scope.now in
+    let entries = g.M.Ranged.objects c.args.mib.now in
+    let ends : EndsAtBase scope = first_of (search rules, grind arith) in
+    elim c.if-is_some.branch [
+      | then-is_some+in_ok-add_reached w ↦
+          (let some : is_some (object_at entries base) ≡ true = first_of (search rules, grind (arith, common_steps)) in
+          let there = sym (entry_there base entries) ∙ some in
+          let added : c.if-is_some.reached ≡ one_reached scope 0 base =
+          first_of (search rules, grind (arith, common_steps, w.in_ok-add_reached.ensures.added, c.new.ensures.items)) in
+          let all =
+          all_at_base base scope (names entries) c.if-is_some.reached ends
+          (base_first base scope (names entries) c.at.ensures.rising there
+          ∙ ap (λ ns. ns ++ within base scope (names_behind base (names entries))) (sym added)) in
+          let few : length c.if-is_some.reached ≤ c.args.limit =
+          first_of (search rules, grind (arith, common_steps, w.in_ok-add_reached.ensures.few)) in
+          omega (arith, ap length all, few))
+      | else-is_some w ↦
+          (let none : is_some (object_at entries base) ≡ false = first_of (search rules, grind (arith, common_steps)) in
+          let missing = sym (entry_there base entries) ∙ none in
+          let empty : c.if-is_some.reached ≡ [] = first_of (search rules, grind (arith, common_steps, c.new.ensures.items)) in
+          let all =
+          all_at_base base scope (names entries) c.if-is_some.reached ends
+          (base_missing base scope (names entries) c.at.ensures.rising missing
+          ∙ ap (λ ns. ns ++ within base scope (names_behind base (names entries))) (sym empty)) in
+          omega (arith, ap length all, ap length empty))
+    ]
