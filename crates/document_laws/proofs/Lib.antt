@@ -1,3 +1,9 @@
 -- The lemmas of this crate.
 pub mod FirstForm
 pub mod Schemas
+pub mod TemplateTests
+pub mod PartsDecided
+pub mod MembersDecided
+pub mod HoldersDecided
+pub mod TemplatesDecided
+pub mod Trees

@@ -6,4 +6,5 @@ pub mod ClausesOnce
 pub mod OneSpelling
 pub mod TestLaws
 pub mod Leading
+pub mod GoingOn
 pub mod StandardFacts
