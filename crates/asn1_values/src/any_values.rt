@@ -6,7 +6,7 @@ ghost use Rattle.asn1_values.specs.TextValues.{said};
 
 use super::bits::{pack, read_bits};
 use asn1_values_syntax::ValueText;
-use ber_deep::read_deep_tree;
+use ber_tree::tree_reading::read_deep_tree;
 use ber_tree::tree_writing::write_tree;
 use std::alloc::{AllocError, Global};
 use term_values::{Bytes, Tree, Value, ValueForm};

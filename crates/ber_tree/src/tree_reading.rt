@@ -24,7 +24,7 @@ use term_values::oid::{MOST_ARCS, SECOND_ARCS};
 use term_values::{BerKind, Bytes, Oid, Tag, Tree, Trees};
 
 /// The most constructed values inside one another that are read, the outermost counted.
-const MOST_DEPTH: u32 = 32;
+const MOST_DEPTH: usize = 32;
 
 /// The most octets of an INTEGER of 64 bits.
 const MOST_INTEGER_OCTETS: usize = 8;
@@ -113,7 +113,7 @@ fn read_value(
     octets: &[u8],
     behind: Option<u32>,
     end: usize,
-    depth: u32,
+    depth: usize,
 ) -> Result<(Tree, usize), BerRefusal>
     requires { length octets.now ≤ end }
     ensures { Answers octets.now (reading depth behind end octets.now) result }
@@ -142,7 +142,7 @@ fn read_body(
     octets: &[u8],
     behind: Option<u32>,
     end: usize,
-    depth: u32,
+    depth: usize,
     place: usize,
     header: Header,
 ) -> Result<(Tree, usize), BerRefusal>
@@ -164,7 +164,7 @@ fn read_definite(
     alloc: Global,
     octets: &[u8],
     end: usize,
-    depth: u32,
+    depth: usize,
     tag: Tag,
     size: u32,
 ) -> Result<(Tree, usize), BerRefusal>
@@ -186,7 +186,7 @@ fn read_indefinite(
     octets: &[u8],
     behind: Option<u32>,
     end: usize,
-    depth: u32,
+    depth: usize,
     place: usize,
     tag: Tag,
 ) -> Result<(Tree, usize), BerRefusal>
@@ -205,7 +205,7 @@ fn read_inside(
     octets: &[u8],
     behind: Option<u32>,
     end: usize,
-    depth: u32,
+    depth: usize,
     value: Option<usize>,
 ) -> Result<(Trees, usize), BerRefusal>
     requires { length octets.now ≤ end }
@@ -248,7 +248,21 @@ pub fn read_front_tree(alloc: Global, bytes: &[u8]) -> Result<Option<(Tree, usiz
         (λ found. tree_at most_depth bytes.now ≡ option_map (λ f. (f.0, drop f.1 bytes.now)) found) }
     ensures within { IfOk result (λ found. IfSome found (λ f. f.1 ≤ length bytes.now)) }
 {
-    match read_tree(alloc, bytes) {
+    read_deep_tree(alloc, bytes, MOST_DEPTH)
+}
+
+/// The same of trees with at most `depth` constructed values inside one another. The recursion goes down what the bytes
+/// nest, so a depth past 32 is for bytes that an operator gives.
+pub fn read_deep_tree(
+    alloc: Global,
+    bytes: &[u8],
+    depth: usize,
+) -> Result<Option<(Tree, usize)>, AllocError>
+    ensures read { IfOk result
+        (λ found. tree_at depth bytes.now ≡ option_map (λ f. (f.0, drop f.1 bytes.now)) found) }
+    ensures within { IfOk result (λ found. IfSome found (λ f. f.1 ≤ length bytes.now)) }
+{
+    match read_value(alloc, bytes, None, bytes.len(), depth) {
         Ok(found) => Ok(Some(found)),
         Err(BerRefusal::Fault { .. }) => Ok(None),
         Err(BerRefusal::Memory) => Err(AllocError),
