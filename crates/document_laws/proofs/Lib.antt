@@ -4,6 +4,7 @@ pub mod Schemas
 pub mod TemplateTests
 pub mod PartsDecided
 pub mod MembersDecided
-pub mod HoldersDecided
+pub mod PackagesDecided
+pub mod ClassesDecided
 pub mod TemplatesDecided
 pub mod Trees

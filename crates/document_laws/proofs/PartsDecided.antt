@@ -6,21 +6,21 @@ use Rattle.token_grammar.specs.Parts.{sign, document_name, label_reference, qual
 use Rattle.token_grammar.specs.Parts.{first_arc, object_identifier}
 use Rattle.grammar_laws.specs.Decided.{IsDecided}
 use Rattle.grammar_laws.proofs.GoingOn.{ends_before}
-use Rattle.grammar_laws.proofs.TestLaws.{no, either_of}
+use Rattle.grammar_laws.proofs.TestLaws.{no}
 use Rattle.gdmo_members.specs.Clauses.{behaviours, attributes, parameters, groups, actions, notifications, packages}
 use Rattle.gdmo_members.specs.Clauses.{classes, name_bindings, semicolon, comma, reference, references, reference_row}
 use Rattle.gdmo_members.specs.Clauses.{behaviour_clause, parameters_clause, registration, ending, registered_ending}
 use Rattle.gdmo_members.specs.Clauses.{context_word, context}
-use Rattle.document_laws.proofs.TemplateTests.{openings, later, all_go_on, not_word, not_sign, not_name, not_number}
-use Rattle.document_laws.proofs.TemplateTests.{not_string, form_first, going_apart, alternatives}
-use Rattle.document_laws.proofs.TemplateTests.{reference_alternatives, first_arc_alternatives}
+use Rattle.document_laws.proofs.TemplateTests.Tests.{Never, Word, Sign, Name, Number, AString, Either}
+use Rattle.document_laws.proofs.TemplateTests.{refuted, openings, later, all_go_on, form_first, going_apart}
+use Rattle.document_laws.proofs.TemplateTests.{alternatives, reference_alternatives, first_arc_alternatives}
 
 pub label_reference_decided : IsDecided openings label_reference
 label_reference_decided = (
   ((tt, tt, (λ t u e h. no e)), refl),
   tt,
   (ends_before openings later all_go_on (Maybe
-      document_name) (Keep is_label) (λ t e h. not_string (form_first (Keep is_label)) t e h (λ at text. refl))),
+      document_name) (Keep is_label) (λ t e h. refuted (AString) (form_first (Keep is_label)) t (λ at text. refl) e h)),
 )
 
 pub qualified_name_decided : IsDecided openings qualified_name
@@ -31,7 +31,8 @@ arc_decided = (
   tt,
   (tt, (tt, (tt, tt, (λ t u e h. no e)), (λ t u e h. no e)), (λ t u e h. no e)),
   (alternatives (Keep
-      is_number) named_number (λ e h. no e) (λ t e h. not_number (form_first named_number) t e h (λ at text. refl))),
+      is_number) named_number (λ e h. no e) (λ t e h. refuted (Number) (form_first named_number) t (λ at text. refl) e
+      h)),
 )
 
 pub first_arc_decided : IsDecided openings first_arc
@@ -48,22 +49,20 @@ object_identifier_decided = (
         record {
           full = refl;
           apart = (ends_before
-              openings later all_go_on arc arc (λ t e h. not_sign (codes "(") (form_first arc) t e h (λ at. refl)));
+              openings later all_go_on arc arc (λ t e h. refuted (Sign (codes "(")) (form_first arc) t (λ at text.
+              refl) e h));
         },
       ),
       tt,
-      (ends_before openings later all_go_on (Many Empty arc) (sign (codes "}")) (λ t e h. either_of _ _ e (λ x0.
-          not_sign (codes "(") (form_first (sign (codes "}"))) t x0 h (λ at. refl)) (λ x0. either_of _ _ x0 (λ x1.
-          not_number (form_first (sign (codes "}"))) t x1 h (λ at text. refl)) (λ x1. not_name (form_first (sign (codes
-          "}"))) t x1 h (λ at text. refl))))),
+      (ends_before openings later all_go_on (Many Empty arc) (sign (codes "}")) (λ t e h. refuted (Either (Sign
+          (codes "(")) (Either (Number) (Name))) (form_first (sign (codes "}"))) t (λ at text. refl) e h)),
     ),
-    (ends_before openings later all_go_on first_arc (Then (Many Empty arc) (sign
-        (codes "}"))) (λ t e h. either_of _ _ e (λ x2. either_of _ _ x2 (λ x3. either_of _ _ x3 (λ x4. not_sign (codes
-        "(") (form_first (Then (Many Empty arc) (sign (codes "}")))) t x4 h (λ at. refl)) (λ x4. no x4)) (λ x3. not_sign
-        (codes "(") (form_first (Then (Many Empty arc) (sign (codes "}")))) t x3 h (λ at. refl))) (λ x2. no x2))),
+    (ends_before
+        openings later all_go_on first_arc (Then (Many Empty arc) (sign (codes "}"))) (λ t e h. refuted (Either (Either
+        (Either (Sign (codes "(")) (Never)) (Sign (codes "("))) (Never)) (form_first (Then (Many Empty arc) (sign (codes
+        "}")))) t (λ at text. refl) e h)),
   ),
-  (λ t u
-      e h. no e),
+  (λ t u e h. no e),
 )
 
 pub reference_behaviours : IsDecided openings (reference behaviours)
@@ -100,15 +99,14 @@ behaviour_clause_decided = (
     (
       reference_behaviours,
       (λ t u e h. going_apart t u comma (reference behaviours) (λ e
-          h. not_word (codes "BEHAVIOUR") comma t e h (λ at. refl)) e h),
+          h. refuted (Word (codes "BEHAVIOUR")) comma t (λ at text. refl) e h) e h),
     ),
     tt,
-    (ends_before openings later all_go_on
-        (references behaviours) semicolon (λ t e h. either_of _ _ e (λ x5. not_sign (codes ",") (form_first semicolon) t
-        x5 h (λ at. refl)) (λ x5. not_word (codes "BEHAVIOUR") (form_first semicolon) t x5 h (λ at. refl)))),
+    (ends_before openings later
+        all_go_on (references behaviours) semicolon (λ t e h. refuted (Either (Sign (codes ",")) (Word (codes
+        "BEHAVIOUR"))) (form_first semicolon) t (λ at text. refl) e h)),
   ),
-  (λ t u e h.
-      no e),
+  (λ t u e h. no e),
 )
 
 pub parameters_clause_decided : IsDecided openings parameters_clause
@@ -118,15 +116,14 @@ parameters_clause_decided = (
     (
       reference_parameters,
       (λ t u e h. going_apart t u comma (reference parameters) (λ e
-          h. not_word (codes "PARAMETER") comma t e h (λ at. refl)) e h),
+          h. refuted (Word (codes "PARAMETER")) comma t (λ at text. refl) e h) e h),
     ),
     tt,
-    (ends_before openings later all_go_on
-        (references parameters) semicolon (λ t e h. either_of _ _ e (λ x6. not_sign (codes ",") (form_first semicolon) t
-        x6 h (λ at. refl)) (λ x6. not_word (codes "PARAMETER") (form_first semicolon) t x6 h (λ at. refl)))),
+    (ends_before openings later
+        all_go_on (references parameters) semicolon (λ t e h. refuted (Either (Sign (codes ",")) (Word (codes
+        "PARAMETER"))) (form_first semicolon) t (λ at text. refl) e h)),
   ),
-  (λ t u e h.
-      no e),
+  (λ t u e h. no e),
 )
 
 pub parameter_row_decided : IsDecided openings (reference_row parameters)
@@ -135,8 +132,9 @@ parameter_row_decided = (
   record {
     full = refl;
     apart = (ends_before openings later all_go_on
-        (reference parameters) (reference parameters) (λ t e h. not_word (codes "PARAMETER") (form_first (reference
-        parameters)) t e h (λ at. refl)));
+        (reference parameters) (reference parameters) (λ t e h. refuted (Word (codes "PARAMETER")) (form_first
+        (reference
+        parameters)) t (λ at text. refl) e h));
   },
 )
 
@@ -148,7 +146,7 @@ ending_decided = (
   (registration_decided, refl),
   tt,
   (ends_before openings later all_go_on (Maybe registration)
-      semicolon (λ t e h. not_word (codes "REGISTERED") (form_first semicolon) t e h (λ at. refl))),
+      semicolon (λ t e h. refuted (Word (codes "REGISTERED")) (form_first semicolon) t (λ at text. refl) e h)),
 )
 
 pub registered_ending_decided : IsDecided openings registered_ending
@@ -159,7 +157,7 @@ context_word_decided = (
   (tt, refl),
   tt,
   (ends_before openings later all_go_on (Maybe (Keep (is_sign_of (codes "."))))
-      (Keep is_word) (λ t e h. not_sign (codes ".") (form_first (Keep is_word)) t e h (λ at. refl))),
+      (Keep is_word) (λ t e h. refuted (Sign (codes ".")) (form_first (Keep is_word)) t (λ at text. refl) e h)),
 )
 
 pub context_decided : IsDecided openings context

@@ -7,7 +7,8 @@ use Rattle.gdmo_members.specs.Templates.{templates}
 use Rattle.document_laws.proofs.TemplateTests.{openings}
 use Rattle.document_laws.proofs.MembersDecided.{behaviour_decided, attribute_decided, parameter_decided, group_decided}
 use Rattle.document_laws.proofs.MembersDecided.{action_decided, notification_decided}
-use Rattle.document_laws.proofs.HoldersDecided.{package_decided, class_decided, name_binding_decided}
+use Rattle.document_laws.proofs.PackagesDecided.{package_decided}
+use Rattle.document_laws.proofs.ClassesDecided.{class_decided, name_binding_decided}
 
 -- what holds of each opening
 within : (n : ℕ) → IsWithin (opening openings (templates n)) (openings n)
