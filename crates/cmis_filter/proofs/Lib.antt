@@ -1,3 +1,4 @@
 pub mod FilterLaws
+pub mod HalvesLaws
 pub mod MatchLaws
 pub mod SearchLaws

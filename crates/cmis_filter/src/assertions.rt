@@ -1,11 +1,12 @@
 //! What is asserted of one attribute: X.711, section 7.5, type FilterItem.
 
-ghost use Rattle.std.specs.Prelude.{◌≡◌, ◌&&◌, IfOk, is_ok, is_some};
+ghost use Rattle.std.specs.Prelude.{◌≡◌, IfOk, IsTrue, is_ok, is_some};
 ghost use Rattle.std.specs.Option.{option_copied};
 ghost use Rattle.term_values.specs.MatchingKinds.{can_match};
 ghost use Rattle.term_model.specs.FilterTests.{do_meet};
 ghost use Rattle.term_model.specs.FilterTruth.{held_value, is_valid_assertion};
 ghost use Rattle.cmis_filter.specs.Comparisons.{do_compare, rule_of};
+ghost use Rattle.cmis_filter.specs.Rising.{AreRising};
 
 use crate::comparing::{Comparison, can_compare, compare};
 use crate::held_values::value_in;
@@ -42,10 +43,12 @@ fn assertion_of_known(
 pub fn assertion(
     set: &Set,
     object: &Object,
+    rising: bool,
     comparison: Comparison,
     id: &IdRef,
     asserted: &Option<Value>,
 ) -> Result<bool, InvalidFilter>
+    requires { IsTrue rising → AreRising object.now.attrs }
     ensures truth { IfOk result (λ holds. holds
         ≡ do_meet (do_compare comparison) asserted.now (held_value set.now.attributes object.now.attrs id.now)) }
     ensures valid { is_ok result
@@ -58,7 +61,7 @@ pub fn assertion(
             Some(known) => match asserted {
                 None => Err(InvalidFilter),
                 Some(asserted) => {
-                    let held = value_in(object.attrs.items.as_slice(), id);
+                    let held = value_in(object.attrs.items.as_slice(), rising, id);
                     assertion_of_known(known, comparison, asserted, held)
                 }
             },

@@ -3,22 +3,30 @@
 ghost use Rattle.std.specs.Prelude.{◌≡◌, ◌↔◌, IfOk, IsErr, IsTrue, false, is_ok};
 ghost use Rattle.term_model.specs.FilterTests.{are_true_of, is_some_true_of, is_true_of};
 ghost use Rattle.term_model.specs.FilterTruth.{IsTrueOf, are_valid, is_valid};
+ghost use Rattle.cmis_filter.specs.Rising.{AreRising};
 
+use crate::held_values::are_rising;
 use crate::invalid_filter::InvalidFilter;
 use crate::items::item_truth;
 use term_model::{Filter, FilterForm, Filters, Object, Set};
 
 /// Whether the filter is true of the object, or that it is invalid.
 #[cycle(evaluating)]
-fn filter_truth(set: &Set, object: &Object, filter: &Filter) -> Result<bool, InvalidFilter>
+fn filter_truth(
+    set: &Set,
+    object: &Object,
+    rising: bool,
+    filter: &Filter,
+) -> Result<bool, InvalidFilter>
+    requires { IsTrue rising → AreRising object.now.attrs }
     ensures truth { IfOk result (λ holds. holds ≡ is_true_of set.now.attributes object.now.attrs filter.now) }
     ensures valid { is_ok result ≡ is_valid set.now.attributes filter.now }
 {
     match &filter.form {
-        FilterForm::Item(item) => item_truth(set, object, item),
-        FilterForm::And(filters) => all_truth(set, object, filters),
-        FilterForm::Or(filters) => any_truth(set, object, filters),
-        FilterForm::Not(negated) => match filter_truth(set, object, negated) {
+        FilterForm::Item(item) => item_truth(set, object, rising, item),
+        FilterForm::And(filters) => all_truth(set, object, rising, filters),
+        FilterForm::Or(filters) => any_truth(set, object, rising, filters),
+        FilterForm::Not(negated) => match filter_truth(set, object, rising, negated) {
             Ok(holds) => Ok(!holds),
             Err(fault) => Err(fault),
         },
@@ -27,14 +35,20 @@ fn filter_truth(set: &Set, object: &Object, filter: &Filter) -> Result<bool, Inv
 
 /// Whether all filters are true. Each is looked at, since a later one may be invalid.
 #[cycle(evaluating)]
-fn all_truth(set: &Set, object: &Object, filters: &Filters) -> Result<bool, InvalidFilter>
+fn all_truth(
+    set: &Set,
+    object: &Object,
+    rising: bool,
+    filters: &Filters,
+) -> Result<bool, InvalidFilter>
+    requires { IsTrue rising → AreRising object.now.attrs }
     ensures truth { IfOk result (λ holds. holds ≡ are_true_of set.now.attributes object.now.attrs filters.now) }
     ensures valid { is_ok result ≡ are_valid set.now.attributes filters.now }
 {
     let items = filters.items.as_slice();
     let mut all = true;
     for i in 0..items.len() {
-        let holds = filter_truth(set, object, &items[i])?;
+        let holds = filter_truth(set, object, rising, &items[i])?;
         all = all && holds;
     }
     Ok(all)
@@ -42,14 +56,20 @@ fn all_truth(set: &Set, object: &Object, filters: &Filters) -> Result<bool, Inva
 
 /// Whether some filter is true. Each is looked at, since a later one may be invalid.
 #[cycle(evaluating)]
-fn any_truth(set: &Set, object: &Object, filters: &Filters) -> Result<bool, InvalidFilter>
+fn any_truth(
+    set: &Set,
+    object: &Object,
+    rising: bool,
+    filters: &Filters,
+) -> Result<bool, InvalidFilter>
+    requires { IsTrue rising → AreRising object.now.attrs }
     ensures truth { IfOk result (λ holds. holds ≡ is_some_true_of set.now.attributes object.now.attrs filters.now) }
     ensures valid { is_ok result ≡ are_valid set.now.attributes filters.now }
 {
     let items = filters.items.as_slice();
     let mut any = false;
     for i in 0..items.len() {
-        let holds = filter_truth(set, object, &items[i])?;
+        let holds = filter_truth(set, object, rising, &items[i])?;
         any = any || holds;
     }
     Ok(any)
@@ -65,5 +85,6 @@ pub fn holds(set: &Set, object: &Object, filter: &Filter) -> Result<bool, Invali
     // refused exactly where an item of the filter is invalid, wherever it stands
     ensures refused { IsErr result ↔ (is_valid set.now.attributes filter.now ≡ false) }
 {
-    filter_truth(set, object, filter)
+    let rising = are_rising(object.attrs.items.as_slice());
+    filter_truth(set, object, rising, filter)
 }
