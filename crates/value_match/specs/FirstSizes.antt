@@ -1,4 +1,5 @@
--- The size that stands first among the numbers of a member, beneath alternatives and implicit tags: X.690, section 8.1.3.
+-- The size that stands first among the numbers of a member, beneath alternatives and implicit tags: X.690, section
+-- 8.1.3.
 use Rattle.std.specs.Prelude.{ℕ, zero, suc, List, [], ◌∷◌, true, false}
 use Rattle.term_values.specs.Syntaxes.{TypeSyntax, TypeParts}
 use Rattle.term_values.specs.Syntaxes.TypeSyntax.{Sequence, SetType, SequenceOf, SetOf, Choice, Tagged}

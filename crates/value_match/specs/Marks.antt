@@ -26,8 +26,8 @@ mark constructed tag = (tag.class % 4 * 2 + (if constructed then 1 else 0)) * 28
 abbrev pub first_octets : List ℕ → ℕ
 first_octets octets =
     slice_index_or octets 0 0 / 32 * 281474976710656 + slice_index_or octets 0 0 % 32 * 1099511627776
-    + five (slice_index_or octets 1 0) (slice_index_or octets 2 0) (slice_index_or octets 3 0) (slice_index_or octets 4 0)
-    (slice_index_or octets 5 0)
+    + five (slice_index_or octets 1 0) (slice_index_or octets 2 0) (slice_index_or octets 3 0)
+    (slice_index_or octets 4 0) (slice_index_or octets 5 0)
 
 abbrev mutual
   -- of a value under its tag, or under an implicit one in its place. An ANY or a CMISFilter is an encoding.

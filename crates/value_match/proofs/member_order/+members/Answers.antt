@@ -195,7 +195,8 @@ order_of_sets-returns-then-other_size-size t c = before_first c.args.other_size 
 
 pub order_of_sets-returns : goal.order_of_sets-returns
 order_of_sets-returns t c =
-    tells_behind c.order_of_components.result c.args.size c.args.other_size _ _ (omega arith) c.order_of_components.ensures
+    tells_behind c.order_of_components.result c.args.size c.args.other_size _ _ (omega arith)
+    c.order_of_components.ensures
 
 pub order_of_lists-returns-then-size-other_size : goal.order_of_lists-returns-then-size-other_size
 order_of_lists-returns-then-size-other_size t c = before_first c.args.size c.args.other_size _ _ (omega arith)
@@ -232,8 +233,8 @@ order_of_picks-returns-then-first-second t c size other_size =
     (key_of xs c.args.index p w (omega arith) there) in
     rw parts (tells_lists c.order_then.result _ _ _ _ (sym one) (sym two) (c.order_then.ensures
     (mark_as None p.syntax v ∷ []) (mark_as None p.syntax w ∷ []) (member_key p.syntax v) (member_key p.syntax w)
-    (tells_as c.order_of_numbers-marks.result c.mark_of-mark.result (mark_as None p.syntax v) c.mark_of-other_mark.result
-    (mark_as None p.syntax w) c.mark_of-mark.ensures
+    (tells_as c.order_of_numbers-marks.result c.mark_of-mark.result (mark_as None p.syntax v)
+    c.mark_of-other_mark.result (mark_as None p.syntax w) c.mark_of-mark.ensures
     (c.mark_of-other_mark.ensures ∙ ap (λ (z : Part). mark_as None z.syntax w) part) c.order_of_numbers-marks.ensures)
     (c.order_of_measured-behind.ensures measured other_measured)))
 
@@ -310,7 +311,8 @@ order_of_measured-returns-in-Many-Many-2 t c size other_size =
     let syntax : m ≡ SetOf of sizes = beneath ∙ ap (λ x. SetOf x sizes) (sym c.deref-in-Many-Many-2.ensures) in
     let first : v ≡ Many values = search rules in
     let second : w ≡ Many others = search rules in
-    tells_lists c.order_of_lists-in-Many-Many-2.result _ _ _ _ (set_key m of v sizes values c.args.size syntax first size)
+    tells_lists c.order_of_lists-in-Many-Many-2.result _ _ _ _
+    (set_key m of v sizes values c.args.size syntax first size)
     (set_key m of w sizes others c.args.other_size syntax second other_size) c.order_of_lists-in-Many-Many-2.ensures
 
 pub order_at-returns-in-None-place_of_mark-2 : goal.order_at-returns-in-None-place_of_mark-2
@@ -352,7 +354,9 @@ order_of_components-loop-turn-preserved t c =
     let others : o ≡ slots_listed zs = search rules in
     let mark = c.in-Some.mark in
     let next : c.in-Some-checked_add.next ≡ mark + 1 = c.in-Some-checked_add.ensures.1 in
-    agree_next (component_key p s) (component_key p o) mark c.in-Some-checked_add.next next (agree_below p s o xs ys zs c.loop-turn.from (Some mark) parts slots others c.loop-turn.invariant c.in-Some.ensures.first c.in-Some.ensures.second) c.in-Alike.ensures
+    let same = agree_below p s o xs ys zs c.loop-turn.from (Some mark) parts slots others
+    c.loop-turn.invariant c.in-Some.ensures.first c.in-Some.ensures.second in
+    agree_next (component_key p s) (component_key p o) mark c.in-Some-checked_add.next next same c.in-Alike.ensures
 
 pub order_of_components-returns-in-None : goal.order_of_components-returns-in-None
 order_of_components-returns-in-None t c =
@@ -365,7 +369,9 @@ order_of_components-returns-in-None t c =
     let parts : p ≡ parts_listed xs = search rules in
     let slots : s ≡ slots_listed ys = search rules in
     let others : o ≡ slots_listed zs = search rules in
-    whole_same (component_key p s) (component_key p o) (λ m. agree_below p s o xs ys zs c.loop-turn.from None parts slots others c.loop-turn.invariant c.in-None.ensures.first c.in-None.ensures.second m tt)
+    let same = agree_below p s o xs ys zs c.loop-turn.from None parts slots others
+    c.loop-turn.invariant c.in-None.ensures.first c.in-None.ensures.second in
+    whole_same (component_key p s) (component_key p o) (λ m. same m tt)
 
 pub order_of_components-returns-in-Before : goal.order_of_components-returns-in-Before
 order_of_components-returns-in-Before t c =
@@ -381,7 +387,9 @@ order_of_components-returns-in-Before t c =
     let mark = c.in-Some.mark in
     let fits : Fits w64 mark = search rules in
     let small : mark < 18446744073709551616 = omega (arith, fits) in
-    whole_before (component_key p s) (component_key p o) mark small (agree_below p s o xs ys zs c.loop-turn.from (Some mark) parts slots others c.loop-turn.invariant c.in-Some.ensures.first c.in-Some.ensures.second) c.in-Before.ensures
+    let same = agree_below p s o xs ys zs c.loop-turn.from (Some mark) parts slots others
+    c.loop-turn.invariant c.in-Some.ensures.first c.in-Some.ensures.second in
+    whole_before (component_key p s) (component_key p o) mark small same c.in-Before.ensures
 
 pub order_of_components-returns-in-After : goal.order_of_components-returns-in-After
 order_of_components-returns-in-After t c =
@@ -397,7 +405,8 @@ order_of_components-returns-in-After t c =
     let mark = c.in-Some.mark in
     let fits : Fits w64 mark = search rules in
     let small : mark < 18446744073709551616 = omega (arith, fits) in
-    let same = agree_below p s o xs ys zs c.loop-turn.from (Some mark) parts slots others c.loop-turn.invariant c.in-Some.ensures.first c.in-Some.ensures.second in
+    let same = agree_below p s o xs ys zs c.loop-turn.from (Some mark) parts slots others
+    c.loop-turn.invariant c.in-Some.ensures.first c.in-Some.ensures.second in
     whole_before (component_key p o) (component_key p s) mark small (λ m less. sym (same m less)) c.in-After.ensures
 
 pub order_of_components-returns-in-None-least_of_both : goal.order_of_components-returns-in-None-least_of_both
@@ -411,4 +420,6 @@ order_of_components-returns-in-None-least_of_both t c =
     let parts : p ≡ parts_listed xs = search rules in
     let slots : s ≡ slots_listed ys = search rules in
     let others : o ≡ slots_listed zs = search rules in
-    whole_same (component_key p s) (component_key p o) (λ m. agree_below p s o xs ys zs c.loop-turn.from None parts slots others c.loop-turn.invariant c.in-None-least_of_both.ensures.first c.in-None-least_of_both.ensures.second m tt)
+    let same = agree_below p s o xs ys zs c.loop-turn.from None parts slots others c.loop-turn.invariant
+    c.in-None-least_of_both.ensures.first c.in-None-least_of_both.ensures.second in
+    whole_same (component_key p s) (component_key p o) (λ m. same m tt)
