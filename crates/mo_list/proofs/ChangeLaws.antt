@@ -8,7 +8,6 @@ use Rattle.std.specs.Prelude.{Some, insert, is_some, remove, slice_get, slice_se
 use Rattle.std.specs.List.{AllByRecursion}
 use Rattle.std.specs.List.Sorted.{IsStrictlySortedBy}
 use Rattle.std.specs.Ordering.{is_gt}
-use Rattle.std.specs.declared.cmp.Ordering.{Ordering}
 use Rattle.std.specs.declared.cmp.Ordering.TheVariants.{Less, Equal, Greater}
 use Rattle.term_model.specs.declared.name.Rdn.{Rdn}
 use Rattle.term_model.specs.declared.objects.NamedObject.{NamedObject}

@@ -1,5 +1,5 @@
 -- What stands at the place of a name, and what follows it.
-use Rattle.std.proofs.Common.{◌≡◌, ℕ, zero, suc, ◌+◌, ◌^◌, ◌<◌, ◌≤◌, Bool, true, false, List, [], ◌∷◌, length, take, drop, get_or, None, Some, Option, if◌then◌else◌, refl, sym, ap, ◌∙◌, arith}
+use Rattle.std.proofs.Common.{◌≡◌, ℕ, zero, suc, ◌+◌, ◌^◌, ◌<◌, ◌≤◌, Bool, true, false, List, [], ◌∷◌, length, take, drop, get_or, None, Some, if◌then◌else◌, refl, sym, ap, ◌∙◌, arith}
 use Rattle.std.proofs.lemmas.Bool.{false≢true}
 use Rattle.std.specs.Arc.{arc_value}
 use Rattle.std.specs.Prelude.{slice_get}
@@ -18,7 +18,7 @@ use Rattle.term_model.specs.NamedObjects.{IsByName, is_named_at, names, object_a
 use Rattle.term_model.specs.StepCounts.{IsOneCall}
 use Rattle.term_model.proofs.MapLaws.{all_by, here, later, not_same, nothing_below, turned}
 use Rattle.mo_list.specs.Entries.{objects_in}
-use Rattle.mo_list.specs.Places.{AllInFront, IsPlace, NoneInFront}
+use Rattle.mo_list.specs.Places.{AllInFront, NoneInFront}
 use Rattle.mo_list.proofs.PlaceLaws.{Entry, is_greater, length_objects}
 use mir.Val.{bool_byte}
 

@@ -16,3 +16,4 @@ mod StandardFacts
 pub mod StepLaws
 pub mod StoringLaws
 pub mod TextLaws
+pub mod FollowingLaws

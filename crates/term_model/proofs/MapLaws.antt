@@ -33,7 +33,7 @@ rdn_Decides x y = (
     same : (z : Rdn) → is_same_rdn z z ≡ true
     same z = rw ((bytes_eq-Decides z.attribute z.attribute).1 refl) ((bytes_eq-Decides z.value z.value).1 refl)
 
-name_Decides : (xs ys : List Rdn) → Decides (is_same_name xs ys) (xs ≡ ys)
+pub name_Decides : (xs ys : List Rdn) → Decides (is_same_name xs ys) (xs ≡ ys)
 name_Decides xs ys = slice_eq-Decides rdn_Decides xs ys (is_same_name xs ys) refl
 
 pub same_itself : (xs : List Rdn) → is_same_name xs xs ≡ true

@@ -1,11 +1,10 @@
 -- Which object follows a name: the one with the least greater name; docs/PROFILE.md, section 4.
-use Rattle.std.specs.Prelude.{◌≡◌, ◌≢◌, List, Contains, None, Option, Some, find}
+use Rattle.std.specs.Prelude.{◌≡◌, ◌≢◌, List, Contains, Option, find}
 use Rattle.std.specs.Ordering.{is_lt}
 use Rattle.std.specs.declared.cmp.Ordering.TheVariants.{Less}
 use Rattle.term_model.specs.declared.name.Rdn.{Rdn}
 use Rattle.term_model.specs.declared.objects.NamedObject.{NamedObject}
 use Rattle.term_model.specs.NameOrder.{name_cmp}
-use Rattle.term_model.specs.NamedObjects.{IsByName}
 
 -- by rising name, the first object whose name is greater
 abbrev pub entry_after : List NamedObject → List Rdn → Option NamedObject

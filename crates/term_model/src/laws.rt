@@ -1,7 +1,7 @@
 //! Laws of journals and of the map of objects, each as the contract of a function that does nothing.
 
 ghost use Rattle.term_model.specs.JournalLaws.{LegalGoesOn, PlacedStays, ReplayGoesOn, ReplayStepsOn, ScriptFrames, ScriptReplays};
-ghost use Rattle.term_model.specs.MapLaws.{EqualMaps, NamesRise, OthersStay, StoredIsFound};
+ghost use Rattle.term_model.specs.MapLaws.{EqualMaps, NamesRise, NextIsLeast, NoneIsGreater, OthersAreLeft, OthersStay, RemovedIsGone, StoredIsFound};
 ghost use Rattle.term_model.specs.TextLaws.{PrintTellsJournal, TextsDiffer};
 
 /// A journal that follows another is replayed from the state that the other one came to.
@@ -62,4 +62,16 @@ pub fn names_rise()
 /// Maps that have the same object under each name are the same list.
 pub fn equal_maps()
     ensures { EqualMaps }
+{}
+
+/// Under a name that was taken out stands nothing, and under each other name what stood there.
+pub fn removed_is_gone()
+    ensures gone { RemovedIsGone }
+    ensures left { OthersAreLeft }
+{}
+
+/// The object that follows a name has the least greater name; where none follows, no name is greater.
+pub fn next_is_least()
+    ensures least { NextIsLeast }
+    ensures none { NoneIsGreater }
 {}

@@ -1,6 +1,4 @@
-use Rattle.std.proofs.Common.{◌≡◌, ℕ, ◌+◌, ◌-◌, ◌^◌, ◌<◌, ◌≤◌, length, take, drop}
-use Rattle.mo_list.specs.Entries.{objects_in}
-use Rattle.mo_list.specs.Places.{AllInFront, NoneInFront}
+use Rattle.std.proofs.Common.{◌-◌}
 use Rattle.mo_list.proofs.PlaceLaws.{IsSearched}
 use Rattle.mo_list.proofs.places.place_of.Given as goal
 

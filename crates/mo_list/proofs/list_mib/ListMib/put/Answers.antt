@@ -1,6 +1,6 @@
-use Rattle.std.proofs.Common.{◌≡◌, ◌∙◌, ap, sym, subst, true, false}
+use Rattle.std.proofs.Common.{◌≡◌, ◌∙◌, ap, sym, subst}
 use Rattle.std.specs.Prelude.{is_some}
-use Rattle.term_model.specs.NamedObjects.{IsByName, is_named_at, object_at, removed, stored}
+use Rattle.term_model.specs.NamedObjects.{IsByName, is_named_at, object_at, stored}
 use Rattle.term_model.specs.StepCounts.{IsOneCall}
 use Rattle.term_model.specs.declared.objects.NamedObject.{NamedObject}
 use Rattle.mo_list.specs.Entries.{objects_of}

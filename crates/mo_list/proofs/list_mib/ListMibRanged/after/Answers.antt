@@ -1,9 +1,8 @@
-use Rattle.std.proofs.Common.{◌≡◌, ◌∙◌, ◌+◌, List, Some, None, ap, sym, subst, arith, if◌then◌else◌}
+use Rattle.std.proofs.Common.{◌∙◌, ◌+◌, ap, sym, subst, arith}
 use Rattle.std.specs.Prelude.{slice_get}
 use Rattle.term_model.specs.Following.{entry_after}
-use Rattle.term_model.specs.NamedObjects.{IsByName, object_at}
+use Rattle.term_model.specs.NamedObjects.{IsByName}
 use Rattle.term_model.specs.StepCounts.{IsOneCall}
-use Rattle.term_model.specs.declared.objects.NamedObject.{NamedObject}
 use Rattle.mo_list.proofs.FindingLaws.{byte_is, held_at, held_nowhere, next_entry, of_one, one_call}
 use Rattle.mo_list.specs.Entries.{objects_in}
 use Rattle.mo_list.proofs.list_mib.ListMibRanged.after.Goals as goal

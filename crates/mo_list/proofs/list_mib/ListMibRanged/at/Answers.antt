@@ -1,6 +1,4 @@
-use Rattle.std.proofs.Common.{◌≡◌, ◌∙◌, ◌+◌, List, Some, None, ap, sym, subst, arith, if◌then◌else◌}
-use Rattle.std.specs.Prelude.{slice_get}
-use Rattle.term_model.specs.Following.{entry_after}
+use Rattle.std.proofs.Common.{◌∙◌, Some, ap, sym, subst}
 use Rattle.term_model.specs.NamedObjects.{IsByName, object_at}
 use Rattle.term_model.specs.StepCounts.{IsOneCall}
 use Rattle.term_model.specs.declared.objects.NamedObject.{NamedObject}
