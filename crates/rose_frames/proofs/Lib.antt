@@ -1,4 +1,5 @@
 mod ApduDenoted
+mod ApduDenoting
 mod ApduTold
 mod ApduTrees
 mod Backwards

@@ -1,5 +1,5 @@
--- What holds of APDUs of remote operations that are read and written: X.229, section 9; X.690, section 10. The relation is
--- in Apdu, the reading in ApduReading, what is written in ApduWriting.
+-- What holds of APDUs of remote operations that are read and written: X.229, section 9; X.690, section 10. The
+-- relation is in Apdu, the reading in ApduReading, what is written in ApduWriting.
 use Rattle.std.specs.Int.{w64}
 use Rattle.std.specs.Prelude.{◌≡◌, ℕ, ◌<◌, ℤ, List, [], ◌++◌, true, Option, None, Some, FitsSigned}
 use Rattle.term_values.specs.Ber.{most_depth}
@@ -54,7 +54,8 @@ abbrev pub apdu_tree : Apdu → TreeValue
 apdu_tree (apdus.Invoke id linked op argument) =
     Constructed (context 1)
     (Then (whole_tree (universal 2) id) (linked_tree linked (Then (whole_tree (universal 2) op) (any_tree argument))))
-apdu_tree (apdus.Result id op value) = Constructed (context 2) (Then (whole_tree (universal 2) id) (result_tree op value))
+apdu_tree (apdus.Result id op value) =
+    Constructed (context 2) (Then (whole_tree (universal 2) id) (result_tree op value))
 apdu_tree (apdus.Error id error parameter) =
     Constructed (context 3)
     (Then (whole_tree (universal 2) id) (Then (whole_tree (universal 2) error) (any_tree parameter)))

@@ -29,7 +29,8 @@ const LENGTHS: usize = 4_294_967_296;
 pub fn close_value(tag: Tag, start: usize, into: &mut Vec<u8>) -> Result<(), AllocError>
     requires { start ≤ length into.old.items }
     ensures written { OnOk result ((before contents : List ℕ) → start ≡ length before
-        → into.old.items ≡ before ++ reverse contents → into.new.items ≡ before ++ reverse (encoded true tag contents)) }
+        → into.old.items ≡ before ++ reverse contents
+        → into.new.items ≡ before ++ reverse (encoded true tag contents)) }
     ensures begun { Extends into.old.items into.new.items }
 {
     let size = into.as_slice().len() - start;

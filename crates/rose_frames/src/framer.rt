@@ -42,8 +42,10 @@ impl Model for Framer {
       octets = take framer.filled framer.size ++ framer.apdu.items;
     } };
 
-    ghost invariant = { λ framer. (length framer.size ≡ 4) × (framer.filled ≤ 4) × (framer.filled < 4 → framer.apdu.items ≡ [])
-        × ((framer.apdu.items ≡ []) ⊎ ((length framer.apdu.items ≤ number framer.size) × (number framer.size ≤ 1048576))) };
+    ghost invariant = { λ framer. (length framer.size ≡ 4) × (framer.filled ≤ 4)
+        × (framer.filled < 4 → framer.apdu.items ≡ [])
+        × ((framer.apdu.items ≡ [])
+        ⊎ ((length framer.apdu.items ≤ number framer.size) × (number framer.size ≤ 1048576))) };
 }
 
 /// The octets of a length with those that more octets add to them, and how many these are.
@@ -124,16 +126,18 @@ impl Framer {
     /// the same from then on. Where there is no memory, it is as it was.
     pub fn feed(&mut self, piece: &[u8]) -> Result<usize, FrameRefusal>
         // what is taken
-        ensures taken { IfOk result (λ size. (self.new ≡ record self.old { octets = in_hand (self.old.octets ++ piece.now) })
+        ensures taken { IfOk result (λ size.
+            (self.new ≡ record self.old { octets = in_hand (self.old.octets ++ piece.now) })
             × (length self.old.octets + size ≡ length self.new.octets)) }
         ensures within { IfOk result (λ size. size ≤ length piece.now) }
         ensures nothing { (result ≡ Ok 0)
-            ↔ ((fault_in self.old.place self.old.octets ≡ None) × ((is_whole self.old.octets ≡ true) ⊎ (piece.now ≡ []))) }
+            ↔ ((fault_in self.old.place self.old.octets ≡ None)
+            × ((is_whole self.old.octets ≡ true) ⊎ (piece.now ≡ []))) }
 
         // a length that is refused, exactly, and for good
         ensures sound { OnOk result (fault_in self.old.place (self.old.octets ++ piece.now) ≡ None) }
-        ensures faulty { (refusal : FrameRefusal) → fault_in self.old.place (self.old.octets ++ piece.now) ≡ Some refusal
-            → (result ≡ Err refusal) × (self.new ≡ record self.old { octets = take 4 (self.old.octets ++ piece.now) }) }
+        ensures faulty { (refusal : FrameRefusal)
+            → fault_in self.old.place (self.old.octets ++ piece.now) ≡ Some refusal → (result ≡ Err refusal) × (self.new ≡ record self.old { octets = take 4 (self.old.octets ++ piece.now) }) }
         ensures fault { IfErr result (λ refusal. (refusal ≡ Memory)
             ⊎ (fault_in self.old.place (self.old.octets ++ piece.now) ≡ Some refusal)) }
         ensures again { (refusal : FrameRefusal) → fault_in self.old.place self.old.octets ≡ Some refusal

@@ -2,8 +2,8 @@
 
 ghost use Rattle.rose_frames.specs.ApduLaws.{ReadIsApdu, ApduIsRead, WrittenIsApdu, WrittenIsReadBack};
 
-/// The APDU that is read from a tree is the one that the tree is: the tree denotes, by the syntax of the APDU, the value
-/// whose components are its fields. Does nothing.
+/// The APDU that is read from a tree is the one that the tree is: by the syntax of the APDU the tree denotes the
+/// value whose components are its fields. Does nothing.
 pub fn reading_is_denoting()
     ensures read { ReadIsApdu }
     ensures denoted { ApduIsRead }

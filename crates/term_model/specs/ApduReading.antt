@@ -42,7 +42,8 @@ invoke_operation id linked op rest = option_map (λ argument. apdus.Invoke id li
 
 abbrev pub invoke_linked : ℤ → Option ℤ → TreeValues → Option Apdu
 invoke_linked id linked rest =
-    option_and_then (λ (f : ℤ × TreeValues). invoke_operation id linked f.0 f.1) (first_by (integer_under (universal 2)) rest)
+    option_and_then (λ (f : ℤ × TreeValues). invoke_operation id linked f.0 f.1)
+    (first_by (integer_under (universal 2)) rest)
 
 abbrev pub invoke_id : ℤ → TreeValues → Option Apdu
 invoke_id id rest = option_and_then (λ (f : Option ℤ × TreeValues). invoke_linked id f.0 f.1) (linked_first rest)
@@ -102,7 +103,8 @@ problem_in (Constructed tag inside) = None
 
 abbrev pub reject_parts : TreeValue × TreeValue → Option Apdu
 reject_parts parts =
-    option_and_then (λ id. option_map (λ (f : ℕ × ℤ). apdus.Reject id f.0 f.1) (problem_in parts.1)) (rejected_in parts.0)
+    option_and_then (λ id. option_map (λ (f : ℕ × ℤ). apdus.Reject id f.0 f.1) (problem_in parts.1))
+    (rejected_in parts.0)
 
 abbrev pub reject_in : TreeValues → Option Apdu
 reject_in trees = option_and_then reject_parts (two trees)

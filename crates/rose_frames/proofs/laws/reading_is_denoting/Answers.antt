@@ -3,7 +3,8 @@ use Rattle.std.proofs.Common.{sym, ap, ◌∙◌, subst}
 use Rattle.term_values.specs.Tree.{TreeValue}
 use Rattle.term_model.specs.Apdu.{IsApdu}
 use Rattle.term_model.specs.ApduReading.{apdu_of}
-use Rattle.rose_frames.proofs.ApduDenoted.{sound_denotes, tree_denoted}
+use Rattle.rose_frames.proofs.ApduDenoted.{tree_denoted}
+use Rattle.rose_frames.proofs.ApduDenoting.{sound_denotes}
 use Rattle.rose_frames.proofs.ApduTold.{tree_told}
 use Rattle.rose_frames.proofs.ApduTrees.{tree_read}
 use Rattle.rose_frames.proofs.laws.reading_is_denoting.Goals as goal
