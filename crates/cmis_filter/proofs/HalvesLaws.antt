@@ -6,7 +6,7 @@ use Rattle.std.specs.List.Sorted.{IsStrictlySortedBy}
 use Rattle.std.specs.Ordering.{is_eq, is_lt, nat_cmp, ordering_reverse}
 use Rattle.std.specs.declared.cmp.Ordering.{Ordering}
 use Rattle.std.specs.declared.cmp.Ordering.TheVariants.{Less, Equal, Greater}
-use Rattle.std.proofs.lemmas.Bool.{and_parts, false≢true}
+use Rattle.std.proofs.lemmas.Bool.{and_from, and_parts, false≢true}
 use Rattle.std.proofs.lemmas.Cmp.{alike_right}
 use Rattle.std.proofs.lemmas.List.{length-take, take_rest}
 use Rattle.term_values.specs.Typed.{TypedValue}
@@ -55,6 +55,12 @@ rising_is (x ∷ (y ∷ ys)) e =
     let low = less_is (order x.id y.id) parts.0 in
     let others = rising_is (y ∷ ys) parts.1 in
     ((low, all_further x.id y.id ys low others.0), others)
+
+pub is_rising : (attributes : List Attribute) → AreRising attributes → do_rise attributes ≡ true
+unfolding IsStrictlySortedBy
+is_rising [] h = refl
+is_rising (x ∷ []) h = refl
+is_rising (x ∷ (y ∷ ys)) h = and_from _ _ (ap is_lt h.0.0) (is_rising (y ∷ ys) h.1)
 
 pub rising_drop : (n : ℕ) (attributes : List Attribute) → AreRising attributes → AreRising (drop n attributes)
 unfolding IsStrictlySortedBy

@@ -1,6 +1,6 @@
 //! The values of an object's attributes.
 
-ghost use Rattle.std.specs.Prelude.{◌≡◌, IsTrue};
+ghost use Rattle.std.specs.Prelude.{◌≡◌, ◌↔◌, IsTrue};
 ghost use Rattle.std.specs.Option.{option_copied};
 ghost use Rattle.term_model.specs.FilterTruth.{value_in};
 ghost use Rattle.cmis_filter.specs.Rising.{AreRising, do_rise};
@@ -24,7 +24,7 @@ fn do_rise(attributes: &[Attribute]) -> bool
 
 /// Whether the attributes stand by rising identifier, each identifier once, as those of an object of a system do.
 pub fn are_rising(attributes: &[Attribute]) -> bool
-    ensures { IsTrue result → AreRising attributes.now }
+    ensures { IsTrue result ↔ AreRising attributes.now }
 {
     do_rise(attributes)
 }
