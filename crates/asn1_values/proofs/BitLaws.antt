@@ -1,5 +1,6 @@
 -- Bits in octets, and bits that are set.
-use Rattle.std.proofs.Common.{◌≡◌, ◌≤◌, ◌<◌, ◌+◌, ◌-◌, ℕ, zero, suc, Bool, true, false, List, [], ◌∷◌, ◌++◌, length, take, drop, set, min, arith, refl, ap, sym, ◌∙◌, append_assoc, take_all, length-drop}
+use Rattle.std.proofs.Common.{◌≡◌, ◌≤◌, ◌<◌, ◌+◌, ◌-◌, ℕ, zero, suc, Bool, true, false, List, [], ◌∷◌, ◌++◌, length}
+use Rattle.std.proofs.Common.{take, drop, set, min, arith, refl, ap, sym, ◌∙◌, append_assoc, take_all, length-drop}
 use Rattle.std.proofs.Math.ListN.{drop_of_length-le}
 use Rattle.std.proofs.Math.Seq.{drop-nil}
 use Rattle.std.proofs.lemmas.Bool.Decides.{nat_tests}
@@ -53,7 +54,8 @@ octet_packed rest later before count some same next =
 
 by_count : (b : Bool) (bits : List Bool) (before : List ℕ) (at end : ℕ) → nat_le (at + 8) (length bits) ≡ b
     → at < length bits → end ≡ min (length bits) (at + 8)
-    → before ++ packed (drop at bits) ≡ (before ++ weighed 128 (take (end - at) (drop at bits)) ∷ []) ++ packed (drop end bits)
+    → before ++ packed (drop at bits) ≡ (before ++ weighed 128 (take (end - at) (drop at bits)) ∷ [])
+    ++ packed (drop end bits)
 by_count true bits before at end t h e =
     let full : at + 8 ≤ length bits = grind (arith, nat_tests) in
     let many : end - at ≡ 8 = omega arith in

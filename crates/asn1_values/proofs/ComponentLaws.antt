@@ -1,5 +1,7 @@
 -- One member or one component more has been read.
-use Rattle.std.proofs.Common.{◌≡◌, ◌≤◌, ◌<◌, ◌+◌, ℕ, zero, suc, Bool, true, false, cond, not, length, take, drop, get_or, set, replicate, arith, List, [], ◌∷◌, ◌++◌, map, Option, None, Some, refl, ap, sym, ◌∙◌}
+use Rattle.std.proofs.Common.{◌≡◌, ◌≤◌, ◌<◌, ◌+◌, ℕ, zero, suc, Bool, true, false, cond, not, length, take, drop}
+use Rattle.std.proofs.Common.{get_or, set, replicate, arith, List, [], ◌∷◌, ◌++◌, map, Option, None, Some, refl, ap}
+use Rattle.std.proofs.Common.{sym, ◌∙◌}
 use Rattle.std.proofs.lemmas.List.{drop_more, take_more, map-append}
 use Rattle.std.specs.Prelude.{◌&&◌, option_map, option_and_then, if◌then◌else◌}
 use Rattle.ber_values.proofs.DecodingLaws.{slot_read, left_out_is, nothing_left_out}
@@ -12,7 +14,8 @@ use Rattle.term_values.specs.declared.syntax.Part.{Part}
 use Rattle.term_values.specs.declared.value.Slot.{Slot}
 use Rattle.term_values.specs.declared.value.Slot.TheVariants.{Absent, Present}
 use Rattle.asn1_values_syntax.specs.declared.value.ValuePart.{ValuePart}
-use Rattle.asn1_values.specs.Denoted.{denoted, is_meant, members_said, components_said, unordered_said, taken_out, only_where, where_taken}
+use Rattle.asn1_values.specs.Denoted.{denoted, is_meant, members_said, components_said, unordered_said, taken_out}
+use Rattle.asn1_values.specs.Denoted.{only_where, where_taken}
 use Rattle.asn1_values.specs.Literals.{same_name}
 use Rattle.asn1_values.specs.Steps.{part_names, next_comes, left_of, no_texts, slot_by, next_slot}
 use Rattle.asn1_values.specs.TextValues.{TextValue, TextParts, said_name, said_value, parts_said}
@@ -55,7 +58,8 @@ pub member_missing : (member : TextValue → Option TypedValue) (before : List T
     (left rest : List ValuePart) → left ≡ part ∷ rest → member (said_value part) ≡ None
     → option_map (values_before before) (members_said member (parts_said left)) ≡ None
 member_missing member before part left rest e is =
-    rw e (ap (option_map (values_before before)) (no_member member (said_name part) (said_value part) (parts_said rest) is))
+    rw e (ap (option_map (values_before before))
+    (no_member member (said_name part) (said_value part) (parts_said rest) is))
 
 named_member : (member : TextValue → Option TypedValue) (name : List ℕ) (text : TextValue) (others : TextParts)
     → 0 < length name → members_said member (AndText name text others) ≡ None
@@ -71,7 +75,8 @@ member_named member before part left rest e named =
 
 -- ---- components in the order of the type
 
-pub part_there : (filter : TextValue → Option TypedValue) (before : List Slot) (names more : List (List ℕ)) (part : Part)
+pub part_there : (filter : TextValue → Option TypedValue) (before : List Slot) (names more : List (List ℕ))
+    (part : Part)
     (left rest : List Part) (texts : List ValuePart) (x : ValuePart) (xs : List ValuePart) (v : TypedValue)
     → left ≡ part ∷ rest → texts ≡ x ∷ xs → more ≡ names ++ part.name ∷ []
     → next_comes part.name names (parts_said texts) ≡ true → denoted filter part.syntax (said_value x) ≡ Some v

@@ -1,5 +1,6 @@
 -- Numerals as they are read.
-use Rattle.std.proofs.Common.{◌≡◌, ◌≤◌, ◌<◌, ◌+◌, ◌-◌, ◌^◌, ℕ, zero, suc, Bool, true, false, cond, List, [], ◌∷◌, ◌++◌, length, map, drop, arith, refl, ap, sym, ◌∙◌, append_assoc, Option, None, Some}
+use Rattle.std.proofs.Common.{◌≡◌, ◌≤◌, ◌<◌, ◌+◌, ◌-◌, ◌^◌, ℕ, zero, suc, Bool, true, false, cond, List, [], ◌∷◌, ◌++◌}
+use Rattle.std.proofs.Common.{length, map, drop, arith, refl, ap, sym, ◌∙◌, append_assoc, Option, None, Some}
 use Rattle.std.proofs.lemmas.Bool.Decides.{nat_tests}
 use Rattle.std.specs.Char.{digit_value}
 use Rattle.std.specs.List.{list_all}
@@ -31,8 +32,10 @@ all_digits (d ∷ ds) h = rw (digit_is d h.0) (all_digits ds h.1)
 
 digits_all : (ds : List ℕ) → list_all is_digit ds ≡ true → AllDigits 10 ds
 digits_all [] h = tt
-digits_all (d ∷ ds) h =
-    (is_digit_value d (front_true (is_digit d) (list_all is_digit ds) h), digits_all ds (back_true (is_digit d) (list_all is_digit ds) h))
+digits_all (d ∷ ds) h = (
+  is_digit_value d (front_true (is_digit d) (list_all is_digit ds) h),
+  digits_all ds (back_true (is_digit d) (list_all is_digit ds) h),
+)
 
 pub numeral_is : (ds : List ℕ) → IsNumeral 10 ds → numeral ds ≡ Some (digits_value 10 ds)
 numeral_is [] h = absurd (let e : 0 < 0 = h.0 in omega arith)
@@ -86,7 +89,8 @@ arc_great ds n h far = arc_some ds n h ∙ arc_too_great n far
 
 -- one arc more
 one_more : (before : List ℕ) (n : ℕ) (rest : Option (List ℕ))
-    → option_map (λ ns. before ++ ns) (option_map (λ ns. n ∷ ns) rest) ≡ option_map (λ ns. (before ++ n ∷ []) ++ ns) rest
+    → option_map (λ ns. before ++ ns) (option_map (λ ns. n ∷ ns) rest) ≡ option_map
+    (λ ns. (before ++ n ∷ []) ++ ns) rest
 one_more before n None = refl
 one_more before n (Some ns) = ap Some (sym (append_assoc before (n ∷ []) ns))
 
@@ -112,7 +116,8 @@ digits_missing before digits others is = rw is refl
 
 then_by : (before arcs digits : List ℕ) (others : List (List ℕ)) (o : Option ℕ) → arc_number digits ≡ o
     → option_map (λ n. before ++ n ∷ []) o ≡ Some arcs
-    → option_map (λ ns. before ++ ns) (arc_numbers (digits ∷ others)) ≡ option_map (λ ns. arcs ++ ns) (arc_numbers others)
+    → option_map (λ ns. before ++ ns) (arc_numbers (digits ∷ others)) ≡ option_map (λ ns. arcs ++ ns)
+    (arc_numbers others)
 then_by before arcs digits others None e is = absurd (cc)
 then_by before arcs digits others (Some n) e is =
     let same : before ++ n ∷ [] ≡ arcs = cc in
@@ -122,7 +127,8 @@ then_by before arcs digits others (Some n) e is =
 -- the arcs with one more, and the others behind them
 pub digits_then : (before arcs digits : List ℕ) (others : List (List ℕ))
     → option_map (λ n. before ++ n ∷ []) (arc_number digits) ≡ Some arcs
-    → option_map (λ ns. before ++ ns) (arc_numbers (digits ∷ others)) ≡ option_map (λ ns. arcs ++ ns) (arc_numbers others)
+    → option_map (λ ns. before ++ ns) (arc_numbers (digits ∷ others)) ≡ option_map (λ ns. arcs ++ ns)
+    (arc_numbers others)
 digits_then before arcs digits others is = then_by before arcs digits others (arc_number digits) refl is
 
 none_by : (before digits : List ℕ) (others : List (List ℕ)) (o : Option ℕ) → arc_number digits ≡ o

@@ -4,17 +4,21 @@ use Rattle.std.specs.Prelude.{◌≢◌}
 use Rattle.std.specs.declared.alloc.Global.{Global}
 use Rattle.std.specs.declared.vec.Vec.{Vec}
 use Rattle.asn1_values_syntax.specs.declared.value.ValuePart.{ValuePart}
-use Rattle.asn1_values_syntax.specs.declared.value.BracesText.{Row_of-ValuePart, end_of-ValuePart, more_of-ValuePart, items-the_row-ValuePart, items_hidden-the_row-ValuePart-0}
+use Rattle.asn1_values_syntax.specs.declared.value.BracesText.{Row_of-ValuePart, end_of-ValuePart, more_of-ValuePart}
+use Rattle.asn1_values_syntax.specs.declared.value.BracesText.{items-the_row-ValuePart}
+use Rattle.asn1_values_syntax.specs.declared.value.BracesText.{items_hidden-the_row-ValuePart-0}
 use Rattle.asn1_values_syntax.specs.declared.value.BracesText.TheBlock.{hidden-the_row-ValuePart-0}
 use Rattle.asn1_values_syntax.specs.declared.value.BracesText.TheVariants.{Parts}
 use Rattle.asn1_values.specs.Arcs.{arcs_said}
-use Rattle.asn1_values.specs.TextValues.{TextValue, TextParts, said_name, said_value, content_said, row_said, parts_said}
+use Rattle.asn1_values.specs.TextValues.{TextValue, TextParts, said_name, said_value, content_said, row_said}
+use Rattle.asn1_values.specs.TextValues.{parts_said}
 use Rattle.asn1_values.specs.TextValues.TextValue.{Literal, Number, Name, Chosen, InBraces, InArcs}
 use Rattle.asn1_values.specs.TextValues.TextParts.{NoTexts, AndText}
 
 row-list : {n : _} (row : Row_of-ValuePart n) → row_said row ≡ parts_said (items-the_row-ValuePart n row)
 row-list end_of-ValuePart = refl
-row-list (more_of-ValuePart part others) = ap (λ rest. AndText (said_name part) (said_value part) rest) (row-list others)
+row-list (more_of-ValuePart part others) =
+    ap (λ rest. AndText (said_name part) (said_value part) rest) (row-list others)
 
 pub parts_content : (parts : Vec ValuePart Global) → content_said (Parts parts) ≡ InBraces (parts_said parts.items)
 parts_content parts = ap InBraces (row-list (hidden-the_row-ValuePart-0 parts)

@@ -6,7 +6,9 @@ use Rattle.term_values.specs.Der.{identifier_octets, length_octets}
 use Rattle.term_values.specs.Octets.{integer_contents}
 use Rattle.term_values.specs.Oid.{subidentifier}
 use Rattle.term_values.specs.CmipTypes.{rdn_sequence}
-use Rattle.term_values.specs.Syntaxes.TypeSyntax.{Boolean, Integer, Enumerated, BitString, OctetString, ObjectIdentifier, TextString, GeneralizedTime, Sequence, SetType, SetOf, Choice, Any, Filter}
+use Rattle.term_values.specs.Syntaxes.TypeSyntax.{Boolean, Integer, Enumerated, BitString, OctetString}
+use Rattle.term_values.specs.Syntaxes.TypeSyntax.{ObjectIdentifier, TextString, GeneralizedTime, Sequence, SetType}
+use Rattle.term_values.specs.Syntaxes.TypeSyntax.{SetOf, Choice, Any, Filter}
 use Rattle.term_values.specs.Syntaxes.TypeParts.{NoParts, Part}
 use Rattle.term_values.specs.Typed.TypedValue.{Truth, Int, Bits, Octets, Identifier, Text, Time, Parts, Many, Pick, Raw}
 use Rattle.term_values.specs.Typed.TypedSlots.{NoSlots, Filled, Empty}
@@ -42,7 +44,8 @@ past_64_bits : value_said (Integer [] []) (number (codes "9223372036854775808"))
 past_64_bits = refl
 
 -- of two names that are one, the first
-first_name : value_said (Integer ((codes "a", pos 7) ∷ (codes "a", pos 8) ∷ []) []) (Name (codes "a")) ≡ Some (Int (pos 7))
+first_name : value_said (Integer ((codes "a", pos 7) ∷ (codes "a", pos 8) ∷ []) []) (Name (codes "a")) ≡ Some
+    (Int (pos 7))
 first_name = refl
 
 no_number : value_said (Enumerated ((codes "a", pos 7) ∷ [])) (number (codes "7")) ≡ None
@@ -84,10 +87,12 @@ with_default = refl
 
 -- of two components of one name, the first
 first_component : value_said (Sequence (Part (codes "a") (Integer [] []) true None
-    (Part (codes "a") Boolean true None NoParts))) (InBraces (AndText (codes "a") (literal 0 (codes "TRUE")) NoTexts)) ≡ None
+    (Part (codes "a") Boolean true None NoParts)))
+    (InBraces (AndText (codes "a") (literal 0 (codes "TRUE")) NoTexts)) ≡ None
 first_component = refl
 
-any_order : value_said (SetType (Part (codes "a") (Integer [] []) false None (Part (codes "b") Boolean false None NoParts)))
+any_order : value_said (SetType
+    (Part (codes "a") (Integer [] []) false None (Part (codes "b") Boolean false None NoParts)))
     (InBraces (AndText (codes "b") (literal 0 (codes "FALSE")) (AndText (codes "a") (number (codes "1")) NoTexts)))
     ≡ Some (Parts (Filled (Int (pos 1)) (Filled (Truth false) NoSlots)))
 any_order = refl
@@ -113,7 +118,8 @@ empty_and : value_said Filter (Chosen (codes "and") (InBraces NoTexts)) ≡ Some
 unfolding identifier_octets length_octets integer_contents subidentifier identifier_of length_at front_of
 empty_and = refl
 
-present : value_said Filter (Chosen (codes "item") (Chosen (codes "present") (Chosen (codes "localForm") (number (codes "5")))))
+present : value_said Filter
+    (Chosen (codes "item") (Chosen (codes "present") (Chosen (codes "localForm") (number (codes "5")))))
     ≡ Some (Raw (168 ∷ 5 ∷ 164 ∷ 3 ∷ 129 ∷ 1 ∷ 5 ∷ []))
 unfolding identifier_octets length_octets integer_contents subidentifier identifier_of length_at front_of
 present = refl

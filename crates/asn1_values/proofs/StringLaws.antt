@@ -1,12 +1,14 @@
 -- Strings as they are read.
-use Rattle.std.proofs.Common.{◌≡◌, ℕ, Bool, true, false, cond, List, [], ◌∷◌, ◌++◌, ◌+◌, ◌<◌, length, get_or, drop, arith, refl, ap, sym, ◌∙◌, append_assoc, Option, None, Some}
+use Rattle.std.proofs.Common.{◌≡◌, ℕ, Bool, true, false, cond, List, [], ◌∷◌, ◌++◌, ◌+◌, ◌<◌, length, get_or, drop}
+use Rattle.std.proofs.Common.{arith, refl, ap, sym, ◌∙◌, append_assoc, Option, None, Some}
 use Rattle.std.proofs.lemmas.Bool.Decides.{nat_tests}
 use Rattle.std.proofs.lemmas.List.{drop_more}
 use Rattle.std.specs.Prelude.{◌≢◌, ◌==◌, option_map}
 use Rattle.asn1_values.specs.Literals.{undoubled}
 
 one_more : (before : List ℕ) (x : ℕ) (rest : Option (List ℕ))
-    → option_map (λ xs. before ++ xs) (option_map (λ xs. x ∷ xs) rest) ≡ option_map (λ xs. (before ++ x ∷ []) ++ xs) rest
+    → option_map (λ xs. before ++ xs) (option_map (λ xs. x ∷ xs) rest) ≡ option_map
+    (λ xs. (before ++ x ∷ []) ++ xs) rest
 one_more before x None = refl
 one_more before x (Some xs) = ap Some (sym (append_assoc before (x ∷ []) xs))
 

@@ -1,5 +1,6 @@
 -- One component of a SET more has been read.
-use Rattle.std.proofs.Common.{◌≡◌, ◌≤◌, ◌<◌, ◌+◌, ℕ, zero, suc, Bool, true, false, cond, not, length, drop, get_or, set, replicate, arith, List, [], ◌∷◌, ◌++◌, Option, None, Some, refl, ap, sym, ◌∙◌}
+use Rattle.std.proofs.Common.{◌≡◌, ◌≤◌, ◌<◌, ◌+◌, ℕ, zero, suc, Bool, true, false, cond, not, length, drop, get_or, set}
+use Rattle.std.proofs.Common.{replicate, arith, List, [], ◌∷◌, ◌++◌, Option, None, Some, refl, ap, sym, ◌∙◌}
 use Rattle.std.specs.Prelude.{◌&&◌, option_map, option_and_then}
 use Rattle.ber_values.proofs.DecodingLaws.{slot_read, left_out_is, nothing_left_out}
 use Rattle.ber_values.specs.Left.{slot_left_out, slot_before, slots_before}

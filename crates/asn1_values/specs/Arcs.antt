@@ -1,5 +1,6 @@
 -- Arcs: the object identifier that a text says (X.680, section 32; X.660, annex A).
-use Rattle.std.specs.Prelude.{ℕ, List, [], ◌∷◌, Bool, false, ◌&&◌, ◌||◌, Option, None, Some, codes, option_map, option_and_then, if◌then◌else◌}
+use Rattle.std.specs.Prelude.{ℕ, List, [], ◌∷◌, Bool, false, ◌&&◌, ◌||◌, Option, None, Some, codes, option_map}
+use Rattle.std.specs.Prelude.{option_and_then, if◌then◌else◌}
 use Rattle.std.specs.List.{list_all}
 use Rattle.term_values.specs.Oid.{is_oid, is_arc}
 use Rattle.asn1_values.specs.Literals.{numeral, same_name}

@@ -1,5 +1,6 @@
 -- Bits: which bits `'..'H` and `'..'B` stand for, and bits as octets (X.680, sections 12.10, 12.12 and 22.10 to 23.5).
-use Rattle.std.specs.Prelude.{ℕ, zero, suc, ◌+◌, ◌-◌, ◌/◌, ◌%◌, List, [], ◌∷◌, ◌++◌, Bool, true, false, ◌==◌, nat_lt, length, Option, None, Some, option_map, if◌then◌else◌}
+use Rattle.std.specs.Prelude.{ℕ, zero, suc, ◌+◌, ◌-◌, ◌/◌, ◌%◌, List, [], ◌∷◌, ◌++◌, Bool, true, false, ◌==◌, nat_lt}
+use Rattle.std.specs.Prelude.{length, Option, None, Some, option_map, if◌then◌else◌}
 use Rattle.token_grammar.specs.Kinds.{hexadecimal_kind, binary_kind}
 use Rattle.token_grammar.specs.declared.token.Token.{Token}
 

@@ -1,5 +1,6 @@
 -- Denoted: which value of a type a text denotes (X.680, sections 18 to 46; X.208, sections 20 to 28).
-use Rattle.std.specs.Prelude.{ℕ, zero, ◌+◌, List, [], ◌∷◌, ◌++◌, Bool, true, false, ◌&&◌, ◌||◌, not, Option, None, Some, option_map, option_and_then, if◌then◌else◌}
+use Rattle.std.specs.Prelude.{ℕ, zero, ◌+◌, List, [], ◌∷◌, ◌++◌, Bool, true, false, ◌&&◌, ◌||◌, not, Option, None, Some}
+use Rattle.std.specs.Prelude.{option_map, option_and_then, if◌then◌else◌}
 use Rattle.std.specs.List.{list_any}
 use Rattle.term_values.specs.Decoding.{left_out, rising_by, sized_members}
 use Rattle.term_values.specs.Syntaxes.{TypeSyntax, TypeParts}
@@ -13,7 +14,8 @@ use Rattle.term_values.specs.Typed.TypedValue.{Parts, Many, Pick}
 use Rattle.term_values.specs.Typed.TypedSlots.{NoSlots, Filled}
 use Rattle.term_values.specs.Typed.TypedValues.{Nothing, Then}
 use Rattle.term_values.specs.Written.{der}
-use Rattle.asn1_values.specs.LeafTexts.{truth_said, whole_said, enumerated_said, bit_string_said, octet_string_said, null_said, identifier_said, text_said, time_said, any_said}
+use Rattle.asn1_values.specs.LeafTexts.{truth_said, whole_said, enumerated_said, bit_string_said, octet_string_said}
+use Rattle.asn1_values.specs.LeafTexts.{null_said, identifier_said, text_said, time_said, any_said}
 use Rattle.asn1_values.specs.Literals.{same_name}
 use Rattle.asn1_values.specs.TextValues.{TextValue, TextParts, parts_of}
 use Rattle.asn1_values.specs.TextValues.TextValue.{Chosen}
@@ -63,8 +65,10 @@ abbrev mutual
   denoted filter ObjectIdentifier text = identifier_said text
   denoted filter (TextString charset sizes) text = text_said charset sizes text
   denoted filter GeneralizedTime text = time_said text
-  denoted filter (Sequence parts) text = option_map Parts (option_and_then (components_said filter [] parts) (parts_of text))
-  denoted filter (SetType parts) text = option_map Parts (option_and_then (unordered_said filter [] parts) (parts_of text))
+  denoted filter (Sequence parts) text =
+      option_map Parts (option_and_then (components_said filter [] parts) (parts_of text))
+  denoted filter (SetType parts) text =
+      option_map Parts (option_and_then (unordered_said filter [] parts) (parts_of text))
   denoted filter (SequenceOf member sizes) text =
       option_and_then (sized_members sizes) (option_and_then (members_said (denoted filter member)) (parts_of text))
   denoted filter (SetOf member sizes) text = option_and_then (sized_members sizes)
@@ -99,6 +103,7 @@ abbrev mutual
   unordered_said filter before NoParts (AndText own text others) = None
   unordered_said filter before (Part name syntax optional default rest) texts =
       where_taken (only_where (is_meant name before) (taken_out name texts))
-      (λ text others. option_and_then (λ v. option_map (Filled v) (unordered_said filter (before ++ name ∷ []) rest others))
+      (λ text others. option_and_then
+      (λ v. option_map (Filled v) (unordered_said filter (before ++ name ∷ []) rest others))
       (denoted filter syntax text))
       (left_out optional default (unordered_said filter (before ++ name ∷ []) rest texts))

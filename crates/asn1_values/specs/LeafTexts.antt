@@ -1,6 +1,7 @@
 -- LeafTexts: the values of types that hold no others, and the texts that denote them (X.680, sections 18 to 24, 32, 41
 -- and 46; X.208, section 27, for ANY).
-use Rattle.std.specs.Prelude.{ℕ, zero, suc, ◌%◌, ◌+◌, List, [], ◌∷◌, Bool, true, false, ◌==◌, ◌&&◌, ℤ, pos, negsuc, Option, None, Some, codes, length, map, option_map, option_and_then, if◌then◌else◌}
+use Rattle.std.specs.Prelude.{ℕ, zero, suc, ◌%◌, ◌+◌, List, [], ◌∷◌, Bool, true, false, ◌==◌, ◌&&◌, ℤ, pos, negsuc}
+use Rattle.std.specs.Prelude.{Option, None, Some, codes, length, map, option_map, option_and_then, if◌then◌else◌}
 use Rattle.std.specs.List.{list_all, list_any}
 use Rattle.term_values.specs.BerReading.{tree_at, alone}
 use Rattle.term_values.specs.Bounded.{allowed, allowed_size, bit_count, has_character}

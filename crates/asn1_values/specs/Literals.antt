@@ -1,5 +1,6 @@
 -- Literals: the numbers and strings that tokens stand for (X.680, sections 12.8, 12.14 and 19.1).
-use Rattle.std.specs.Prelude.{ℕ, zero, suc, ◌^◌, List, [], ◌∷◌, Bool, true, false, ◌==◌, ◌&&◌, nat_lt, nat_le, int_le, int_lt, ℤ, pos, negsuc, Option, None, Some, option_map, option_and_then, if◌then◌else◌}
+use Rattle.std.specs.Prelude.{ℕ, zero, suc, ◌^◌, List, [], ◌∷◌, Bool, true, false, ◌==◌, ◌&&◌, nat_lt, nat_le, int_le}
+use Rattle.std.specs.Prelude.{int_lt, ℤ, pos, negsuc, Option, None, Some, option_map, option_and_then, if◌then◌else◌}
 use Rattle.std.specs.Cmp.Lexicographic.{pointwise}
 use Rattle.std.specs.List.{list_all}
 use Rattle.std.specs.Str.Parse.{digits_value}

@@ -7,7 +7,8 @@ use Rattle.token_grammar.specs.declared.token.Token.{Token}
 use Rattle.asn1_values_syntax.specs.declared.arcs.SureArcs.{SureArcs}
 use Rattle.asn1_values_syntax.specs.declared.arcs.SureArcs.TheVariants.{Number as FirstNumber, Named as FirstNamed}
 use Rattle.asn1_values_syntax.specs.declared.value.ValueText.{ValueText}
-use Rattle.asn1_values_syntax.specs.declared.value.ValueText.TheVariants.{Literal as TLiteral, Number as TNumber, Named as TNamed, Braces as TBraces}
+use Rattle.asn1_values_syntax.specs.declared.value.ValueText.TheVariants.{Literal as TLiteral, Number as TNumber}
+use Rattle.asn1_values_syntax.specs.declared.value.ValueText.TheVariants.{Named as TNamed, Braces as TBraces}
 use Rattle.asn1_values_syntax.specs.declared.value.NamedValue.{NamedValue}
 use Rattle.asn1_values_syntax.specs.declared.value.NamedValue.TheVariants.{Name as NName, Choice'}
 use Rattle.asn1_values_syntax.specs.declared.value.BracesText.{BracesText}

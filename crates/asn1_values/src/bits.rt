@@ -1,7 +1,8 @@
 //! Bits in digits, and bits as octets (X.680, sections 12.10, 12.12 and 22).
 
 ghost use Rattle.std.specs.Prelude.{◌≡◌, IfOk, OnOk, length, ◌≤◌};
-ghost use Rattle.asn1_values.specs.Bits.{digit_number, hexadecimal_bits, binary_bits, behind_first, bits_of, weighed, packed, filled};
+ghost use Rattle.asn1_values.specs.Bits.{digit_number, hexadecimal_bits, binary_bits, behind_first, bits_of, weighed};
+ghost use Rattle.asn1_values.specs.Bits.{packed, filled};
 ghost use Rattle.asn1_values.specs.LeafTexts.{with_bit};
 
 use std::alloc::{AllocError, Global};

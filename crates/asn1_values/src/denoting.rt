@@ -1,14 +1,16 @@
 //! The value of a syntax that a text denotes (X.680, sections 18 to 46; X.208, sections 20 to 28).
 
 ghost use Rattle.std.specs.List.{list_any};
-ghost use Rattle.std.specs.Prelude.{◌≡◌, ◌<◌, true, not, zero, [], IfOk, IfSome, IfNone, None, Some, Option, length, drop, get_or, set as list_set, option_map, option_and_then};
+ghost use Rattle.std.specs.Prelude.{◌≡◌, ◌<◌, true, not, zero, [], IfOk, IfSome, IfNone, None, Some, Option, length};
+ghost use Rattle.std.specs.Prelude.{drop, get_or, set as list_set, option_map, option_and_then};
 ghost use Rattle.ber_values.specs.Left.{slot_left_out};
 ghost use Rattle.term_values.specs.Decoding.{sized_members, rising_by};
 ghost use Rattle.term_values.specs.Typed.{TypedValue};
 ghost use Rattle.term_values.specs.Typed.TypedValue.{Parts as PartsValue};
 ghost use Rattle.term_values.specs.Written.{der};
 ghost use Rattle.asn1_values_syntax.specs.declared.value.ValuePart.{ValuePart};
-ghost use Rattle.asn1_values.specs.Denoted.{denoted, is_meant, members_said, taken_out, chosen_by, picked_said, components_said, unordered_said};
+ghost use Rattle.asn1_values.specs.Denoted.{denoted, is_meant, members_said, taken_out, chosen_by, picked_said};
+ghost use Rattle.asn1_values.specs.Denoted.{components_said, unordered_said};
 ghost use Rattle.asn1_values.specs.Literals.{same_name};
 ghost use Rattle.asn1_values.specs.Steps.{part_names, next_comes, left_of, no_texts, next_slot};
 ghost use Rattle.asn1_values.specs.TextValues.{TextValue, said, said_value, parts_of, parts_said};

@@ -1,7 +1,8 @@
 //! The syntaxes of a CMISFilter (X.711, section 7.5; docs/PROFILE.md).
 
 ghost use Rattle.std.specs.Prelude.{◌≡◌, IfOk};
-ghost use Rattle.term_values.specs.CmipTypes.{attribute, attribute_id, piece, substrings, filter_item, filter_choice, one, implicit, set_of};
+ghost use Rattle.term_values.specs.CmipTypes.{attribute, attribute_id, piece, substrings, filter_item, filter_choice};
+ghost use Rattle.term_values.specs.CmipTypes.{one, implicit, set_of};
 ghost use Rattle.term_values.specs.PartsView.{parts_listed};
 ghost use Rattle.term_values.specs.Syntaxes.TypeSyntax.{Any, Choice, Filter, Sequence, Tagged};
 ghost use Rattle.term_values.specs.Syntaxes.TypeParts.{NoParts};

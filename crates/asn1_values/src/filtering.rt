@@ -4,7 +4,8 @@ ghost use Rattle.std.specs.Prelude.{◌≡◌, IfOk, Some, option_map};
 ghost use Rattle.term_values.specs.CmipTypes.{filter_choice};
 ghost use Rattle.term_values.specs.Typed.TypedValue.{Pick, Raw};
 ghost use Rattle.term_values.specs.Written.{der};
-ghost use Rattle.asn1_values.specs.Filters.{no_filter, item_said, alternative, rising_filters, where_unnamed, filter_said, filters_said, each_said};
+ghost use Rattle.asn1_values.specs.Filters.{no_filter, item_said, alternative, rising_filters, where_unnamed};
+ghost use Rattle.asn1_values.specs.Filters.{filter_said, filters_said, each_said};
 ghost use Rattle.asn1_values.specs.TextValues.{said, said_name, said_value, parts_said};
 
 use super::denoting::{FilterReading, denote};

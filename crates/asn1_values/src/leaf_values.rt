@@ -1,7 +1,10 @@
 //! Values of types that hold no others (X.680, sections 18 to 24, 32, 41 and 46).
 
 ghost use Rattle.std.specs.Prelude.{◌≡◌, [], IfOk, Option, option_map, option_and_then};
-ghost use Rattle.asn1_values.specs.LeafTexts.{truth_said, null_said, number_of, whole_said, enumerated_said, literal_bits, bit_of, bit_numbers, bits_named, bits_said, bit_string, bit_string_said, octet_string_said, identifier_said, string_said, text_said, time_said};
+ghost use Rattle.asn1_values.specs.LeafTexts.{truth_said, null_said, number_of, whole_said, enumerated_said};
+ghost use Rattle.asn1_values.specs.LeafTexts.{literal_bits, bit_of, bit_numbers, bits_named, bits_said, bit_string};
+ghost use Rattle.asn1_values.specs.LeafTexts.{bit_string_said, octet_string_said, identifier_said, string_said};
+ghost use Rattle.asn1_values.specs.LeafTexts.{text_said, time_said};
 ghost use Rattle.asn1_values.specs.TextValues.{said, said_name, said_value, parts_of, parts_said};
 
 use super::arcs::read_arcs;

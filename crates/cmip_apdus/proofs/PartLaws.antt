@@ -28,7 +28,8 @@ not_alone : (tree : TreeValue) (rest : List ℕ) → 0 < length rest → None �
 not_alone tree [] some = absurd (omega arith)
 not_alone tree (octet ∷ rest) some = refl
 
-pub leftover : (bytes : List ℕ) (tree : TreeValue) (size : ℕ) → tree_at most_depth bytes ≡ Some (tree, drop size bytes) → size ≤ length bytes → (size ≡ length bytes → ⊥) →
+pub leftover : (bytes : List ℕ) (tree : TreeValue) (size : ℕ) → tree_at most_depth bytes ≡ Some (tree, drop size bytes)
+    → size ≤ length bytes → (size ≡ length bytes → ⊥) →
     None ≡ tree_in bytes
 leftover bytes tree size read within short =
     let some : 0 < length (drop size bytes) = omega (arith, length-drop size bytes, short) in

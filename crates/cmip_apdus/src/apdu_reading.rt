@@ -7,8 +7,10 @@ ghost use Rattle.term_values.specs.Der.{written};
 ghost use Rattle.term_values.specs.Oid.{oid_in};
 ghost use Rattle.term_values.specs.Tree.{listed};
 ghost use Rattle.term_model.specs.Bind.{title_in, title_of};
-ghost use Rattle.term_model.specs.GetRequest.{invocation_by, invocation_in, assertion_of, get_of, instance_of, rdn_of, rdns_of};
-ghost use Rattle.term_model.specs.Parts.{contents_under, inside_under, integer_under, oid_under, one, one_under, three, three_under, two, two_under};
+ghost use Rattle.term_model.specs.GetRequest.{invocation_by, invocation_in, assertion_of, get_of, instance_of, rdn_of};
+ghost use Rattle.term_model.specs.GetRequest.{rdns_of};
+ghost use Rattle.term_model.specs.Parts.{contents_under, inside_under, integer_under, oid_under, one, one_under, three};
+ghost use Rattle.term_model.specs.Parts.{three_under, two, two_under};
 ghost use Rattle.term_model.specs.RemoteOperation.{id_of, invoke_of};
 
 use ber_tree::tree_reading::{read_front_tree, read_integer_contents, read_oid_contents};
@@ -288,7 +290,8 @@ fn invoked(alloc: Global, apdu: &Tree) -> Result<Option<Invocation>, AllocError>
     }
 }
 
-/// The invocation that an APDU brings, a request with its invoke id; none where it is no invoke of m-Get in the form of X.711.
+/// The invocation that an APDU brings, a request with its invoke id; none where it is no invoke of m-Get in the form of
+/// X.711.
 pub fn invocation_in(alloc: Global, apdu: &[u8]) -> Result<Option<Invocation>, AllocError>
     ensures { IfOk result (λ invocation. invocation ≡ invocation_in apdu.now) }
 {

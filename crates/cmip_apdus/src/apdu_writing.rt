@@ -1,13 +1,15 @@
-//! Writes APDUs in their frames: X.229, section 9, and the BIND with its answer. Each is written with its last octet first,
-//! so that the length of each part is known when its header is written.
+//! Writes APDUs in their frames: X.229, section 9, and the BIND with its answer. Each is written with its last octet
+//! first, so that the length of each part is known when its header is written.
 #![tactic(auto, using(ber_tree::proofs::Extending::extending))]
 
-ghost use Rattle.std.specs.Prelude.{◌≡◌, ◌++◌, ◌+◌, ◌^◌, ◌<◌, ◌≤◌, ℕ, List, length, false, pos, true, IfOk, OnErr, OnOk, reverse};
+ghost use Rattle.std.specs.Prelude.{◌≡◌, ◌++◌, ◌+◌, ◌^◌, ◌<◌, ◌≤◌, ℕ, List, length, false, pos, true, IfOk, OnErr};
+ghost use Rattle.std.specs.Prelude.{OnOk, reverse};
 ghost use Rattle.ber_tree.specs.Writing.{Extends};
 ghost use Rattle.term_model.specs.Bind.{bind, bind_answer};
 ghost use Rattle.term_model.specs.GetRequest.{class_octets, get_apdu, instance_octets};
 ghost use Rattle.term_model.specs.Operation.{own_after, own_behind, reply_frame, sent_parameter};
-ghost use Rattle.term_model.specs.RemoteOperation.{empty_result_apdu, error_apdu, frame, integer, linked_apdu, result_apdu};
+ghost use Rattle.term_model.specs.RemoteOperation.{empty_result_apdu, error_apdu, frame, integer, linked_apdu};
+ghost use Rattle.term_model.specs.RemoteOperation.{result_apdu};
 ghost use Rattle.term_values.specs.Der.{encoded};
 ghost use Rattle.term_values.specs.Octets.{octets};
 ghost use Rattle.term_values.specs.Tag.{universal};
@@ -68,7 +70,8 @@ pub fn write_frame(apdu: &[u8], into: &mut Vec<u8>) -> Result<(), AllocError>
 fn close_value(tag: Tag, start: usize, into: &mut Vec<u8>) -> Result<(), AllocError>
     requires { start ≤ length into.old.items }
     ensures written { OnOk result ((before contents : List ℕ) → start ≡ length before
-        → into.old.items ≡ before ++ reverse contents → into.new.items ≡ before ++ reverse (encoded true tag contents)) }
+        → into.old.items ≡ before ++ reverse contents → into.new.items ≡ before
+        ++ reverse (encoded true tag contents)) }
     ensures begun { Extends into.old.items into.new.items }
 {
     let size = into.as_slice().len() - start;
@@ -244,8 +247,8 @@ fn write_frame_backwards(
     }
 }
 
-/// Appends the frame of a reply to an invoke of an operation; a linked reply takes this own invoke id. After want of memory
-/// `into` is as it was.
+/// Appends the frame of a reply to an invoke of an operation; a linked reply takes this own invoke id. After want of
+/// memory `into` is as it was.
 pub fn write_reply_frame(
     invoke: i64,
     operation: i64,

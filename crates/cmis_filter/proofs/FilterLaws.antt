@@ -1,7 +1,8 @@
 -- The test of a filter tells whether it is true.
 use Rattle.std.proofs.Common.{◌≡◌, ◌↔◌, Bool, true, List, Option, None, Some, Result, Ok, Err, IfOk, IsTrue}
 use Rattle.std.proofs.Common.{refl, sym, ◌∙◌, ⊎_elim, inl, inr}
-use Rattle.std.proofs.lemmas.Bool.{and_from, and_parts, both_ways, false_from_ne_true, false≢true, not-true, not_from_false}
+use Rattle.std.proofs.lemmas.Bool.{and_from, and_parts, both_ways, false_from_ne_true, false≢true, not-true}
+use Rattle.std.proofs.lemmas.Bool.{not_from_false}
 use Rattle.std.proofs.lemmas.Bool.{or_cases, or_left, or_right}
 use Rattle.term_values.specs.MatchingKinds.MatchingRule.{Equality, Ordering, Substrings, Comparison, Intersection}
 use Rattle.term_values.specs.Typed.{TypedValue}
@@ -32,7 +33,8 @@ is_met test Met law (Some x) None h = absurd h
 is_met test Met law None (Some y) h = absurd h
 is_met test Met law None None h = absurd h
 
-item_is : (records : List AttrRec) (attributes : List Attribute) (item : Item) → is_true_item records attributes item ≡ true
+item_is : (records : List AttrRec) (attributes : List Attribute) (item : Item)
+    → is_true_item records attributes item ≡ true
     → IsTrueItem records attributes item
 item_is records attributes (items.Equality given) e = meet_is _ _ (match_is Equality) given.value _ e
 item_is records attributes (items.Substrings pieces value) e = meet_is _ _ (match_is Substrings) value _ e
@@ -103,7 +105,8 @@ mutual
       h
 
 -- what was computed for a filter says whether it is true
-pub computed : {E : Type 0} (records : List AttrRec) (attributes : List Attribute) (tree : FilterTree) (r : Result Bool E)
+pub computed : {E : Type 0} (records : List AttrRec) (attributes : List Attribute) (tree : FilterTree)
+    (r : Result Bool E)
     → IfOk r (λ holds. holds ≡ is_true_of records attributes tree)
     → IfOk r (λ holds. IsTrue holds ↔ IsTrueOf records attributes tree)
 computed records attributes tree (Ok b) e =

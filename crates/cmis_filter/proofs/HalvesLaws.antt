@@ -1,5 +1,6 @@
 -- Looking for an attribute by halves.
-use Rattle.std.proofs.Common.{◌≡◌, ◌+◌, ◌-◌, ◌<◌, ◌≤◌, ℕ, zero, suc, Bool, true, false, List, [], ◌∷◌, Option, None, Some, drop, get_or, length, take, refl, sym, ap, ◌∙◌, arith, subst, length-drop}
+use Rattle.std.proofs.Common.{◌≡◌, ◌+◌, ◌-◌, ◌<◌, ◌≤◌, ℕ, zero, suc, Bool, true, false, List, [], ◌∷◌, Option, None}
+use Rattle.std.proofs.Common.{Some, drop, get_or, length, take, refl, sym, ap, ◌∙◌, arith, subst, length-drop}
 use Rattle.std.specs.Cmp.Lexicographic.{nat_list_cmp_total, slice_cmp, texts_ties}
 use Rattle.std.specs.List.{AllByRecursion}
 use Rattle.std.specs.List.Sorted.{IsStrictlySortedBy}
@@ -29,10 +30,12 @@ same_by a b o e = texts_ties a b ∙ ap is_eq e
 turned : (a b : List ℕ) (o : Ordering) → order a b ≡ o → order b a ≡ ordering_reverse o
 turned a b o e = nat_list_cmp_total.antisymm b a ∙ ap ordering_reverse e
 
-value_here : (x : Attribute) (xs : List Attribute) (id : List ℕ) → is_same_oid x.id id ≡ true → value_in (x ∷ xs) id ≡ Some x.value
+value_here : (x : Attribute) (xs : List Attribute) (id : List ℕ) → is_same_oid x.id id ≡ true
+    → value_in (x ∷ xs) id ≡ Some x.value
 value_here x xs id e = rw e refl
 
-value_later : (x : Attribute) (xs : List Attribute) (id : List ℕ) → is_same_oid x.id id ≡ false → value_in (x ∷ xs) id ≡ value_in xs id
+value_later : (x : Attribute) (xs : List Attribute) (id : List ℕ) → is_same_oid x.id id ≡ false
+    → value_in (x ∷ xs) id ≡ value_in xs id
 value_later x xs id e = rw e refl
 
 all_further : (id other : List ℕ) (attributes : List Attribute) → order id other ≡ Less → AllBehind other attributes
@@ -68,7 +71,8 @@ rising_drop zero xs h = h
 rising_drop (suc n) [] h = h
 rising_drop (suc n) (x ∷ xs) h = rising_drop n xs h.1
 
-all_take : (id : List ℕ) (n : ℕ) (attributes : List Attribute) → AllBehind id attributes → AllBehind id (take n attributes)
+all_take : (id : List ℕ) (n : ℕ) (attributes : List Attribute) → AllBehind id attributes
+    → AllBehind id (take n attributes)
 all_take id zero xs h = tt
 all_take id (suc n) [] h = tt
 all_take id (suc n) (x ∷ xs) h = (h.0, all_take id n xs h.1)
@@ -80,7 +84,8 @@ rising_take (suc n) [] h = tt
 rising_take (suc n) (x ∷ xs) h = (all_take x.id n xs h.0, rising_take n xs h.1)
 
 -- the one at a place stands behind the first, where all others do
-behind_at : (id : List ℕ) (attributes : List Attribute) (n : ℕ) (d : Attribute) → AllBehind id attributes → n < length attributes
+behind_at : (id : List ℕ) (attributes : List Attribute) (n : ℕ) (d : Attribute) → AllBehind id attributes
+    → n < length attributes
     → order id (get_or attributes n d).id ≡ Less
 behind_at id [] n d h within = absurd (omega arith)
 behind_at id (x ∷ xs) zero d h within = h.0
@@ -122,7 +127,8 @@ before_place [] id n d h within high = absurd (omega arith)
 before_place (x ∷ xs) id zero d h within high =
     let low = turned x.id id Greater high in
     none_behind id (x ∷ xs) (low, all_further id x.id xs low h.0)
-before_place (x ∷ xs) id (suc n) d h within high = by (before_place xs id n d h.1 (omega arith) high) (is_same_oid x.id id) refl
+before_place (x ∷ xs) id (suc n) d h within high =
+    by (before_place xs id n d h.1 (omega arith) high) (is_same_oid x.id id) refl
   where
     by : value_in xs id ≡ value_in (take n xs) id → (b : Bool) → is_same_oid x.id id ≡ b
         → value_in (x ∷ xs) id ≡ value_in (x ∷ take n xs) id

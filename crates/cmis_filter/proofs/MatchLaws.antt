@@ -1,6 +1,7 @@
 -- The tests of the matching rules tell what the rules say.
 use Rattle.std.proofs.Common.{◌≡◌, ◌↔◌, ◌+◌, ◌-◌, ◌<◌, ◌≤◌, ℕ, Bool, true, false, List, Option, Some}
-use Rattle.std.proofs.Common.{length, refl, sym, ap, ◌∙◌, subst, arith, ⊎_elim, inl, inr, IsTrue, unwrap_or, IfOk, Result, Ok, Err}
+use Rattle.std.proofs.Common.{length, refl, sym, ap, ◌∙◌, subst, arith, ⊎_elim, inl, inr, IsTrue, unwrap_or, IfOk}
+use Rattle.std.proofs.Common.{Result, Ok, Err}
 use Rattle.std.proofs.lemmas.Bool.{and_from, and_parts, cases_Bool, false≢true, or_cases, or_left, or_right}
 use Rattle.term_values.specs.Matching.{AreHeld, Have, HaveCommon, Matches}
 use Rattle.term_values.specs.MatchingKinds.{MatchingRule}
@@ -66,7 +67,8 @@ is_common (Then x xs) held h =
 
 -- what is a piece, and only that, is taken for one
 record IsPieces (form : List ℕ → TypedValue) (piece : TypedValue → Option (ℕ × List ℕ)) : Type 0 where
-  pub sound : (value : TypedValue) (kind : ℕ) (octets : List ℕ) → piece value ≡ Some (kind, octets) → value ≡ Pick kind (form octets)
+  pub sound : (value : TypedValue) (kind : ℕ) (octets : List ℕ) → piece value ≡ Some (kind, octets)
+      → value ≡ Pick kind (form octets)
   pub complete : (kind : ℕ) (octets : List ℕ) → piece (Pick kind (form octets)) ≡ Some (kind, octets)
 
 stand_is : (form : List ℕ → TypedValue) (piece : TypedValue → Option (ℕ × List ℕ)) → IsPieces form piece
@@ -139,7 +141,8 @@ of_text = record { sound = text_is; complete = λ kind octets. refl }
 of_octets : IsPieces Octets octets_piece
 of_octets = record { sound = octets_are; complete = λ kind octets. refl }
 
-pub match_is : (rule : MatchingRule) (asserted held : TypedValue) → do_match rule asserted held ≡ true → Matches rule asserted held
+pub match_is : (rule : MatchingRule) (asserted held : TypedValue) → do_match rule asserted held ≡ true
+    → Matches rule asserted held
 match_is Equality asserted held e = are_equal asserted held e
 match_is Ordering asserted held e = e
 match_is Substrings (Many pieces) (Text text) e = stand_is Text text_piece of_text text 0 pieces e
@@ -148,7 +151,8 @@ match_is Comparison (Many asserted) (Many held) e = held_is asserted held e
 match_is Intersection (Many asserted) (Many held) e = common_is asserted held e
 match_is _ asserted held e = false≢true e
 
-pub is_match : (rule : MatchingRule) (asserted held : TypedValue) → Matches rule asserted held → do_match rule asserted held ≡ true
+pub is_match : (rule : MatchingRule) (asserted held : TypedValue) → Matches rule asserted held
+    → do_match rule asserted held ≡ true
 is_match Equality asserted held h = equal_same asserted held h
 is_match Ordering asserted held h = h
 is_match Substrings (Many pieces) (Text text) h = is_standing Text text_piece of_text text 0 pieces h
@@ -168,6 +172,7 @@ told rule asserted held false h =
     (cases_Bool (do_match rule asserted held))
 
 pub ok_told : {E : Type 0} (rule : MatchingRule) (asserted held : TypedValue) (r : Result Bool E)
-    → IfOk r (λ holds. IsTrue holds ↔ Matches rule asserted held) → IfOk r (λ holds. holds ≡ do_match rule asserted held)
+    → IfOk r (λ holds. IsTrue holds ↔ Matches rule asserted held)
+    → IfOk r (λ holds. holds ≡ do_match rule asserted held)
 ok_told rule asserted held (Ok b) h = told rule asserted held b h
 ok_told rule asserted held (Err e) h = tt

@@ -1,6 +1,7 @@
 -- Tests over numbers in a row and over optional values, and where octets stand in a text.
 use Rattle.std.proofs.Common.{◌≡◌, ◌+◌, ◌<◌, ◌≤◌, ℕ, zero, suc, Bool, true, false, List, ◌++◌, Option, None, Some}
-use Rattle.std.proofs.Common.{◌⊎◌, drop, length, take, refl, sym, ap, ◌∙◌, subst, arith, ⊎_elim, inl, inr, length-append}
+use Rattle.std.proofs.Common.{◌⊎◌, drop, length, take, refl, sym, ap, ◌∙◌, subst, arith, ⊎_elim, inl, inr}
+use Rattle.std.proofs.Common.{length-append}
 use Rattle.std.specs.List.{list_any, range_with_len}
 use Rattle.std.specs.Option.{option_map_or}
 use Rattle.std.proofs.lemmas.Bool.{cases_order, eq-eqb, eqb-true, false≢true, or_cases, or_left, or_right}
@@ -61,7 +62,8 @@ stands_at text place octets within e =
       length-take-le place text within,
     )
 
-pub at_stands : (text : List ℕ) (place : ℕ) (octets : List ℕ) → StandAt text place octets → stand_at text place octets ≡ true
+pub at_stands : (text : List ℕ) (place : ℕ) (octets : List ℕ) → StandAt text place octets
+    → stand_at text place octets ≡ true
 at_stands text place octets h =
     let before = h.0 in
     let after = h.1 in

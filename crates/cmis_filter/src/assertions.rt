@@ -21,7 +21,8 @@ fn assertion_of_known(
     asserted: &Value,
     held: Option<&Value>,
 ) -> Result<bool, InvalidFilter>
-    ensures truth { IfOk result (λ holds. holds ≡ do_meet (do_compare comparison) (Some asserted.now) (option_copied held.entry)) }
+    ensures truth { IfOk result
+        (λ holds. holds ≡ do_meet (do_compare comparison) (Some asserted.now) (option_copied held.entry)) }
     ensures valid { is_ok result ≡ can_match (rule_of comparison) known.now.rules known.now.syntax }
 {
     match held {

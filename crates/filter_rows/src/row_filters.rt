@@ -1,5 +1,5 @@
-//! The filters that rows have: words with one space between two, each an item or `not`, `and:N` or `or:N`, which take the
-//! last filter or the last N filters before them.
+//! The filters that rows have: words with one space between two, each an item or `not`, `and:N` or `or:N`, which take
+//! the last filter or the last N filters before them.
 
 use crate::row_items::item_of;
 use std::alloc::{AllocError, Global};

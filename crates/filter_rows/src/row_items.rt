@@ -1,4 +1,5 @@
-//! The items that rows name: `present:NAME`, `KIND:NAME:VALUE` and `pieces:PIECE,..` with `NAME/KIND/TEXT` for each piece.
+//! The items that rows name: `present:NAME`, `KIND:NAME:VALUE` and `pieces:PIECE,..` with `NAME/KIND/TEXT` for each
+//! piece.
 
 use crate::row_object::{
     GROUP, LABEL, LOAD, ODD, PLAIN, PORTS, SPARE, UNKNOWN, identifier, set_value,

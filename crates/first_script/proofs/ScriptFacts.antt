@@ -34,10 +34,12 @@ element = 2 ∷ 999 ∷ 3 ∷ 1 ∷ []
 -- m-Get of the root with invoke id 1
 abbrev get_root : List ℕ
 get_root =
-    0xA1 ∷ 0x10 ∷ 0x02 ∷ 0x01 ∷ 0x01 ∷ 0x02 ∷ 0x01 ∷ 0x03 ∷ 0x30 ∷ 0x08 ∷ 0x80 ∷ 0x04 ∷ 0x88 ∷ 0x37 ∷ 0x03 ∷ 0x01 ∷ 0xA4 ∷ 0x00 ∷ []
+    0xA1 ∷ 0x10 ∷ 0x02 ∷ 0x01 ∷ 0x01 ∷ 0x02 ∷ 0x01 ∷ 0x03 ∷ 0x30 ∷ 0x08 ∷ 0x80 ∷ 0x04 ∷ 0x88 ∷ 0x37 ∷ 0x03 ∷ 0x01
+    ∷ 0xA4 ∷ 0x00 ∷ []
 
 a_written_get : IsWrittenGet element get_root
-unfolding subidentifier oid_in integer_contents integer_in identifier_octets length_octets identifier_of length_at front_of
+unfolding subidentifier oid_in integer_contents integer_in identifier_octets length_octets identifier_of
+    length_at front_of
 a_written_get = record { id = pos 1; raw = 0xA4 ∷ 0x00 ∷ []; name = []; read = refl; written = refl }
 
 -- their lines may hold them
@@ -57,6 +59,7 @@ held_get = record {
   few = omega arith;
 }
 
-a_script : IsScript element (codes "open 3006060488370B01\nsend 1 A1100201010201033008800488370301A400\n") bind_octets (get_root ∷ [])
+a_script : IsScript element (codes "open 3006060488370B01\nsend 1 A1100201010201033008800488370301A400\n") bind_octets
+    (get_root ∷ [])
 unfolding encode_with
 a_script = record { spelt = refl; held = held_bind; opening = a_written_bind; each = (held_get, a_written_get, tt) }

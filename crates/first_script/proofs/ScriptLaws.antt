@@ -1,5 +1,7 @@
 -- The first form of a script: digits spell one list of octets, a text has one first line, and it is one script alone.
-use Rattle.std.proofs.Common.{◌≡◌, ℕ, suc, ◌+◌, ◌/◌, ◌%◌, ◌<◌, true, false, List, [], ◌∷◌, ◌++◌, length, take, drop, slice_index, Option, Some, None, Result, Ok, Err, refl, sym, ap, ◌∙◌, subst, append_assoc, arith, Bor, inl, inr}
+use Rattle.std.proofs.Common.{◌≡◌, ℕ, suc, ◌+◌, ◌/◌, ◌%◌, ◌<◌, true, false, List, [], ◌∷◌, ◌++◌, length, take, drop}
+use Rattle.std.proofs.Common.{slice_index, Option, Some, None, Result, Ok, Err, refl, sym, ap, ◌∙◌, subst, append_assoc}
+use Rattle.std.proofs.Common.{arith, Bor, inl, inr}
 use Rattle.std.specs.Prelude.{◌≢◌, ◌⊎◌, flat_map, nat_eq, IfSome, IfNone, MatchOption}
 use Rattle.std.specs.Cmp.Lexicographic.{other_text, pointwise, same_text}
 use Rattle.std.proofs.Math.Seq.{take-append_seam}
@@ -11,15 +13,18 @@ use Rattle.hex.specs.declared.error.FromHexError.TheVariants.{OutOfMemory}
 use Rattle.hex.proofs.HexLemmas.{IsDigits-upper_digits, decode_of-encode_upper, decode_of-same}
 use Rattle.first_script.specs.declared.script_refusal.ScriptRefusal.{ScriptRefusal}
 use Rattle.first_script.specs.declared.script_refusal.ScriptRefusal.TheVariants.{Outside}
-use Rattle.first_script.specs.ScriptForm.{IsFirstLine, IsHeld, IsOpening, IsScript, IsSending, IsSends, IsUnbroken, MaySend, OneScript, open_word, send_line, send_word}
+use Rattle.first_script.specs.ScriptForm.{IsFirstLine, IsHeld, IsOpening, IsScript, IsSending, IsSends, IsUnbroken}
+use Rattle.first_script.specs.ScriptForm.{MaySend, OneScript, open_word, send_line, send_word}
 use Rattle.term_model.specs.Texts.{line_feed}
 
 -- ---- digits
 
-pub refused : {A : Type 0} (fault : ScriptRefusal) → ◌≡◌ {A = Result A ScriptRefusal} (Err fault) (Err Outside) → fault ≡ Outside
+pub refused : {A : Type 0} (fault : ScriptRefusal) → ◌≡◌ {A = Result A ScriptRefusal} (Err fault) (Err Outside)
+    → fault ≡ Outside
 refused fault e = cc e
 
-pub undecodable : (digits octets : List ℕ) (fault : FromHexError) → (fault ≡ OutOfMemory) ⊎ (decode_of digits ≡ Err fault)
+pub undecodable : (digits octets : List ℕ) (fault : FromHexError) → (fault ≡ OutOfMemory)
+    ⊎ (decode_of digits ≡ Err fault)
     → fault ≢ OutOfMemory → digits ≡ encode_upper octets → IsHeld octets → ⊥
 undecodable digits octets fault h n e held =
     let read : decode_of digits ≡ Ok octets = ap decode_of e ∙ decode_of-encode_upper octets held.octets_all in
@@ -28,25 +33,31 @@ undecodable digits octets fault h n e held =
       | inr err ↦ cc (sym read ∙ err)
     ]
 
-pub decoded : (digits items octets : List ℕ) → decode_of digits ≡ Ok items → digits ≡ encode_upper octets → IsHeld octets → octets ≡ items
+pub decoded : (digits items octets : List ℕ) → decode_of digits ≡ Ok items → digits ≡ encode_upper octets
+    → IsHeld octets → octets ≡ items
 decoded digits items octets h e held =
     decode_of-same digits octets items (ap decode_of e ∙ decode_of-encode_upper octets held.octets_all) h
 
 pub same_octets : (a b : List ℕ) → encode_upper a ≡ encode_upper b → IsHeld a → IsHeld b → a ≡ b
 same_octets a b e ha hb =
-    decode_of-same (encode_upper a) a b (decode_of-encode_upper a ha.octets_all) (ap decode_of e ∙ decode_of-encode_upper b hb.octets_all)
+    decode_of-same (encode_upper a) a b (decode_of-encode_upper a ha.octets_all)
+    (ap decode_of e ∙ decode_of-encode_upper b hb.octets_all)
 
 pub same_behind : (word a b : List ℕ) → word ++ encode_upper a ≡ word ++ encode_upper b → IsHeld a → IsHeld b → a ≡ b
 same_behind word a b e ha hb = same_octets a b (append_cancel_left word (encode_upper a) (encode_upper b) e) ha hb
 
 -- ---- what stands behind a front
 
-other_front : (front rest line : List ℕ) → line ≡ front ++ rest → pointwise nat_eq (take (length front) line) front ≡ false → ⊥
+other_front : (front rest line : List ℕ) → line ≡ front ++ rest
+    → pointwise nat_eq (take (length front) line) front ≡ false → ⊥
 other_front front rest line e h =
-    other_text (take (length front) line) front (sym h) (ap (λ l. take (length front) l) e ∙ take-append_seam front rest)
+    other_text (take (length front) line) front (sym h) (ap (λ l. take (length front) l) e
+    ∙ take-append_seam front rest)
 
 pub stripped : (line front : List ℕ) (o : Option (Bor (List ℕ)))
-    → MatchOption o (pointwise nat_eq (take (length front) line) front ≡ false) (λ x. (pointwise nat_eq (take (length front) line) front ≡ true) × (x.now ≡ drop (length front) line) × (length x.now + length front ≡ length line))
+    → MatchOption o (pointwise nat_eq (take (length front) line) front ≡ false)
+    (λ x. (pointwise nat_eq (take (length front) line) front ≡ true) × (x.now ≡ drop (length front) line)
+    × (length x.now + length front ≡ length line))
     → IfSome o (λ rest. line ≡ front ++ rest.now)
 stripped line front (Some x) h =
     sym (take-append-drop (length front) line)
@@ -55,7 +66,9 @@ stripped line front (Some x) h =
 stripped line front None h = tt
 
 pub not_stripped : (line front : List ℕ) (o : Option (Bor (List ℕ)))
-    → MatchOption o (pointwise nat_eq (take (length front) line) front ≡ false) (λ x. (pointwise nat_eq (take (length front) line) front ≡ true) × (x.now ≡ drop (length front) line) × (length x.now + length front ≡ length line))
+    → MatchOption o (pointwise nat_eq (take (length front) line) front ≡ false)
+    (λ x. (pointwise nat_eq (take (length front) line) front ≡ true) × (x.now ≡ drop (length front) line)
+    × (length x.now + length front ≡ length line))
     → IfNone o ((rest : List ℕ) → line ≡ front ++ rest → ⊥)
 not_stripped line front (Some x) h = tt
 not_stripped line front None h = λ rest e. other_front front rest line e h
@@ -91,12 +104,28 @@ digits_unbroken (x ∷ xs) h =
     (digit_unbroken (x / 16) high, (digit_unbroken (x % 16) low, digits_unbroken xs (λ k. h (suc k))))
 
 open_unbroken : Unbroken open_word
-open_unbroken =
-    (eqb-false 111 10 refl, (eqb-false 112 10 refl, (eqb-false 101 10 refl, (eqb-false 110 10 refl, (eqb-false 32 10 refl, tt)))))
+open_unbroken = (
+  eqb-false 111 10 refl,
+  (
+    eqb-false 112 10 refl,
+    (eqb-false 101 10 refl, (eqb-false 110 10 refl, (eqb-false 32 10 refl, tt))),
+  ),
+)
 
 send_unbroken : Unbroken send_word
-send_unbroken =
-    (eqb-false 115 10 refl, (eqb-false 101 10 refl, (eqb-false 110 10 refl, (eqb-false 100 10 refl, (eqb-false 32 10 refl, (eqb-false 49 10 refl, (eqb-false 32 10 refl, tt)))))))
+send_unbroken = (
+  eqb-false 115 10 refl,
+  (
+    eqb-false 101 10 refl,
+    (
+      eqb-false 110 10 refl,
+      (
+        eqb-false 100 10 refl,
+        (eqb-false 32 10 refl, (eqb-false 49 10 refl, (eqb-false 32 10 refl, tt))),
+      ),
+    ),
+  ),
+)
 
 abbrev head_of : List ℕ → ℕ
 head_of [] = 0
@@ -156,17 +185,21 @@ sends_more class rest line others apdu sends f s h = record {
 }
 
 -- what the first line sends, and the others
-pub sends_first : (class rest line others : List ℕ) (all : List (List ℕ)) → IsFirstLine rest line others → IsSends class rest all
+pub sends_first : (class rest line others : List ℕ) (all : List (List ℕ)) → IsFirstLine rest line others
+    → IsSends class rest all
     → (apdu : List ℕ) × (more : List (List ℕ)) × IsSending class line apdu × IsSends class others more
 sends_first class rest line others [] f h = absurd (broken line others (subst Unbroken (sym h.spelt ∙ f.parts) tt))
 sends_first class rest line others (apdu ∷ more) f h =
     let e = sym f.parts ∙ (h.spelt ∙ shape send_word (encode_upper apdu) (flat_map send_line more)) in
-    let front = unbroken-append send_word (encode_upper apdu) send_unbroken (digits_unbroken apdu h.each.0.octets_all) in
-    let same = one_line line (send_word ++ encode_upper apdu) others (flat_map send_line more) (unbroken line f.unbroken) front e in
+    let front = unbroken-append send_word (encode_upper apdu) send_unbroken
+    (digits_unbroken apdu h.each.0.octets_all) in
+    let same = one_line line (send_word ++ encode_upper apdu) others (flat_map send_line more)
+    (unbroken line f.unbroken) front e in
     (apdu, more, record { spelt = same.0; held = h.each.0; is = h.each.1 }, record { spelt = same.1; each = h.each.2 })
 
 -- without a line feed there is no line
-pub sends_none : (class rest : List ℕ) (all : List (List ℕ)) → IsUnbroken rest → (length rest ≡ 0 → ⊥) → IsSends class rest all → ⊥
+pub sends_none : (class rest : List ℕ) (all : List (List ℕ)) → IsUnbroken rest → (length rest ≡ 0 → ⊥)
+    → IsSends class rest all → ⊥
 sends_none class rest [] u some h = some (ap length h.spelt)
 sends_none class rest (apdu ∷ more) u some h =
     broken (send_word ++ encode_upper apdu) (flat_map send_line more)
@@ -178,8 +211,10 @@ pub script_first : (class text line rest octets : List ℕ) (sends : List (List 
     → IsScript class text octets sends → IsOpening line octets × IsSends class rest sends
 script_first class text line rest octets sends f h =
     let e = sym f.parts ∙ (h.spelt ∙ shape open_word (encode_upper octets) (flat_map send_line sends)) in
-    let front = unbroken-append open_word (encode_upper octets) open_unbroken (digits_unbroken octets h.held.octets_all) in
-    let same = one_line line (open_word ++ encode_upper octets) rest (flat_map send_line sends) (unbroken line f.unbroken) front e in
+    let front = unbroken-append open_word (encode_upper octets) open_unbroken
+    (digits_unbroken octets h.held.octets_all) in
+    let same = one_line line (open_word ++ encode_upper octets) rest (flat_map send_line sends)
+    (unbroken line f.unbroken) front e in
     (record { spelt = same.0; held = h.held; is = h.opening }, record { spelt = same.1; each = h.each })
 
 -- what its first line opens and the others send
@@ -196,7 +231,8 @@ script_of class text line rest octets sends f o h = record {
   each = h.each;
 }
 
-pub script_none : (class text octets : List ℕ) (sends : List (List ℕ)) → IsUnbroken text → IsScript class text octets sends → ⊥
+pub script_none : (class text octets : List ℕ) (sends : List (List ℕ)) → IsUnbroken text
+    → IsScript class text octets sends → ⊥
 script_none class text octets sends u h =
     broken (open_word ++ encode_upper octets) (flat_map send_line sends)
     (subst Unbroken (h.spelt ∙ shape open_word (encode_upper octets) (flat_map send_line sends)) (unbroken text u))
@@ -215,5 +251,6 @@ same_sends class (x ∷ xs) (y ∷ ys) e hx hy =
 pub one_script : OneScript
 one_script class text bind other sends others h g =
     let e = sym h.spelt ∙ g.spelt in
-    let parts = same_line open_word bind other (flat_map send_line sends) (flat_map send_line others) open_unbroken h.held g.held e in
+    let parts = same_line open_word bind other (flat_map send_line sends) (flat_map send_line others) open_unbroken
+    h.held g.held e in
     (parts.0, same_sends class sends others parts.1 h.each g.each)

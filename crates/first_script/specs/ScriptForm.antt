@@ -1,5 +1,5 @@
--- The first form of a script, for a document with one class: a line `open HEX` with a written BIND, then lines `send 1 HEX`,
--- each with a written invoke of m-Get for that class; docs/PROFILE.md, section 6.
+-- The first form of a script, for a document with one class: a line `open HEX` with a written BIND, then lines `send 1
+-- HEX`, each with a written invoke of m-Get for that class; docs/PROFILE.md, section 6.
 use Rattle.std.specs.Prelude.{◌≡◌, ◌≢◌, ℕ, ℤ, ◌<◌, ◌≤◌, List, [], ◌∷◌, ◌++◌, Some, codes, flat_map, length, slice_index}
 use Rattle.hex.specs.Hex.{IsBytes, encode_upper}
 use Rattle.term_model.specs.declared.name.Rdn.{Rdn}
@@ -30,7 +30,11 @@ pub record IsWrittenBind (octets : List ℕ) : Type 0 where
 -- the request to get an object of this class
 abbrev pub get_request : ℤ → List ℕ → List ℕ → List Rdn → Invocation
 get_request id class raw name =
-    record { id = id; request = Get (record { class = Global class; base = record { raw = raw; named = named.Object name } }) }
+    record {
+      id = id;
+      request =
+          Get (record { class = Global class; base = record { raw = raw; named = named.Object name } });
+    }
 
 -- the one written invoke of m-Get for an object of this class
 pub record IsWrittenGet (class octets : List ℕ) : Type 0 where
@@ -86,7 +90,8 @@ pub record IsScript (class text octets : List ℕ) (sends : List (List ℕ)) : T
 -- a text is one script alone
 abbrev pub OneScript : Type 0
 OneScript =
-    (class text bind other : List ℕ) (sends others : List (List ℕ)) → IsScript class text bind sends → IsScript class text other others
+    (class text bind other : List ℕ) (sends others : List (List ℕ)) → IsScript class text bind sends
+    → IsScript class text other others
     → (bind ≡ other) × (sends ≡ others)
 
 -- a list holds no line feed

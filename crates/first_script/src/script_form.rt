@@ -1,10 +1,12 @@
-//! The first form of a script: a line `open HEX` with a written BIND, then lines `send 1 HEX`, each with a written invoke of
-//! m-Get whose argument has the document's class in globalForm and a localDistinguishedName.
+//! The first form of a script: a line `open HEX` with a written BIND, then lines `send 1 HEX`, each with a written
+//! invoke of m-Get whose argument has the document's class in globalForm and a localDistinguishedName.
 
-ghost use Rattle.std.specs.Prelude.{◌≡◌, ◌≢◌, ◌↔◌, ◌<◌, ◌≤◌, ◌++◌, ℕ, List, length, slice_index, IfErr, IfNone, IfOk, IfSome, IsSome, IsTrue};
+ghost use Rattle.std.specs.Prelude.{◌≡◌, ◌≢◌, ◌↔◌, ◌<◌, ◌≤◌, ◌++◌, ℕ, List, length, slice_index, IfErr, IfNone, IfOk};
+ghost use Rattle.std.specs.Prelude.{IfSome, IsSome, IsTrue};
 ghost use Rattle.hex.specs.Hex.{encode_upper};
 ghost use Rattle.term_model.specs.Bind.{title_in};
-ghost use Rattle.first_script.specs.ScriptForm.{IsFirstLine, IsHeld, IsOpening, IsScript, IsSending, IsSends, IsUnbroken, IsWrittenBind, IsWrittenGet, most_octets};
+ghost use Rattle.first_script.specs.ScriptForm.{IsFirstLine, IsHeld, IsOpening, IsScript, IsSending, IsSends};
+ghost use Rattle.first_script.specs.ScriptForm.{IsUnbroken, IsWrittenBind, IsWrittenGet, most_octets};
 
 use crate::script_refusal::ScriptRefusal;
 use cmip_apdus::apdu_reading::{invocation_in, title_in};
@@ -178,7 +180,8 @@ fn first_line(text: &[u8]) -> Option<(&[u8], &[u8])>
 /// The APDUs of the lines of a text.
 fn read_sends(alloc: Global, text: &[u8], class: &Oid) -> Result<Vec<Bytes>, ScriptRefusal>
     ensures found { IfOk result (λ sends. IsSends class.now text.now sends.items) }
-    ensures outside { result ≡ Err ScriptRefusal.Outside → (sends : List (List ℕ)) → IsSends class.now text.now sends → ⊥ }
+    ensures outside { result ≡ Err ScriptRefusal.Outside → (sends : List (List ℕ))
+        → IsSends class.now text.now sends → ⊥ }
 {
     let mut sends = Vec::new(alloc);
     let mut rest = text;
@@ -194,11 +197,12 @@ fn read_sends(alloc: Global, text: &[u8], class: &Oid) -> Result<Vec<Bytes>, Scr
     Ok(sends)
 }
 
-/// The script that the bytes spell in the first form, for a document whose class has this identifier. `Outside`: they are
-/// no such script.
+/// The script that the bytes spell in the first form, for a document whose class has this identifier. `Outside`: they
+/// are no such script.
 pub fn read_script(alloc: Global, text: &[u8], class: &Oid) -> Result<Script, ScriptRefusal>
     ensures found { IfOk result (λ script. IsScript class.now text.now script.bind script.sends.items) }
-    ensures only { IfOk result (λ script. (bind : List ℕ) (sends : List (List ℕ)) → IsScript class.now text.now bind sends
+    ensures only { IfOk result (λ script. (bind : List ℕ) (sends : List (List ℕ))
+        → IsScript class.now text.now bind sends
         → (bind ≡ script.bind) × (sends ≡ script.sends.items)) }
     ensures titled { IfOk result (λ script. IsSome (title_in script.bind)) }
 

@@ -1,5 +1,6 @@
 -- Changes at the place of a name.
-use Rattle.std.proofs.Common.{◌≡◌, ℕ, zero, suc, Bool, true, false, List, [], ◌∷◌, ◌++◌, take, drop, refl, sym, ap, ◌∙◌, subst, if◌then◌else◌}
+use Rattle.std.proofs.Common.{◌≡◌, ℕ, zero, suc, Bool, true, false, List, [], ◌∷◌, ◌++◌, take, drop, refl, sym, ap, ◌∙◌}
+use Rattle.std.proofs.Common.{subst, if◌then◌else◌}
 use Rattle.std.proofs.lemmas.Bool.{false≢true}
 use Rattle.std.proofs.lemmas.List.{map-set}
 use Rattle.std.proofs.lemmas.Option.{same_Some}
@@ -51,7 +52,8 @@ front_stored entry [] (suc at) front = refl
 front_stored entry (x ∷ xs) (suc at) front =
     stored_behind entry x xs front.0 ∙ ap (λ ys. x ∷ ys) (front_stored entry xs at front.1)
 
-stops_at : (name : List Rdn) (objects : List NamedObject) (at : ℕ) (x : NamedObject) → NoneInFront name (drop at objects)
+stops_at : (name : List Rdn) (objects : List NamedObject) (at : ℕ) (x : NamedObject)
+    → NoneInFront name (drop at objects)
     → slice_get objects at ≡ Some x → is_gt (name_cmp name x.name) ≡ false
 stops_at name [] at x behind there = absurd cc
 stops_at name (y ∷ ys) zero x behind there =
@@ -63,7 +65,8 @@ pub changed : (had : Bool) (entry : NamedObject) (objects : List NamedObject) (a
     → (if had then slice_set objects at entry else insert objects at entry) ≡ stored entry objects
 changed true entry objects at place named = replaces entry objects at (front_stored entry objects at place.front) named
 changed false entry objects at place named =
-    inserts entry objects at (front_stored entry objects at place.front) named (λ x there. stops_at entry.name objects at x place.behind there)
+    inserts entry objects at (front_stored entry objects at place.front) named
+    (λ x there. stops_at entry.name objects at x place.behind there)
 
 -- ---- whether the name is there
 
@@ -71,9 +74,11 @@ found_is : (name : List Rdn) (objects : List NamedObject) (at : ℕ) → AllInFr
     → is_named_at objects at name ≡ true → is_some (object_at objects name) ≡ true
 found_is name [] at front named = absurd (false≢true named)
 found_is name (x ∷ xs) zero front named = ap is_some (here x xs name (same_name name x named))
-found_is name (x ∷ xs) (suc at) front named = ap is_some (later x xs name (other_name name x front.0)) ∙ found_is name xs at front.1 named
+found_is name (x ∷ xs) (suc at) front named =
+    ap is_some (later x xs name (other_name name x front.0)) ∙ found_is name xs at front.1 named
 
-pub is_there : (had : Bool) (name : List Rdn) (objects : List NamedObject) (at : ℕ) → IsByName objects → IsPlace objects name at
+pub is_there : (had : Bool) (name : List Rdn) (objects : List NamedObject) (at : ℕ) → IsByName objects
+    → IsPlace objects name at
     → is_named_at objects at name ≡ had → had ≡ is_some (object_at objects name)
 is_there true name objects at rising place named = sym (found_is name objects at place.front named)
 is_there false name objects at rising place named =
@@ -81,48 +86,63 @@ is_there false name objects at rising place named =
 
 -- ---- what is taken out
 
-drop_head : (name : List Rdn) (x : NamedObject) (xs : List NamedObject) → is_same_name x.name name ≡ true → removed name (x ∷ xs) ≡ removed name xs
+drop_head : (name : List Rdn) (x : NamedObject) (xs : List NamedObject) → is_same_name x.name name ≡ true
+    → removed name (x ∷ xs) ≡ removed name xs
 drop_head name x xs h = rw h refl
 
-keep_head : (name : List Rdn) (x : NamedObject) (xs : List NamedObject) → is_same_name x.name name ≡ false → removed name (x ∷ xs) ≡ x ∷ removed name xs
+keep_head : (name : List Rdn) (x : NamedObject) (xs : List NamedObject) → is_same_name x.name name ≡ false
+    → removed name (x ∷ xs) ≡ x ∷ removed name xs
 keep_head name x xs h = rw h refl
 
-kept_all : (name : List Rdn) (objects : List NamedObject) → AllByRecursion (λ n. name_cmp name n ≡ Less) (names objects) → removed name objects ≡ objects
+kept_all : (name : List Rdn) (objects : List NamedObject) → AllByRecursion (λ n. name_cmp name n ≡ Less) (names objects)
+    → removed name objects ≡ objects
 kept_all name [] all = refl
 kept_all name (x ∷ xs) all =
-    keep_head name x xs (not_same x.name name Greater (turned name x.name Less all.0) refl) ∙ ap (λ ys. x ∷ ys) (kept_all name xs all.1)
+    keep_head name x xs (not_same x.name name Greater (turned name x.name Less all.0) refl)
+    ∙ ap (λ ys. x ∷ ys) (kept_all name xs all.1)
 
 -- the others stand behind one of the same name
-others_behind : (name : List Rdn) (x : NamedObject) (xs : List NamedObject) → name_cmp name x.name ≡ Equal → AllByRecursion (λ n. name_cmp x.name n ≡ Less) (names xs)
+others_behind : (name : List Rdn) (x : NamedObject) (xs : List NamedObject) → name_cmp name x.name ≡ Equal
+    → AllByRecursion (λ n. name_cmp x.name n ≡ Less) (names xs)
     → AllByRecursion (λ n. name_cmp name n ≡ Less) (names xs)
 others_behind name x xs equal all =
-    all_by (λ n. name_cmp x.name n ≡ Less) (λ n. name_cmp name n ≡ Less) (names xs) (λ n below. name_total.congr name x.name n equal ∙ below) all
+    all_by (λ n. name_cmp x.name n ≡ Less) (λ n. name_cmp name n ≡ Less) (names xs)
+    (λ n below. name_total.congr name x.name n equal ∙ below) all
 
-pub removes : (name : List Rdn) (objects : List NamedObject) (at : ℕ) → IsByName objects → AllInFront name (take at objects)
+pub removes : (name : List Rdn) (objects : List NamedObject) (at : ℕ) → IsByName objects
+    → AllInFront name (take at objects)
     → is_named_at objects at name ≡ true → remove objects at ≡ removed name objects
 unfolding IsStrictlySortedBy
 removes name [] at rising front named = absurd (false≢true named)
 removes name (x ∷ xs) zero rising front named =
-    sym (drop_head name x xs (same_name name x named) ∙ kept_all name xs (others_behind name x xs (is_equal (name_cmp name x.name) named) rising.0))
+    sym (drop_head name x xs (same_name name x named)
+    ∙ kept_all name xs (others_behind name x xs (is_equal (name_cmp name x.name) named) rising.0))
 removes name (x ∷ xs) (suc at) rising front named =
-    ap (λ ys. x ∷ ys) (removes name xs at rising.1 front.1 named) ∙ sym (keep_head name x xs (other_name name x front.0))
+    ap (λ ys. x ∷ ys) (removes name xs at rising.1 front.1 named)
+    ∙ sym (keep_head name x xs (other_name name x front.0))
 
-pub keeps : (name : List Rdn) (objects : List NamedObject) (at : ℕ) → IsByName objects → AllInFront name (take at objects)
+pub keeps : (name : List Rdn) (objects : List NamedObject) (at : ℕ) → IsByName objects
+    → AllInFront name (take at objects)
     → NoneInFront name (drop at objects) → is_named_at objects at name ≡ false → removed name objects ≡ objects
 unfolding IsStrictlySortedBy
 keeps name [] at rising front behind named = refl
 keeps name (x ∷ xs) zero rising front behind named =
     let less = is_less (name_cmp name x.name) named behind.0 in
-    kept_all name (x ∷ xs)
-    (less, all_by (λ m. name_cmp x.name m ≡ Less) (λ m. name_cmp name m ≡ Less) (names xs) (λ m below. name_total.trans name x.name m less below) rising.0)
+    kept_all name (x ∷ xs) (
+      less,
+      all_by (λ m. name_cmp x.name m ≡ Less) (λ m. name_cmp name m ≡ Less) (names xs)
+          (λ m below. name_total.trans name x.name m less below) rising.0,
+    )
 keeps name (x ∷ xs) (suc at) rising front behind named =
     keep_head name x xs (other_name name x front.0) ∙ ap (λ ys. x ∷ ys) (keeps name xs at rising.1 front.1 behind named)
 
-all_removed : (P : List Rdn → Type 0) (name : List Rdn) (objects : List NamedObject) → AllByRecursion P (names objects) → AllByRecursion P (names (removed name objects))
+all_removed : (P : List Rdn → Type 0) (name : List Rdn) (objects : List NamedObject) → AllByRecursion P (names objects)
+    → AllByRecursion P (names (removed name objects))
 all_removed P name [] all = tt
 all_removed P name (x ∷ xs) all = by (is_same_name x.name name) refl (all_removed P name xs all.1)
   where
-    by : (b : Bool) → is_same_name x.name name ≡ b → AllByRecursion P (names (removed name xs)) → AllByRecursion P (names (removed name (x ∷ xs)))
+    by : (b : Bool) → is_same_name x.name name ≡ b → AllByRecursion P (names (removed name xs))
+        → AllByRecursion P (names (removed name (x ∷ xs)))
     by true h rest = subst (λ os. AllByRecursion P (names os)) (sym (drop_head name x xs h)) rest
     by false h rest = subst (λ os. AllByRecursion P (names os)) (sym (keep_head name x xs h)) (all.0, rest)
 
@@ -133,4 +153,5 @@ removed_rises name (x ∷ xs) rising = by (is_same_name x.name name) refl (remov
   where
     by : (b : Bool) → is_same_name x.name name ≡ b → IsByName (removed name xs) → IsByName (removed name (x ∷ xs))
     by true h rest = subst IsByName (sym (drop_head name x xs h)) rest
-    by false h rest = subst IsByName (sym (keep_head name x xs h)) (all_removed (λ n. name_cmp x.name n ≡ Less) name xs rising.0, rest)
+    by false h rest = subst IsByName (sym (keep_head name x xs h))
+        (all_removed (λ n. name_cmp x.name n ≡ Less) name xs rising.0, rest)

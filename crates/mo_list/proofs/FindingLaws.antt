@@ -1,5 +1,6 @@
 -- What stands at the place of a name, and what follows it.
-use Rattle.std.proofs.Common.{◌≡◌, ℕ, zero, suc, ◌+◌, ◌^◌, ◌<◌, ◌≤◌, Bool, true, false, List, [], ◌∷◌, length, take, drop, get_or, None, Some, if◌then◌else◌, refl, sym, ap, ◌∙◌, arith}
+use Rattle.std.proofs.Common.{◌≡◌, ℕ, zero, suc, ◌+◌, ◌^◌, ◌<◌, ◌≤◌, Bool, true, false, List, [], ◌∷◌, length, take}
+use Rattle.std.proofs.Common.{drop, get_or, None, Some, if◌then◌else◌, refl, sym, ap, ◌∙◌, arith}
 use Rattle.std.proofs.lemmas.Bool.{false≢true}
 use Rattle.std.specs.Arc.{arc_value}
 use Rattle.std.specs.Prelude.{slice_get}
@@ -33,47 +34,60 @@ is_less Equal h k = absurd (false≢true (sym h))
 is_less Greater h k = absurd (false≢true (sym k))
 
 -- an object in front has another name
-pub other_name : (name : List Rdn) (x : NamedObject) → is_gt (name_cmp name x.name) ≡ true → is_same_name x.name name ≡ false
+pub other_name : (name : List Rdn) (x : NamedObject) → is_gt (name_cmp name x.name) ≡ true
+    → is_same_name x.name name ≡ false
 other_name name x h = not_same x.name name Less (turned name x.name Greater (is_greater (name_cmp name x.name) h)) refl
 
-pub same_name : (name : List Rdn) (x : NamedObject) → is_eq (name_cmp name x.name) ≡ true → is_same_name x.name name ≡ true
+pub same_name : (name : List Rdn) (x : NamedObject) → is_eq (name_cmp name x.name) ≡ true
+    → is_same_name x.name name ≡ true
 same_name name x h =
     name_ties x.name name ∙ ap is_eq (turned name x.name Equal (is_equal (name_cmp name x.name) h))
 
-pub found_there : (name : List Rdn) (entries : List Entry) (at : ℕ) (e : Entry) → AllInFront name (take at (objects_in entries))
+pub found_there : (name : List Rdn) (entries : List Entry) (at : ℕ) (e : Entry)
+    → AllInFront name (take at (objects_in entries))
     → is_named_at (objects_in entries) at name ≡ true → e ≡ get_or entries at e
     → object_at (objects_in entries) name ≡ Some (arc_value e).object
 found_there name [] at e front named is = absurd (false≢true named)
 found_there name (x ∷ xs) zero e front named is =
-    here (arc_value x) (objects_in xs) name (same_name name (arc_value x) named) ∙ ap (λ (y : Entry). Some (arc_value y).object) (sym is)
+    here (arc_value x) (objects_in xs) name (same_name name (arc_value x) named)
+    ∙ ap (λ (y : Entry). Some (arc_value y).object) (sym is)
 found_there name (x ∷ xs) (suc at) e front named is =
-    later (arc_value x) (objects_in xs) name (other_name name (arc_value x) front.0) ∙ found_there name xs at e front.1 named is
+    later (arc_value x) (objects_in xs) name (other_name name (arc_value x) front.0)
+    ∙ found_there name xs at e front.1 named is
 
-pub none_named : (name : List Rdn) (objects : List NamedObject) (at : ℕ) → IsByName objects → AllInFront name (take at objects)
+pub none_named : (name : List Rdn) (objects : List NamedObject) (at : ℕ) → IsByName objects
+    → AllInFront name (take at objects)
     → NoneInFront name (drop at objects) → is_named_at objects at name ≡ false → object_at objects name ≡ None
 unfolding IsStrictlySortedBy
 none_named name [] at rising front behind named = refl
 none_named name (x ∷ xs) zero rising front behind named =
     let less = is_less (name_cmp name x.name) named behind.0 in
-    nothing_below (x ∷ xs) name
-    (less, all_by (λ n. name_cmp x.name n ≡ Less) (λ n. name_cmp name n ≡ Less) (names xs) (λ n below. name_total.trans name x.name n less below) rising.0)
+    nothing_below (x ∷ xs) name (
+      less,
+      all_by (λ n. name_cmp x.name n ≡ Less) (λ n. name_cmp name n ≡ Less) (names xs)
+          (λ n below. name_total.trans name x.name n less below) rising.0,
+    )
 none_named name (x ∷ xs) (suc at) rising front behind named =
     later x xs name (other_name name x front.0) ∙ none_named name xs at rising.1 front.1 behind named
 
 -- ---- what follows
 
-after_here : (name : List Rdn) (x : NamedObject) (xs : List NamedObject) → is_lt (name_cmp name x.name) ≡ true → entry_after (x ∷ xs) name ≡ Some x
+after_here : (name : List Rdn) (x : NamedObject) (xs : List NamedObject) → is_lt (name_cmp name x.name) ≡ true
+    → entry_after (x ∷ xs) name ≡ Some x
 after_here name x xs h = rw h refl
 
-after_later : (name : List Rdn) (x : NamedObject) (xs : List NamedObject) → is_lt (name_cmp name x.name) ≡ false → entry_after (x ∷ xs) name ≡ entry_after xs name
+after_later : (name : List Rdn) (x : NamedObject) (xs : List NamedObject) → is_lt (name_cmp name x.name) ≡ false
+    → entry_after (x ∷ xs) name ≡ entry_after xs name
 after_later name x xs h = rw h refl
 
-first_after : (name : List Rdn) (objects : List NamedObject) → AllByRecursion (λ n. name_cmp name n ≡ Less) (names objects) → entry_after objects name ≡ slice_get objects 0
+first_after : (name : List Rdn) (objects : List NamedObject)
+    → AllByRecursion (λ n. name_cmp name n ≡ Less) (names objects) → entry_after objects name ≡ slice_get objects 0
 first_after name [] all = refl
 first_after name (x ∷ xs) all = after_here name x xs (ap is_lt all.0)
 
 -- behind the place, or behind the one of the name that stands there
-pub next_entry : (name : List Rdn) (objects : List NamedObject) (at : ℕ) (named : Bool) → IsByName objects → AllInFront name (take at objects)
+pub next_entry : (name : List Rdn) (objects : List NamedObject) (at : ℕ) (named : Bool) → IsByName objects
+    → AllInFront name (take at objects)
     → NoneInFront name (drop at objects) → is_named_at objects at name ≡ named
     → entry_after objects name ≡ slice_get objects (at + (if named then 1 else 0))
 unfolding IsStrictlySortedBy
@@ -81,13 +95,15 @@ next_entry name [] at named rising front behind is = refl
 next_entry name (x ∷ xs) zero true rising front behind is =
     let equal = is_equal (name_cmp name x.name) is in
     after_later name x xs (ap is_lt equal)
-    ∙ first_after name xs (all_by (λ n. name_cmp x.name n ≡ Less) (λ n. name_cmp name n ≡ Less) (names xs) (λ n below. name_total.congr name x.name n equal ∙ below) rising.0)
+    ∙ first_after name xs (all_by (λ n. name_cmp x.name n ≡ Less) (λ n. name_cmp name n ≡ Less) (names xs)
+    (λ n below. name_total.congr name x.name n equal ∙ below) rising.0)
 next_entry name (x ∷ xs) zero false rising front behind is =
     after_here name x xs (ap is_lt (is_less (name_cmp name x.name) is behind.0))
 next_entry name (x ∷ xs) (suc at) named rising front behind is =
     let further : suc at + (if named then 1 else 0) ≡ suc (at + (if named then 1 else 0)) = omega arith in
     rw further
-    (after_later name x xs (ap is_lt (is_greater (name_cmp name x.name) front.0)) ∙ next_entry name xs at named rising.1 front.1 behind is)
+    (after_later name x xs (ap is_lt (is_greater (name_cmp name x.name) front.0))
+    ∙ next_entry name xs at named rising.1 front.1 behind is)
 
 -- the object that an entry holds
 pub held_at : (entries : List Entry) (at : ℕ) (e : Entry) → at < length entries → e ≡ get_or entries at e
@@ -113,7 +129,8 @@ byte_is false = refl
 -- ---- visits
 
 -- a search by halves, and one more look
-pub one_call : (entries : List Entry) (before middle after : ℕ) → before ≤ middle → (0 < length entries → before < middle)
+pub one_call : (entries : List Entry) (before middle after : ℕ) → before ≤ middle
+    → (0 < length entries → before < middle)
     → ((digits : ℕ) → length entries < 2 ^ digits → middle ≤ before + digits) → middle ≤ after → after ≤ middle + 1
     → IsOneCall (objects_in entries) before after
 one_call entries before middle after rises some few more once = record {

@@ -1,5 +1,6 @@
 -- A place among entries by rising name, found by halves.
-use Rattle.std.proofs.Common.{◌≡◌, ℕ, zero, suc, ◌+◌, ◌-◌, ◌/◌, ◌^◌, ◌<◌, ◌≤◌, true, false, List, [], ◌∷◌, length, take, drop, get_or, refl, sym, ap, ◌∙◌, arith}
+use Rattle.std.proofs.Common.{◌≡◌, ℕ, zero, suc, ◌+◌, ◌-◌, ◌/◌, ◌^◌, ◌<◌, ◌≤◌, true, false, List, [], ◌∷◌, length, take}
+use Rattle.std.proofs.Common.{drop, get_or, refl, sym, ap, ◌∙◌, arith}
 use Rattle.std.proofs.Math.Nat.{pow-suc}
 use Rattle.std.proofs.lemmas.Bool.{false≢true}
 use Rattle.std.specs.Arc.{arc_value}
@@ -32,23 +33,27 @@ turned : (xs ys : List Rdn) (o : Ordering) → name_cmp xs ys ≡ o → name_cmp
 turned xs ys o e = name_total.antisymm ys xs ∙ ap ordering_reverse e
 
 -- a name that is greater than one is greater than what stands in front of it
-greater_still : (name first other : List Rdn) → name_cmp first other ≡ Less → is_gt (name_cmp name other) ≡ true → is_gt (name_cmp name first) ≡ true
+greater_still : (name first other : List Rdn) → name_cmp first other ≡ Less → is_gt (name_cmp name other) ≡ true
+    → is_gt (name_cmp name first) ≡ true
 greater_still name first other less greater =
     let below = turned name other Greater (is_greater (name_cmp name other) greater) in
     ap is_gt (turned first name Less (name_total.trans first other name less below))
 
 -- one that is not greater than a name is not greater than what stands behind it
-not_greater_still : (name first other : List Rdn) → is_gt (name_cmp name first) ≡ false → name_cmp first other ≡ Less → is_gt (name_cmp name other) ≡ false
+not_greater_still : (name first other : List Rdn) → is_gt (name_cmp name first) ≡ false → name_cmp first other ≡ Less
+    → is_gt (name_cmp name other) ≡ false
 not_greater_still name first other = by (name_cmp name first) refl
   where
-    by : (o : Ordering) → name_cmp name first ≡ o → is_gt o ≡ false → name_cmp first other ≡ Less → is_gt (name_cmp name other) ≡ false
+    by : (o : Ordering) → name_cmp name first ≡ o → is_gt o ≡ false → name_cmp first other ≡ Less
+        → is_gt (name_cmp name other) ≡ false
     by Less e h less = ap is_gt (name_total.trans name first other e less)
     by Equal e h less = ap is_gt (name_total.congr name first other e ∙ less)
     by Greater e h less = absurd (false≢true (sym h))
 
 -- ---- what the order of the names tells
 
-all_at : (P : List Rdn → Type 0) (entries : List Entry) (i : ℕ) (d : Entry) → i < length entries → AllByRecursion P (names (objects_in entries)) → P (arc_value (get_or entries i d)).name
+all_at : (P : List Rdn → Type 0) (entries : List Entry) (i : ℕ) (d : Entry) → i < length entries
+    → AllByRecursion P (names (objects_in entries)) → P (arc_value (get_or entries i d)).name
 all_at P [] i d h all = absurd (omega arith)
 all_at P (e ∷ es) zero d h all = all.0
 all_at P (e ∷ es) (suc i) d h all = all_at P es i d (omega arith) all.1
@@ -58,8 +63,10 @@ none_from : (name first : List Rdn) (objects : List NamedObject) → is_gt (name
 none_from name first [] h all = tt
 none_from name first (x ∷ xs) h all = (not_greater_still name first x.name h all.0, none_from name first xs h all.1)
 
-pub front_all : (name : List Rdn) (entries : List Entry) (i : ℕ) (d : Entry) → i < length entries → IsByName (objects_in entries)
-    → is_gt (name_cmp name (arc_value (get_or entries i d)).name) ≡ true → AllInFront name (take (i + 1) (objects_in entries))
+pub front_all : (name : List Rdn) (entries : List Entry) (i : ℕ) (d : Entry) → i < length entries
+    → IsByName (objects_in entries)
+    → is_gt (name_cmp name (arc_value (get_or entries i d)).name) ≡ true
+    → AllInFront name (take (i + 1) (objects_in entries))
 unfolding IsStrictlySortedBy
 front_all name [] i d h rising greater = absurd (omega arith)
 front_all name (e ∷ es) zero d h rising greater = (greater, tt)
@@ -71,11 +78,14 @@ front_all name (e ∷ es) (suc i) d h rising greater =
       front_all name es i d (omega arith) rising.1 greater,
     )
 
-pub behind_all : (name : List Rdn) (entries : List Entry) (i : ℕ) (d : Entry) → i < length entries → IsByName (objects_in entries)
-    → is_gt (name_cmp name (arc_value (get_or entries i d)).name) ≡ false → NoneInFront name (drop i (objects_in entries))
+pub behind_all : (name : List Rdn) (entries : List Entry) (i : ℕ) (d : Entry) → i < length entries
+    → IsByName (objects_in entries)
+    → is_gt (name_cmp name (arc_value (get_or entries i d)).name) ≡ false
+    → NoneInFront name (drop i (objects_in entries))
 unfolding IsStrictlySortedBy
 behind_all name [] i d h rising greater = absurd (omega arith)
-behind_all name (e ∷ es) zero d h rising greater = (greater, none_from name (arc_value e).name (objects_in es) greater rising.0)
+behind_all name (e ∷ es) zero d h rising greater =
+    (greater, none_from name (arc_value e).name (objects_in es) greater rising.0)
 behind_all name (e ∷ es) (suc i) d h rising greater = behind_all name es i d (omega arith) rising.1 greater
 
 pub none_past : (name : List Rdn) (entries : List Entry) → NoneInFront name (drop (length entries) (objects_in entries))
@@ -98,9 +108,11 @@ pub record IsSearched (entries : List Entry) (name : List Rdn) (before low high 
   pub behind : NoneInFront name (drop high (objects_in entries))
   pub rises : before ≤ now
   pub unmoved : now ≤ before → (low ≡ 0) × (high ≡ length entries)
-  pub few : (digits : ℕ) → length entries < 2 ^ digits → (now ≤ before + digits) × (high - low < 2 ^ (before + digits - now))
+  pub few : (digits : ℕ) → length entries < 2 ^ digits → (now ≤ before + digits)
+      × (high - low < 2 ^ (before + digits - now))
 
-pub search_begins : (entries : List Entry) (name : List Rdn) (before : ℕ) → IsSearched entries name before 0 (length entries) before
+pub search_begins : (entries : List Entry) (name : List Rdn) (before : ℕ)
+    → IsSearched entries name before 0 (length entries) before
 search_begins entries name before = record {
   ordered = omega arith;
   within = omega arith;
@@ -123,7 +135,8 @@ fewer length width half before now digits some halves h =
     (omega (arith, next.0), rw left next.1)
 
 -- the name is greater than that of the entry in the middle
-pub searched_behind : (entries : List Entry) (name : List Rdn) (before low high now middle : ℕ) (d : Entry) → IsByName (objects_in entries)
+pub searched_behind : (entries : List Entry) (name : List Rdn) (before low high now middle : ℕ) (d : Entry)
+    → IsByName (objects_in entries)
     → IsSearched entries name before low high now → low < high → middle ≡ low + (high - low) / 2
     → is_gt (name_cmp name (arc_value (get_or entries middle d)).name) ≡ true
     → IsSearched entries name before (middle + 1) high (now + 1)
@@ -134,11 +147,13 @@ searched_behind entries name before low high now middle d rising so some half gr
   behind = so.behind;
   rises = omega (arith, so.rises);
   unmoved = λ h. absurd (omega (arith, so.rises));
-  few = λ digits small. fewer (length entries) (high - low) (high - (middle + 1)) before now digits (omega arith) (omega (arith, half)) (so.few digits small);
+  few = λ digits small. fewer (length entries) (high - low) (high - (middle + 1)) before now digits (omega arith)
+      (omega (arith, half)) (so.few digits small);
 }
 
 -- or it isn't
-pub searched_in_front : (entries : List Entry) (name : List Rdn) (before low high now middle : ℕ) (d : Entry) → IsByName (objects_in entries)
+pub searched_in_front : (entries : List Entry) (name : List Rdn) (before low high now middle : ℕ) (d : Entry)
+    → IsByName (objects_in entries)
     → IsSearched entries name before low high now → low < high → middle ≡ low + (high - low) / 2
     → is_gt (name_cmp name (arc_value (get_or entries middle d)).name) ≡ false
     → IsSearched entries name before low middle (now + 1)
@@ -149,14 +164,16 @@ searched_in_front entries name before low high now middle d rising so some half 
   behind = behind_all name entries middle d (omega (arith, half, so.within)) rising greater;
   rises = omega (arith, so.rises);
   unmoved = λ h. absurd (omega (arith, so.rises));
-  few = λ digits small. fewer (length entries) (high - low) (middle - low) before now digits (omega arith) (omega (arith, half)) (so.few digits small);
+  few = λ digits small. fewer (length entries) (high - low) (middle - low) before now digits (omega arith)
+      (omega (arith, half)) (so.few digits small);
 }
 
 pub length_objects : (entries : List Entry) → length (objects_in entries) ≡ length entries
 length_objects [] = refl
 length_objects (e ∷ es) = ap suc (length_objects es)
 
-pub search_ends : (entries : List Entry) (name : List Rdn) (before low high now : ℕ) → IsSearched entries name before low high now → high ≤ low
+pub search_ends : (entries : List Entry) (name : List Rdn) (before low high now : ℕ)
+    → IsSearched entries name before low high now → high ≤ low
     → IsPlace (objects_in entries) name low
 search_ends entries name before low high now so past =
     let met : high ≡ low = omega (arith, so.ordered) in

@@ -1,6 +1,7 @@
 //! Changes of a shared list of shared entries.
 
-ghost use Rattle.std.specs.Prelude.{◌≡◌, ◌<◌, ◌≤◌, IfErr, IfOk, IsTrue, OnErr, OnOk, if◌then◌else◌, insert, length, remove, slice_set};
+ghost use Rattle.std.specs.Prelude.{◌≡◌, ◌<◌, ◌≤◌, IfErr, IfOk, IsTrue, OnErr, OnOk, if◌then◌else◌, insert, length};
+ghost use Rattle.std.specs.Prelude.{remove, slice_set};
 ghost use Rattle.std.specs.Arc.{arc_value};
 ghost use Rattle.mo_list.specs.Entries.{objects_in, objects_of};
 

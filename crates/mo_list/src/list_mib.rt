@@ -71,9 +71,9 @@ impl<L: StepLedger> ListMib<L> {
         entries_of(&self.entries).len() as u64
     }
 
-    /// Puts an object under its name, in place of the one that had it, and answers whether the name was there. For want of
-    /// memory the map is as it was, and both are handed back. The list of references is copied where it is shared, and
-    /// else the references behind the place are moved.
+    /// Puts an object under its name, in place of the one that had it, and answers whether the name was there. For want
+    /// of memory the map is as it was, and both are handed back. The list of references is copied where it is shared,
+    /// and else the references behind the place are moved.
     pub fn put(
         &mut self,
         alloc: Global,
@@ -103,8 +103,8 @@ impl<L: StepLedger> ListMib<L> {
         Ok(had)
     }
 
-    /// Takes the object of a name out, and answers whether the name was there. For want of memory, as it takes where the
-    /// list is shared, the map is as it was.
+    /// Takes the object of a name out, and answers whether the name was there. For want of memory, as it takes where
+    /// the list is shared, the map is as it was.
     pub fn take_out(
         &mut self,
         alloc: Global,

@@ -86,8 +86,8 @@ fn answer_after<L: StepLedger>(
     }
 }
 
-/// The answer to a call: `put`, `take`, `at` and `after` with the number of a name, and `len`. The object that is put is
-/// marked by its place in the line.
+/// The answer to a call: `put`, `take`, `at` and `after` with the number of a name, and `len`. The object that is put
+/// is marked by its place in the line.
 fn answer_call<L: StepLedger>(
     alloc: Global,
     map: &mut ListMib<L>,

@@ -58,11 +58,13 @@ pub commit_legal : (agent : AgentState) (number : ℕ) (text : List ℕ) → gra
     → is_legal agent (Committed number) ≡ true
 commit_legal agent number text h =
     let g = granted_stands_at agent number text h in
-    ap (λ q. option_map_or (λ (p : Operation). is_some (granted_moment p.state)) q false) g.is ∙ ap (λ m. is_some m) g.at
+    ap (λ q. option_map_or (λ (p : Operation). is_some (granted_moment p.state)) q false) g.is
+    ∙ ap (λ m. is_some m) g.at
 
 -- what carries it out keeps the operations and the number of entries
 carried_keeps : (agent : AgentState) (w : Work) (moment : ℕ)
-    → ((carried_out agent w moment).operations ≡ agent.operations) × ((carried_out agent w moment).entries ≡ agent.entries)
+    → ((carried_out agent w moment).operations ≡ agent.operations)
+    × ((carried_out agent w moment).entries ≡ agent.entries)
 carried_keeps agent (work.Asked association invoke request) moment = (refl, refl)
 carried_keeps agent (work.Append log own) moment = (refl, refl)
 

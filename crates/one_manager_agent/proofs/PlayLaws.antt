@@ -1,8 +1,11 @@
--- What the lines of a script in the first form come to: each entry is legal where it stands, and the association is as before.
-use Rattle.std.proofs.Common.{◌≡◌, ℕ, ℤ, ◌+◌, ◌-◌, ◌<◌, ◌≤◌, Bool, true, false, List, [], ◌∷◌, ◌++◌, length, Option, Some, None, refl, sym, ap, ◌∙◌, ⊎_elim, arith, subst, length-append}
+-- What the lines of a script in the first form come to: each entry is legal where it stands, and the association is as
+-- before.
+use Rattle.std.proofs.Common.{◌≡◌, ℕ, ℤ, ◌+◌, ◌-◌, ◌<◌, ◌≤◌, Bool, true, false, List, [], ◌∷◌, ◌++◌, length, Option}
+use Rattle.std.proofs.Common.{Some, None, refl, sym, ap, ◌∙◌, ⊎_elim, arith, subst, length-append}
 use Rattle.std.specs.Prelude.{◌==◌, count_by, map, nat_le, nat_lt, if◌then◌else◌, is_some}
 use Rattle.std.specs.Option.{option_map_or}
-use Rattle.std.proofs.lemmas.Bool.{false≢true, cases_Bool, eqb-false, eqb-true, eq-eqb, ne_eqb, le-leb, lt-ltb, le-ltb, ltb-true}
+use Rattle.std.proofs.lemmas.Bool.{false≢true, cases_Bool, eqb-false, eqb-true, eq-eqb, ne_eqb, le-leb, lt-ltb, le-ltb}
+use Rattle.std.proofs.lemmas.Bool.{ltb-true}
 use Rattle.std.proofs.lemmas.List.{append-nil, length_push}
 use Rattle.std.proofs.lemmas.List.Sums.{sum_by_push}
 use Rattle.term_model.specs.declared.agent_state.AgentState.{AgentState}
@@ -25,13 +28,16 @@ use Rattle.term_model.specs.GetRequest.{invocation_in}
 use Rattle.term_model.specs.History.{came}
 use Rattle.term_model.specs.JournalLaws.{frames_of}
 use Rattle.term_model.specs.Operation.{exec, operation_number, replied}
-use Rattle.term_model.specs.Played.{Play, with_entry, taken_all, all_taken, answered, line_played, closed, closed_from, beginning, lines_played, played}
+use Rattle.term_model.specs.Played.{Play, with_entry, taken_all, all_taken, answered, line_played, closed, closed_from}
+use Rattle.term_model.specs.Played.{beginning, lines_played, played}
 use Rattle.term_model.specs.Played.ScriptLine.{Open, Send}
 use Rattle.term_model.specs.Settled.{IsDone, IsSettled}
-use Rattle.term_model.specs.Step.{bound, counted, is_legal, last_moment, may_take, queued, received, step, with_replies, with_state, with_taken}
+use Rattle.term_model.specs.Step.{bound, counted, is_legal, last_moment, may_take, queued, received, step, with_replies}
+use Rattle.term_model.specs.Step.{with_state, with_taken}
 use Rattle.term_model.proofs.FrameLaws as frame_laws
 use Rattle.term_model.proofs.ScriptLaws.{script_keeps}
-use Rattle.term_model.proofs.StepLaws.{changed_last, closed_at_end, ground_of, numbered_alone, numbered_last, step_ground, step_legal}
+use Rattle.term_model.proofs.StepLaws.{changed_last, closed_at_end, ground_of, numbered_alone, numbered_last}
+use Rattle.term_model.proofs.StepLaws.{step_ground, step_legal}
 use Rattle.one_manager_agent.specs.Playing.{IsFresh, IsReady, granted_text, script_lines, sole}
 
 -- the state with one association and these operations
@@ -65,7 +71,8 @@ one_arrives : (agent : AgentState) (a : Association) (operations : List Operatio
     → is_legal (with_one agent a operations entries) (entry.Arrived sole apdu) ≡ true
 one_arrives agent a operations entries apdu live idle = rw (live, idle) refl
 
-pub arrive_legal : (agent : AgentState) (apdu : List ℕ) → IsReady agent → is_legal agent (entry.Arrived sole apdu) ≡ true
+pub arrive_legal : (agent : AgentState) (apdu : List ℕ) → IsReady agent
+    → is_legal agent (entry.Arrived sole apdu) ≡ true
 arrive_legal agent apdu r =
     ap (λ s. is_legal s (entry.Arrived sole apdu)) (is_with_one agent r.association r.one)
     ∙ one_arrives agent r.association agent.operations agent.entries apdu r.live r.idle
@@ -75,7 +82,8 @@ abbrev brought : Option Invocation → List Operation
 brought None = []
 brought (Some invocation) = queued sole invocation ∷ []
 
-received_one : (agent : AgentState) (a : Association) (operations : List Operation) (entries : ℕ) (q : Option Invocation)
+received_one : (agent : AgentState) (a : Association) (operations : List Operation) (entries : ℕ)
+    (q : Option Invocation)
     → received (with_one agent a operations entries) sole (option_map_or Queued q NoEffect)
     ≡ with_one agent a (operations ++ brought q) entries
 received_one agent a operations entries None =
@@ -101,7 +109,8 @@ over invocation place = record (queued sole invocation) { state = operation.Ende
 
 one_granted : (agent : AgentState) (a : Association) (operations : List Operation) (entries moment : ℕ)
     (invocation : Invocation) (number : ℕ) → number ≡ length operations + 1 → moment ≤ last_moment
-    → is_legal (with_one agent a (operations ++ queued sole invocation ∷ []) entries) (entry.Granted number moment) ≡ true
+    → is_legal (with_one agent a (operations ++ queued sole invocation ∷ []) entries)
+    (entry.Granted number moment) ≡ true
 one_granted agent a operations entries moment invocation number e within =
     rw (numbered_last operations (queued sole invocation) number e, le-leb moment last_moment within) refl
 
@@ -112,7 +121,8 @@ granted_to : (agent : AgentState) (a : Association) (operations : List Operation
 granted_to agent a operations entries moment invocation number e within =
     step_legal (with_one agent a (operations ++ queued sole invocation ∷ []) entries) (entry.Granted number moment)
     (one_granted agent a operations entries moment invocation number e within)
-    ∙ ap (λ xs. with_one agent a xs (entries + 1)) (changed_last operations (queued sole invocation) number (operation.Granted moment) e)
+    ∙ ap (λ xs. with_one agent a xs (entries + 1))
+    (changed_last operations (queued sole invocation) number (operation.Granted moment) e)
 
 -- the association once the replies are placed
 abbrev replied_to : AgentState → Association → Invocation → ℕ → Association
@@ -134,7 +144,8 @@ committed_to agent a operations entries moment invocation number e =
 
 -- an operation that has ended is not outstanding
 over_idle : (operations : List Operation) (invocation : Invocation) (place : ℕ)
-    → count_by (is_outstanding sole) operations ≡ 0 → count_by (is_outstanding sole) (operations ++ over invocation place ∷ []) ≡ 0
+    → count_by (is_outstanding sole) operations ≡ 0
+    → count_by (is_outstanding sole) (operations ++ over invocation place ∷ []) ≡ 0
 over_idle operations invocation place h =
     sum_by_push (λ o. if is_outstanding sole o then 1 else 0) operations (over invocation place) ∙ ap (λ n. n + 0) h
 
@@ -147,13 +158,15 @@ answered_some : (before number : ℕ) (play : Play) → length play.agent.operat
 answered_some before number play e h = rw (e, lt-ltb before number h) refl
 
 -- an operation that an APDU brought may be granted
-waits : (agent : AgentState) (a : Association) (operations : List Operation) (entries moment : ℕ) (q : Option Invocation)
+waits : (agent : AgentState) (a : Association) (operations : List Operation) (entries moment : ℕ)
+    (q : Option Invocation)
     (number : ℕ) → number ≡ length (operations ++ brought q) → length operations < number → moment ≤ last_moment
     → is_legal (with_one agent a (operations ++ brought q) entries) (entry.Granted number moment) ≡ true
 waits agent a operations entries moment None number e h within =
     absurd (let k = ap (λ (xs : List Operation). length xs) (append-nil operations) in omega arith)
 waits agent a operations entries moment (Some invocation) number e h within =
-    one_granted agent a operations entries moment invocation number (e ∙ length_push operations (queued sole invocation)) within
+    one_granted agent a operations entries moment invocation number
+    (e ∙ length_push operations (queued sole invocation)) within
 
 pub grant_legal : (agent : AgentState) (apdu : List ℕ) (moment number : ℕ) → IsReady agent → moment ≤ last_moment
     → number ≡ length (step agent (entry.Arrived sole apdu)).operations → length agent.operations < number
@@ -162,7 +175,8 @@ grant_legal agent apdu moment number r within e h =
     let next = arrived_to agent apdu r in
     let size = ap (λ (s : AgentState). length s.operations) next in
     ap (λ s. is_legal s (entry.Granted number moment)) next
-    ∙ waits agent r.association agent.operations (agent.entries + 1) moment (invocation_in apdu) number (e ∙ size) h within
+    ∙ waits agent r.association agent.operations (agent.entries + 1) moment (invocation_in apdu) number
+    (e ∙ size) h within
 
 -- what a play has come to with one association
 abbrev play_of : AgentState → List Entry → ℕ → Play
@@ -172,7 +186,8 @@ play_of agent journal moment = record { agent = agent; journal = journal; moment
 queued_lives : (agent : AgentState) (a : Association) (operations : List Operation) (entries moment : ℕ)
     (journal : List Entry) (q : Option Invocation) → a.state ≡ Live → a.taken ≤ length a.placed
     → count_by (is_outstanding sole) operations ≡ 0 → moment ≤ last_moment
-    → Lives (answered (length operations) (play_of (with_one agent a (operations ++ brought q) entries) journal moment)).agent
+    → Lives (answered (length operations)
+    (play_of (with_one agent a (operations ++ brought q) entries) journal moment)).agent
 queued_lives agent a operations entries moment journal None live inside idle within =
     let play = play_of (with_one agent a (operations ++ []) entries) journal moment in
     subst (λ (p : Play). Lives p.agent)
@@ -207,7 +222,8 @@ answered_lives play apdu r within =
     let journal = play.journal ++ entry.Arrived sole apdu ∷ [] in
     subst (λ s. Lives (answered (length agent.operations) (play_of s journal play.moment)).agent)
     (sym (arrived_to agent apdu r))
-    (queued_lives agent r.association agent.operations (agent.entries + 1) play.moment journal (invocation_in apdu) r.live
+    (queued_lives agent r.association agent.operations (agent.entries + 1) play.moment journal
+    (invocation_in apdu) r.live
     (omega (arith, r.taken)) r.idle within)
 
 -- the association is the only one
@@ -315,7 +331,8 @@ opened_lives agent bind f titled =
 pub open_line : (play : Play) (bind : List ℕ) → IsFresh play.agent → is_some (title_in bind) ≡ true
     → line_played play (Open bind) ≡ taken_all sole (with_entry play (entry.Opened sole bind))
 open_line play bind f titled =
-    ap (λ n. all_taken (with_entry play (entry.Opened n bind))) (ap (λ (xs : List Association). length xs + 1) f.unopened)
+    ap (λ n. all_taken (with_entry play (entry.Opened n bind)))
+    (ap (λ (xs : List Association). length xs + 1) f.unopened)
     ∙ all_taken_alone (with_entry play (entry.Opened sole bind)) (opened_lives play.agent bind f titled)
 
 pub open_ready : (play : Play) (bind : List ℕ) → IsFresh play.agent → is_some (title_in bind) ≡ true
@@ -338,7 +355,8 @@ finished_to agent r =
 -- what a play that is ready comes to at its end
 pub record Ends (play : Play) : Type 0 where
   pub legal : is_legal (taken_all sole (with_entry play (entry.Finished sole))).agent (entry.Closed sole why.End) ≡ true
-  pub whole : closed sole play ≡ with_entry (taken_all sole (with_entry play (entry.Finished sole))) (entry.Closed sole why.End)
+  pub whole : closed sole play ≡ with_entry (taken_all sole (with_entry play (entry.Finished sole)))
+      (entry.Closed sole why.End)
   pub settled : IsSettled (closed sole play).agent
 
 closed_live : (play : Play) (a : Association) → play.agent.associations ≡ a ∷ [] → a.state ≡ Live

@@ -1,5 +1,5 @@
--- Examples of docs/PROFILE.md, section 7, computed from the definitions: an agent before any entry, and the one that a BIND
--- was answered to, with all of the answer taken.
+-- Examples of docs/PROFILE.md, section 7, computed from the definitions: an agent before any entry, and the one that a
+-- BIND was answered to, with all of the answer taken.
 use Rattle.std.specs.Prelude.{◌≡◌, List, ℕ, [], ◌∷◌, None, Some, refl}
 use Rattle.term_values.specs.Oid.{subidentifier, oid_in}
 use Rattle.term_values.specs.Octets.{integer_contents}

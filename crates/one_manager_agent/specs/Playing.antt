@@ -1,5 +1,5 @@
--- A script in the first form on its way: between two lines the one association is live, all that was placed for it was taken,
--- and none of its operations is outstanding; docs/PROFILE.md, section 7.
+-- A script in the first form on its way: between two lines the one association is live, all that was placed for it was
+-- taken, and none of its operations is outstanding; docs/PROFILE.md, section 7.
 use Rattle.std.specs.Prelude.{◌≡◌, ◌≤◌, ℕ, List, [], ◌∷◌, length, map, IsTrue, Option, option_and_then}
 use Rattle.std.specs.List.{All}
 use Rattle.std.specs.Option.{option_map}
@@ -29,7 +29,8 @@ abbrev pub granted_text : AgentState → ℕ → Option (List ℕ)
 granted_text agent number =
     option_map moment_text (option_and_then (λ (o : Operation). granted_moment o.state) (operation_of agent number))
 
--- an agent and its journal: the journal is legal, comes to the agent, which counts its entries, and the program can hold it
+-- an agent and its journal: the journal is legal, comes to the agent, which counts its entries, and the program can
+-- hold it
 pub record IsJournaled (agent : AgentState) (journal : List Entry) : Type 0 where
   pub counted : agent.entries ≡ length journal
   pub legal : IsTrue (is_legal_journal agent.schema agent.limits journal)

@@ -1,12 +1,14 @@
-//! The steps of the one-manager agent, one for each kind of entry: each does what the definition of a step says of a legal
-//! entry. A commit, which performs an operation, stands in `performing`.
+//! The steps of the one-manager agent, one for each kind of entry: each does what the definition of a step says of a
+//! legal entry. A commit, which performs an operation, stands in `performing`.
 
-ghost use Rattle.std.specs.Prelude.{◌≡◌, ◌+◌, ◌^◌, ◌<◌, ◌≤◌, ◌++◌, ◌∷◌, [], ◌==◌, length, IsTrue, IfOk, OnErr, OnOk, if◌then◌else◌};
+ghost use Rattle.std.specs.Prelude.{◌≡◌, ◌+◌, ◌^◌, ◌<◌, ◌≤◌, ◌++◌, ◌∷◌, [], ◌==◌, length, IsTrue, IfOk, OnErr, OnOk};
+ghost use Rattle.std.specs.Prelude.{if◌then◌else◌};
 ghost use Rattle.std.specs.Option.{option_map_or};
 ghost use Rattle.term_model.specs.AgentState.{association_of, left_to_take};
 ghost use Rattle.term_model.specs.Arriving.Arriving.{NoEffect, Queued};
 ghost use Rattle.one_manager_agent.specs.Playing.{with_placed_taken};
-ghost use Rattle.term_model.specs.Step.{bound, changed_association, changed_operation, is_legal, received, step, with_state};
+ghost use Rattle.term_model.specs.Step.{bound, changed_association, changed_operation, is_legal, received, step};
+ghost use Rattle.term_model.specs.Step.{with_state};
 
 use cmip_apdus::apdu_reading::{invocation_in, title_in};
 use cmip_apdus::apdu_writing::bind_answer_frame;
@@ -56,8 +58,8 @@ fn bound(alloc: Global, number: u64, title: Option<Oid>) -> Result<Association, 
     })
 }
 
-/// An association is asked for by a BIND; its number is the next one. Octets that are no BIND are turned away. After want of
-/// memory the agent is as it was.
+/// An association is asked for by a BIND; its number is the next one. Octets that are no BIND are turned away. After
+/// want of memory the agent is as it was.
 pub fn open(
     alloc: Global,
     agent: &mut AgentState,
@@ -102,8 +104,8 @@ fn queue(
     }
 }
 
-/// An APDU of the association under this number arrives; where it brings a request, an operation is queued under the next
-/// number. After want of memory the agent is as it was.
+/// An APDU of the association under this number arrives; where it brings a request, an operation is queued under the
+/// next number. After want of memory the agent is as it was.
 pub fn arrive(
     alloc: Global,
     agent: &mut AgentState,
@@ -154,7 +156,8 @@ fn count_left(association: &Association) -> u64
     }
 }
 
-/// How many bytes of the association under this number are placed and not taken; none where there is no such association.
+/// How many bytes of the association under this number are placed and not taken; none where there is no such
+/// association.
 pub fn count_left_of(agent: &AgentState, number: u64) -> u64
     ensures { result ≡ option_map_or left_to_take (association_of agent.now number) 0 }
 {
@@ -175,7 +178,8 @@ fn take_placed(agent: &mut AgentState, number: u64)
     association.taken = association.placed.items.len() as u64;
 }
 
-/// Takes all that is left of an association, where there is one and something is left; the answer is how many bytes these are.
+/// Takes all that is left of an association, where there is one and something is left; the answer is how many bytes
+/// these are.
 pub fn take_all(agent: &mut AgentState, number: u64) -> u64
     requires room { agent.old.entries + 1 < 2 ^ 64 }
     ensures count { result ≡ option_map_or left_to_take (association_of agent.old number) 0 }

@@ -128,8 +128,8 @@ fn carry_out(
     }
 }
 
-/// The operation under this number, which is granted, is performed; `time` is the text of the moment of its grant. After want
-/// of memory the agent is as it was.
+/// The operation under this number, which is granted, is performed; `time` is the text of the moment of its grant.
+/// After want of memory the agent is as it was.
 pub fn commit(
     alloc: Global,
     agent: &mut AgentState,

@@ -1,6 +1,7 @@
 //! Plays a script on the one-manager agent: the journal that it gives, and the state after it.
 
-ghost use Rattle.std.specs.Prelude.{◌≡◌, ◌+◌, ◌^◌, ◌<◌, ◌≤◌, ◌++◌, [], ◌∷◌, length, vec_capacity, vec_len, IsTrue, OnErr, OnOk, IfOk, IsSome, Some};
+ghost use Rattle.std.specs.Prelude.{◌≡◌, ◌+◌, ◌^◌, ◌<◌, ◌≤◌, ◌++◌, [], ◌∷◌, length, vec_capacity, vec_len, IsTrue};
+ghost use Rattle.std.specs.Prelude.{OnErr, OnOk, IfOk, IsSome, Some};
 ghost use Rattle.std.specs.List.{All};
 ghost use Rattle.term_model.specs.AgentState.{start, with_opened};
 ghost use Rattle.term_model.specs.Bind.{title_in};
@@ -293,8 +294,8 @@ impl Play {
     }
 }
 
-/// The journal of a script on the records of a document, and the agent after it. The script opens an association by a BIND
-/// and sends these APDUs.
+/// The journal of a script on the records of a document, and the agent after it. The script opens an association by a
+/// BIND and sends these APDUs.
 pub fn perform_script(
     alloc: Global,
     schema: Set,
@@ -312,7 +313,8 @@ pub fn perform_script(
     // Its frames are the BIND and these APDUs, in their order, and no others.
     ensures frames { IfOk result (λ play. came sole play.journal ≡ bind ∷ sends.items) }
 
-    // At the end the association is closed, all that was placed for it was taken, and none of its operations is outstanding.
+    // At the end the association is closed, all that was placed for it was taken, and none of its operations is
+    // outstanding.
     ensures settled { IfOk result (λ play. IsSettled play.agent) }
 {
     let mut play = Play::new(alloc, schema, limits)?;

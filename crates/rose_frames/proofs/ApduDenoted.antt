@@ -1,11 +1,13 @@
 -- What denotes an APDU is its tree.
-use Rattle.std.proofs.Common.{◌≡◌, inl, inr, ℕ, zero, suc, ◌<◌, ℤ, pos, List, [], ◌∷◌, Option, None, Some, FitsSigned, refl, sym, ap, ◌∙◌, subst, arith}
+use Rattle.std.proofs.Common.{◌≡◌, inl, inr, ℕ, zero, suc, ◌<◌, ℤ, pos, List, [], ◌∷◌, Option, None, Some, FitsSigned}
+use Rattle.std.proofs.Common.{refl, sym, ap, ◌∙◌, subst, arith}
 use Rattle.std.specs.Int.{w64}
 use Rattle.std.specs.Prelude.{codes}
 use Rattle.std.proofs.lemmas.Option.{same_Some}
 use Rattle.term_values.specs.CmipTypes.{at_most_one, implicit, number, one}
 use Rattle.term_values.specs.Denotes.{Denotes, PartsDenote, PickDenotes}
-use Rattle.term_values.specs.PduSyntaxes.{invoke, invoke_id, operation_result, problem, reject, return_error, return_result}
+use Rattle.term_values.specs.PduSyntaxes.{invoke, invoke_id, operation_result, problem, reject, return_error}
+use Rattle.term_values.specs.PduSyntaxes.{return_result}
 use Rattle.term_values.specs.Syntaxes.{TypeParts}
 use Rattle.term_values.specs.Syntaxes.TypeSyntax.{Any, Choice, NullType}
 use Rattle.term_values.specs.Syntaxes.TypeParts.{NoParts}
@@ -17,10 +19,12 @@ use Rattle.term_values.specs.Typed.{TypedValue, TypedSlots}
 use Rattle.term_values.specs.Typed.TypedValue.{Int, Null, Parts, Pick}
 use Rattle.term_values.specs.Typed.TypedSlots.{NoSlots, Filled, Empty}
 use Rattle.term_values.specs.declared.tag.Tag.{Tag}
-use Rattle.term_model.specs.Apdu.{AnyIsLast, IsApdu, IsLast, IsLastOfLast, any_slot, number_slot, rejected, result_slots}
+use Rattle.term_model.specs.Apdu.{AnyIsLast, IsApdu, IsLast, IsLastOfLast, any_slot, number_slot, rejected}
+use Rattle.term_model.specs.Apdu.{result_slots}
 use Rattle.term_model.specs.declared.apdu.Apdu.{Apdu}
 use Rattle.term_model.specs.declared.apdu.Apdu.TheVariants as apdus
-use Rattle.rose_frames.specs.ApduLaws.{AreTogether, IsId, IsOptionalId, any_tree, linked_tree, rejected_tree, result_tree, whole_tree}
+use Rattle.rose_frames.specs.ApduLaws.{AreTogether, IsId, IsOptionalId, any_tree, linked_tree, rejected_tree}
+use Rattle.rose_frames.specs.ApduLaws.{result_tree, whole_tree}
 use Rattle.rose_frames.proofs.ApduTold.{IsTreeOf}
 use Rattle.rose_frames.proofs.ApduDenoting.{DenotesId, DenotesNumber, allowed_id, parts_of}
 
@@ -41,7 +45,8 @@ id_back tag x n d =
     let same : d.0 ≡ n = sym (ap int_back d.3) in
     (d.1.0 ∙ ap (whole_tree tag) same, subst IsId same (allowed_id d.0 d.2))
 
-number_back : (tag : Tag) (x : TreeValue) (n : ℤ) → DenotesNumber tag x (Int n) → (x ≡ whole_tree tag n) × FitsSigned w64 n
+number_back : (tag : Tag) (x : TreeValue) (n : ℤ) → DenotesNumber tag x (Int n) → (x ≡ whole_tree tag n)
+    × FitsSigned w64 n
 number_back tag x n d =
     let same : d.0 ≡ n = sym (ap int_back d.3) in
     (d.1.0 ∙ ap (whole_tree tag) same, subst (λ m. FitsSigned w64 m) same d.1.1)
@@ -75,7 +80,8 @@ any_denoted (y ∷ ys) (Some x) p =
 
 number_denoted : (xs : List TreeValue) (n : ℤ) (any : Option TreeValue) →
     PartsDenote number_parts xs (Filled (Int n) (any_slot any NoSlots)) →
-    (given : Option TreeValue) × (trees_listed xs ≡ Then (whole_tree (universal 2) n) (any_tree given)) × AreAlike any given
+    (given : Option TreeValue) × (trees_listed xs ≡ Then (whole_tree (universal 2) n) (any_tree given))
+    × AreAlike any given
     × FitsSigned w64 n
 number_denoted [] n any p = elim p [ inl f ↦ absurd f | inr f ↦ absurd f ]
 number_denoted (x ∷ xs) n any p =
@@ -139,7 +145,8 @@ invoke_tree tree id linked op argument a =
     let r = invoke_row d.0 id linked op argument
     (subst (PartsDenote (parts_of invoke) d.0) (sym (ap slots_back d.4)) d.3) in
     let whole : tree ≡ Constructed (context 1) (Then (whole_tree (universal 2) id)
-    (linked_tree linked (Then (whole_tree (universal 2) op) (any_tree r.0)))) = d.2 ∙ ap (Constructed (context 1)) r.1 in
+    (linked_tree linked (Then (whole_tree (universal 2) op) (any_tree r.0)))) = d.2
+    ∙ ap (Constructed (context 1)) r.1 in
     let same : r.0 ≡ argument =
     last_linked (context 1) (whole_tree (universal 2) id) (whole_tree (universal 2) op) linked argument r.0 r.2
     (subst (AnyIsLast argument) whole a.any) in (
@@ -155,7 +162,8 @@ body_parts = one (codes "op") number (one (codes "result") Any NoParts)
 abbrev result_parts : TypeParts
 result_parts = at_most_one [] operation_result NoParts
 
-value_row : (xs : List TreeValue) (value : TreeValue) → PartsDenote (one (codes "result") Any NoParts) xs (any_slot (Some value) NoSlots) →
+value_row : (xs : List TreeValue) (value : TreeValue)
+    → PartsDenote (one (codes "result") Any NoParts) xs (any_slot (Some value) NoSlots) →
     (given : TreeValue) × (trees_listed xs ≡ Then given Nothing)
 value_row [] value p = elim p [ inl f ↦ absurd f | inr f ↦ absurd f ]
 value_row (y ∷ ys) value p =
@@ -167,7 +175,8 @@ no_value (y ∷ ys) p = elim p [ inl f ↦ f | inr f ↦ f ]
 
 body_row : (xs : List TreeValue) (op : ℤ) (value : TreeValue) →
     PartsDenote body_parts xs (Filled (Int op) (any_slot (Some value) NoSlots)) →
-    (given : TreeValue) × (trees_listed xs ≡ Then (whole_tree (universal 2) op) (Then given Nothing)) × FitsSigned w64 op
+    (given : TreeValue) × (trees_listed xs ≡ Then (whole_tree (universal 2) op) (Then given Nothing))
+    × FitsSigned w64 op
 body_row [] op value p = elim p [ inl f ↦ absurd f | inr f ↦ absurd f ]
 body_row (x ∷ xs) op value p =
     elim p [
@@ -204,7 +213,8 @@ result_denoted (y ∷ ys) (Some op) (Some v) p =
 result_denoted [] (Some op) None p = elim p [ inl f ↦ absurd f | inr f ↦ absurd f ]
 result_denoted (y ∷ ys) (Some op) None p =
     elim p [
-      | inl f ↦ let d = f.0 in absurd (no_body d.0 op (subst (PartsDenote body_parts d.0) (sym (ap slots_back d.4)) d.3))
+      | inl f ↦ let d = f.0 in
+          absurd (no_body d.0 op (subst (PartsDenote body_parts d.0) (sym (ap slots_back d.4)) d.3))
       | inr f ↦ absurd f
     ]
 result_denoted [] None (Some v) p = elim p [ inl f ↦ absurd f | inr f ↦ absurd f ]
@@ -234,7 +244,8 @@ abbrev ValueIsLast : Option TreeValue → TreeValue → Type 0
 ValueIsLast None tree = Unit {0}
 ValueIsLast (Some value) tree = IsLastOfLast value tree
 
-last_value : (x : TreeValue) (op : Option ℤ) (value given : Option TreeValue) → AreAlike value given → AreTogether op value →
+last_value : (x : TreeValue) (op : Option ℤ) (value given : Option TreeValue) → AreAlike value given
+    → AreTogether op value →
     ValueIsLast value (Constructed (context 2) (Then x (result_tree op given))) → given ≡ value
 last_value x None None None a t l = refl
 last_value x (Some op) None given a t l = absurd t
@@ -260,14 +271,16 @@ result_is tree id op value a =
     let same : r.0 ≡ value =
     last_value (whole_tree (universal 2) id) op value r.0 r.2 r.3.1
     (subst (ValueIsLast value) whole (result_any id op value tree a)) in (
-      whole ∙ ap (λ (g : Option TreeValue). Constructed (context 2) (Then (whole_tree (universal 2) id) (result_tree op g))) same,
+      whole ∙ ap (λ (g : Option TreeValue). Constructed (context 2)
+          (Then (whole_tree (universal 2) id) (result_tree op g))) same,
       r.3,
     )
 
 error_row : (inside : List TreeValue) (id error : ℤ) (parameter : Option TreeValue) →
     PartsDenote (parts_of return_error) inside (Filled (Int id) (Filled (Int error) (any_slot parameter NoSlots))) →
     (given : Option TreeValue)
-    × (trees_listed inside ≡ Then (whole_tree (universal 2) id) (Then (whole_tree (universal 2) error) (any_tree given)))
+    × (trees_listed inside ≡ Then (whole_tree (universal 2) id)
+    (Then (whole_tree (universal 2) error) (any_tree given)))
     × AreAlike parameter given × (IsId id × FitsSigned w64 error)
 error_row [] id error parameter p = elim p [ inl f ↦ absurd f | inr f ↦ absurd f ]
 error_row (x ∷ xs) id error parameter p =

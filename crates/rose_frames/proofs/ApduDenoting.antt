@@ -1,5 +1,6 @@
 -- The tree of a sound APDU denotes it.
-use Rattle.std.proofs.Common.{◌≡◌, inl, inr, ℕ, zero, suc, ◌<◌, ℤ, pos, negsuc, Bool, true, false, ◌&&◌, ◌||◌, List, [], ◌∷◌, None, Some, FitsSigned, refl, arith}
+use Rattle.std.proofs.Common.{◌≡◌, inl, inr, ℕ, zero, suc, ◌<◌, ℤ, pos, negsuc, Bool, true, false, ◌&&◌, ◌||◌, List, []}
+use Rattle.std.proofs.Common.{◌∷◌, None, Some, FitsSigned, refl, arith}
 use Rattle.std.specs.Int.{w64}
 use Rattle.std.proofs.Math.Dec.{leb}
 use Rattle.std.proofs.lemmas.Bool.{le-leb, leb-true, lt-ltb, ltb-true}
@@ -85,7 +86,10 @@ sound_denotes (apdus.Invoke id None op (Some x)) s =
         whole_tree (universal 2) id ∷ (whole_tree (universal 2) op ∷ (x ∷ [])),
         _,
         refl,
-        inl (id_denotes (universal 2) id s.0, inr (inl (number_denotes (universal 2) op s.2, inl (refl, (refl, refl))))),
+        inl (
+          id_denotes (universal 2) id s.0,
+          inr (inl (number_denotes (universal 2) op s.2, inl (refl, (refl, refl)))),
+        ),
         refl,
       );
       any = refl;

@@ -1,5 +1,6 @@
 -- What is read as an APDU is the tree of it.
-use Rattle.std.proofs.Common.{◌≡◌, ◌⊎◌, inl, inr, ℕ, ◌<◌, ℤ, Bool, true, false, ◌==◌, [], ◌∷◌, Option, None, Some, FitsSigned, refl, sym, ap, ◌∙◌, subst}
+use Rattle.std.proofs.Common.{◌≡◌, ◌⊎◌, inl, inr, ℕ, ◌<◌, ℤ, Bool, true, false, ◌==◌, [], ◌∷◌, Option, None, Some}
+use Rattle.std.proofs.Common.{FitsSigned, refl, sym, ap, ◌∙◌, subst}
 use Rattle.std.specs.Int.{w64}
 use Rattle.std.specs.Prelude.{option_map, option_and_then, if◌then◌else◌, nat_lt}
 use Rattle.std.proofs.lemmas.Bool.{and_parts, eqb-true, ltb-true}
@@ -14,12 +15,15 @@ use Rattle.term_values.specs.declared.tag.Tag.{Tag}
 use Rattle.typed_laws.proofs.Choosing.{if_some, map_some, same_tag, then_some}
 use Rattle.typed_laws.proofs.LeavesTold.{whole_of}
 use Rattle.typed_laws.specs.TreeOctets.{HasOctets, HaveOctets}
-use Rattle.term_model.specs.ApduReading.{apdu_of, at_most_one, error_id, error_in, error_number, id_under, invoke_id, invoke_in, invoke_linked, invoke_operation, is_class, null_in, problem_in, reject_in, rejected_in, result_id, result_in, result_parts, within_32_bits}
+use Rattle.term_model.specs.ApduReading.{apdu_of, at_most_one, error_id, error_in, error_number, id_under, invoke_id}
+use Rattle.term_model.specs.ApduReading.{invoke_in, invoke_linked, invoke_operation, is_class, null_in, problem_in}
+use Rattle.term_model.specs.ApduReading.{reject_in, rejected_in, result_id, result_in, result_parts, within_32_bits}
 use Rattle.term_model.specs.Parts.{contents_under, inside_under, integer_under, two, two_under}
 use Rattle.term_model.specs.RemoteOperation.{is_within_32_bits}
 use Rattle.term_model.specs.declared.apdu.Apdu.{Apdu}
 use Rattle.term_model.specs.declared.apdu.Apdu.TheVariants as apdus
-use Rattle.rose_frames.specs.ApduLaws.{AreTogether, IsId, IsOptionalId, IsSound, any_tree, apdu_tree, linked_tree, rejected_tree, result_tree, whole_tree}
+use Rattle.rose_frames.specs.ApduLaws.{AreTogether, IsId, IsOptionalId, IsSound, any_tree, apdu_tree, linked_tree}
+use Rattle.rose_frames.specs.ApduLaws.{rejected_tree, result_tree, whole_tree}
 
 pub integer_told : (tag : Tag) (x : TreeValue) (n : ℤ) → HasOctets x → integer_under tag x ≡ Some n →
     (x ≡ whole_tree tag n) × FitsSigned w64 n
@@ -32,7 +36,8 @@ integer_told tag (Primitive own contents) n h e =
     let own_is = same_tag own tag t.0 in
     (λ i. Primitive (own_is i) (w.0 i), w.1)
 
-pub id_told : (tag : Tag) (x : TreeValue) (n : ℤ) → HasOctets x → id_under tag x ≡ Some n → (x ≡ whole_tree tag n) × IsId n
+pub id_told : (tag : Tag) (x : TreeValue) (n : ℤ) → HasOctets x → id_under tag x ≡ Some n
+    → (x ≡ whole_tree tag n) × IsId n
 id_told tag x n h e =
     let f = then_some within_32_bits (integer_under tag x) n e in
     let w = if_some (is_within_32_bits f.0) (Some f.0) n f.2 in
@@ -138,7 +143,8 @@ pair_told tag (Constructed own inside) parts e =
     let inside_is = two_told inside parts (ap two (same_Some inside f.0 t.1) ∙ f.2) in
     λ i. Constructed (own_is i) (inside_is i)
   where
-    two_told : (xs : TreeValues) (parts : TreeValue × TreeValue) → two xs ≡ Some parts → xs ≡ Then parts.0 (Then parts.1 Nothing)
+    two_told : (xs : TreeValues) (parts : TreeValue × TreeValue) → two xs ≡ Some parts
+        → xs ≡ Then parts.0 (Then parts.1 Nothing)
     two_told Nothing parts e = absurd (none-some _ e)
     two_told (Then a Nothing) parts e = absurd (none-some _ e)
     two_told (Then a (Then b Nothing)) parts e =
@@ -154,7 +160,14 @@ record Body (id : ℤ) (xs : TreeValues) (apdu : Apdu) : Type 0 where
 
 body_told : (id : ℤ) (xs : TreeValues) (apdu : Apdu) → HaveOctets xs → result_id id xs ≡ Some apdu → Body id xs apdu
 body_told id Nothing apdu h e =
-    record { op = None; value = None; is = sym (same_Some (apdus.Result id None None) apdu e); trees = refl; sound = tt }
+    record {
+      op = None;
+      value = None;
+      is = sym (same_Some (apdus.Result id None None) apdu e);
+      trees =
+          refl;
+      sound = tt;
+    }
 body_told id (Then x (Then y ys)) apdu h e = absurd (none-some _ e)
 body_told id (Then x Nothing) apdu h e =
     let f = then_some (result_parts id) (two_under (universal 16) x) apdu e in
@@ -192,7 +205,8 @@ record Failure (id : ℤ) (xs : TreeValues) (apdu : Apdu) : Type 0 where
   trees : xs ≡ Then (whole_tree (universal 2) error) (any_tree parameter)
   fits : FitsSigned w64 error
 
-failure_told : (id : ℤ) (xs : TreeValues) (apdu : Apdu) → HaveOctets xs → error_id id xs ≡ Some apdu → Failure id xs apdu
+failure_told : (id : ℤ) (xs : TreeValues) (apdu : Apdu) → HaveOctets xs → error_id id xs ≡ Some apdu
+    → Failure id xs apdu
 failure_told id Nothing apdu h e = absurd (none-some _ e)
 failure_told id (Then x xs) apdu h e =
     let f = then_some (λ (f : ℤ × TreeValues). error_number id f.0 f.1)
@@ -257,7 +271,8 @@ reject_told Nothing apdu h e = absurd (none-some _ e)
 reject_told (Then x Nothing) apdu h e = absurd (none-some _ e)
 reject_told (Then x (Then y (Then z zs))) apdu h e = absurd (none-some _ e)
 reject_told (Then x (Then y Nothing)) apdu h e =
-    let f = then_some (λ id. option_map (λ (g : ℕ × ℤ). apdus.Reject id g.0 g.1) (problem_in y)) (rejected_in x) apdu e in
+    let f = then_some (λ id. option_map (λ (g : ℕ × ℤ). apdus.Reject id g.0 g.1) (problem_in y))
+    (rejected_in x) apdu e in
     let m = map_some (λ (g : ℕ × ℤ). apdus.Reject f.0 g.0 g.1) (problem_in y) apdu f.2 in
     let r = rejected_by (is_same_tag (tag_of x) (universal 5)) x f.0 refl h.0 f.1 in
     let p = problem_told y m.0 h.1.0 m.1 in

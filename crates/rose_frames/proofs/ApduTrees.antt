@@ -1,5 +1,6 @@
 -- Sound APDUs and their trees: what is written for them, and what is read of it.
-use Rattle.std.proofs.Common.{◌≡◌, ℕ, ℤ, pos, negsuc, true, List, [], ◌++◌, length, None, Some, FitsSigned, refl, ap, ◌∙◌, arith}
+use Rattle.std.proofs.Common.{◌≡◌, ℕ, ℤ, pos, negsuc, true, List, [], ◌++◌, length, None, Some, FitsSigned, refl, ap}
+use Rattle.std.proofs.Common.{◌∙◌, arith}
 use Rattle.std.specs.Int.{w64}
 use Rattle.std.specs.Prelude.{option_and_then}
 use Rattle.std.proofs.lemmas.Bool.{lt-ltb, ltb-true}
@@ -51,20 +52,26 @@ tree_read (apdus.Reject (Some id) class problem) s =
     rw (id_read id s.0, lt-ltb class 4 s.1, whole_read problem s.2) refl
 
 -- the octets of a constructed value by those inside it
-around : (tag : Tag) (xs ys : List ℕ) → xs ≡ ys → identifier_octets true tag ++ (length_octets (length xs) ++ xs) ≡ encoded true tag ys
+around : (tag : Tag) (xs ys : List ℕ) → xs ≡ ys → identifier_octets true tag
+    ++ (length_octets (length xs) ++ xs) ≡ encoded true tag ys
 around tag xs ys e = ap (encoded true tag) e
 
 pub tree_written : (apdu : Apdu) → written (apdu_tree apdu) ≡ apdu_octets apdu
 tree_written (apdus.Invoke id None op None) =
     around (context 1) _ _ (refl)
 tree_written (apdus.Invoke id None op (Some x)) =
-    around (context 1) _ _ (ap (λ xs. written (whole_tree (universal 2) id) ++ xs) (ap (λ xs. written (whole_tree (universal 2) op) ++ xs) (append-nil (written x))))
+    around (context 1) _ _ (ap (λ xs. written (whole_tree (universal 2) id) ++ xs)
+    (ap (λ xs. written (whole_tree (universal 2) op) ++ xs) (append-nil (written x))))
 tree_written (apdus.Invoke id (Some l) op None) =
     around (context 1) _ _ (refl)
 tree_written (apdus.Invoke id (Some l) op (Some x)) =
-    around (context 1) _ _ (ap (λ xs. written (whole_tree (universal 2) id) ++ xs) (ap (λ xs. written (whole_tree (context 0) l) ++ xs) (ap (λ xs. written (whole_tree (universal 2) op) ++ xs) (append-nil (written x)))))
+    around (context 1) _ _ (ap (λ xs. written (whole_tree (universal 2) id) ++ xs)
+    (ap (λ xs. written (whole_tree (context 0) l) ++ xs)
+    (ap (λ xs. written (whole_tree (universal 2) op) ++ xs) (append-nil (written x)))))
 tree_written (apdus.Result id (Some op) (Some x)) =
-    around (context 2) _ _ (ap (λ xs. written (whole_tree (universal 2) id) ++ xs) (append-nil (written (Constructed (universal 16) (Then (whole_tree (universal 2) op) (Then x Nothing)))) ∙ around (universal 16) _ _ (ap (λ xs. written (whole_tree (universal 2) op) ++ xs) (append-nil (written x)))))
+    around (context 2) _ _ (ap (λ xs. written (whole_tree (universal 2) id) ++ xs)
+    (append-nil (written (Constructed (universal 16) (Then (whole_tree (universal 2) op) (Then x Nothing))))
+    ∙ around (universal 16) _ _ (ap (λ xs. written (whole_tree (universal 2) op) ++ xs) (append-nil (written x)))))
 tree_written (apdus.Result id (Some op) None) =
     around (context 2) _ _ (append-nil (written (whole_tree (universal 2) id)))
 tree_written (apdus.Result id None (Some x)) =
@@ -74,11 +81,14 @@ tree_written (apdus.Result id None None) =
 tree_written (apdus.Error id error None) =
     around (context 3) _ _ (refl)
 tree_written (apdus.Error id error (Some x)) =
-    around (context 3) _ _ (ap (λ xs. written (whole_tree (universal 2) id) ++ xs) (ap (λ xs. written (whole_tree (universal 2) error) ++ xs) (append-nil (written x))))
+    around (context 3) _ _ (ap (λ xs. written (whole_tree (universal 2) id) ++ xs)
+    (ap (λ xs. written (whole_tree (universal 2) error) ++ xs) (append-nil (written x))))
 tree_written (apdus.Reject None class problem) =
-    around (context 4) _ _ (ap (λ xs. written (Primitive (universal 5) []) ++ xs) (append-nil (written (whole_tree (context class) problem))))
+    around (context 4) _ _ (ap (λ xs. written (Primitive (universal 5) []) ++ xs)
+    (append-nil (written (whole_tree (context class) problem))))
 tree_written (apdus.Reject (Some id) class problem) =
-    around (context 4) _ _ (ap (λ xs. written (whole_tree (universal 2) id) ++ xs) (append-nil (written (whole_tree (context class) problem))))
+    around (context 4) _ _ (ap (λ xs. written (whole_tree (universal 2) id) ++ xs)
+    (append-nil (written (whole_tree (context class) problem))))
 
 pub written_is_apdu : WrittenIsApdu
 written_is_apdu apdu s = (tree_written apdu, tree_read apdu s)

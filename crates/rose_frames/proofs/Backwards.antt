@@ -1,5 +1,5 @@
--- What is written with its last octet first: a part that follows stands before it, a header is closed over what it heads,
--- and the whole is turned round at the end.
+-- What is written with its last octet first: a part that follows stands before it, a header is closed over what it
+-- heads, and the whole is turned round at the end.
 use Rattle.std.proofs.Common.{
   ◌≡◌,
   ℕ,
@@ -45,7 +45,8 @@ pub value_closed : (old contents : List ℕ) (tag : Tag) {into now : List ℕ} {
 value_closed old contents tag {into} {now} is counted headed =
     before old (identifier_octets true tag ++ length_octets (length contents)) contents
     (headed ∙ ap (λ n. into ++ reverse (identifier_octets true tag ++ length_octets n)) counted) is
-    ∙ ap (λ xs. old ++ reverse xs) (append_assoc (identifier_octets true tag) (length_octets (length contents)) contents)
+    ∙ ap (λ xs. old ++ reverse xs)
+    (append_assoc (identifier_octets true tag) (length_octets (length contents)) contents)
 
 twice : (xs : List ℕ) → reverse (reverse xs) ≡ xs
 twice [] = refl

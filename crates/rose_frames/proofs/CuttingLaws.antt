@@ -1,5 +1,7 @@
 -- Octets that are fed in pieces, as frames one after another.
-use Rattle.std.proofs.Common.{◌≡◌, ◌⊎◌, ℕ, zero, suc, ◌+◌, ◌-◌, ◌^◌, ◌<◌, ◌≤◌, true, false, ◌&&◌, ◌==◌, inl, inr, List, [], ◌∷◌, ◌++◌, length, take, drop, get_or, min, All, flat_map, Some, None, refl, sym, ap, ◌∙◌, arith, append_assoc, take-append-drop, length-append, length-take, length-drop}
+use Rattle.std.proofs.Common.{◌≡◌, ◌⊎◌, ℕ, zero, suc, ◌+◌, ◌-◌, ◌^◌, ◌<◌, ◌≤◌, true, false, ◌&&◌, ◌==◌, inl, inr, List}
+use Rattle.std.proofs.Common.{[], ◌∷◌, ◌++◌, length, take, drop, get_or, min, All, flat_map, Some, None, refl, sym, ap}
+use Rattle.std.proofs.Common.{◌∙◌, arith, append_assoc, take-append-drop, length-append, length-take, length-drop}
 use Rattle.std.proofs.Math.Dec.{ltb, leb}
 use Rattle.std.proofs.Math.Seq.{take-append-add}
 use Rattle.std.proofs.lemmas.Bool.{le-ltb, lt-ltb, le-leb, eq-eqb, cases_lt}
@@ -11,7 +13,8 @@ use Rattle.term_model.specs.RemoteOperation.{frame}
 use Rattle.rose_frames.specs.Cutting.{Begins, IsFramed}
 use Rattle.rose_frames.specs.declared.frame_refusal.FrameRefusal.{FrameRefusal}
 use Rattle.rose_frames.specs.declared.frame_refusal.FrameRefusal.TheVariants.{Memory}
-use Rattle.rose_frames.specs.Framing.{Framing, announced, fault_of, fault_in, frame_size, in_hand, is_size, is_whole, place_behind}
+use Rattle.rose_frames.specs.Framing.{Framing, announced, fault_of, fault_in, frame_size, in_hand, is_size, is_whole}
+use Rattle.rose_frames.specs.Framing.{place_behind}
 use Rattle.rose_frames.proofs.FramingLaws.{IsSame, both, hand_short, sound_size, take_all, true_not_false}
 
 -- what is taken of a piece stands behind what was held
@@ -21,17 +24,20 @@ hand_grows held rest n e =
     let k = frame_size (held ++ rest) in
     let size : length (in_hand (held ++ rest)) ≡ min k (length (held ++ rest)) = length-take k (held ++ rest) in
     let both_size = length-append held rest in (
-      sym (take_min k (held ++ rest)) ∙ (ap (λ m. take m (held ++ rest)) (sym size ∙ sym e) ∙ take-append-add held rest n),
+      sym (take_min k (held ++ rest))
+          ∙ (ap (λ m. take m (held ++ rest)) (sym size ∙ sym e) ∙ take-append-add held rest n),
       omega (arith, size, both_size, e),
     )
 
-pub is_held : (octets : List ℕ) (size : ℕ) → announced octets ≡ size → length octets ≡ 4 + size → 0 < size → size ≤ 1048576 →
+pub is_held : (octets : List ℕ) (size : ℕ) → announced octets ≡ size → length octets ≡ 4 + size → 0 < size
+    → size ≤ 1048576 →
     is_whole octets ≡ true
 is_held octets size given long some few =
     both (leb 4 (length octets)) (is_size (announced octets) && length octets == 4 + announced octets)
     (le-leb 4 (length octets) (omega (arith, long)))
     (both (is_size (announced octets)) (length octets == 4 + announced octets)
-    (both (ltb 0 (announced octets)) (leb (announced octets) 1048576) (lt-ltb 0 (announced octets) (omega (arith, given, some)))
+    (both (ltb 0 (announced octets)) (leb (announced octets) 1048576)
+    (lt-ltb 0 (announced octets) (omega (arith, given, some)))
     (le-leb (announced octets) 1048576 (omega (arith, given, few))))
     (eq-eqb (length octets) (4 + announced octets) (omega (arith, given, long))))
 
@@ -52,7 +58,8 @@ not_whole_all place octets sound partial =
                 let long : length (in_hand octets) ≡ 4 + announced octets =
                 ap (λ n. length (take n octets)) size ∙ length-take-le (4 + announced octets) octets enough in
                 let same : announced (in_hand octets) ≡ announced octets =
-                ap number (ap (λ n. take 4 (take n octets)) size ∙ take-take 4 (4 + announced octets) octets (omega arith)) in
+                ap number (ap (λ n. take 4 (take n octets)) size
+                ∙ take-take 4 (4 + announced octets) octets (omega arith)) in
                 absurd (true_not_false (sym (is_held (in_hand octets) (announced octets) same long s.0 s.1) ∙ partial))
           ]
     ]
@@ -69,7 +76,8 @@ sound_anywhere place other octets sound =
       | inl short ↦ rw (lt-ltb (length octets) 4 short) refl
       | inr there ↦
           let right : fault_of place (announced octets) ≡ None = rw (le-ltb (length octets) 4 there) at sound in
-          rw (le-ltb (length octets) 4 there) (sound_fault other (announced octets) (sound_size place (announced octets) right))
+          rw (le-ltb (length octets) 4 there)
+          (sound_fault other (announced octets) (sound_size place (announced octets) right))
     ]
 
 -- So much of a piece was fed, and these frames were handed out since.
@@ -122,7 +130,8 @@ fed_on start now later piece part at n old new f rest taken count =
       found = f.found;
       apdus = f.apdus;
       begins = record {
-        whole = f.begins.whole ∙ ap (λ xs. flat_map frame f.found ++ xs) (ap (λ xs. now.octets ++ xs) (sym rest) ∙ whole);
+        whole = f.begins.whole ∙ ap (λ xs. flat_map frame f.found ++ xs)
+            (ap (λ xs. now.octets ++ xs) (sym rest) ∙ whole);
         each = f.begins.each;
       };
       placed = ap (λ (v : Framing). v.place) taken ∙ f.placed;
@@ -146,7 +155,8 @@ pub handed_on : (start now later : Framing) (piece apdu : List ℕ) (at : ℕ) (
     further ≡ new ++ apdu ∷ [] → Feeding start later piece at old further
 handed_on start now later piece apdu at old new further f is framed after more =
     let front : flat_map frame (f.found ++ apdu ∷ []) ≡ flat_map frame f.found ++ now.octets =
-    flat_map-append frame f.found (apdu ∷ []) ∙ ap (λ xs. flat_map frame f.found ++ xs) (append-nil (frame apdu) ∙ sym is) in
+    flat_map-append frame f.found (apdu ∷ [])
+    ∙ ap (λ xs. flat_map frame f.found ++ xs) (append-nil (frame apdu) ∙ sym is) in
     let size : length (flat_map frame (f.found ++ apdu ∷ [])) ≡ length (flat_map frame f.found) + length now.octets =
     ap length front ∙ length-append (flat_map frame f.found) now.octets in
     record {
@@ -186,7 +196,8 @@ ended now later piece part at rest taken sound partial =
     }
 
 pub frame_some : (now : Framing) (apdu : List ℕ) → now.octets ≡ frame apdu → 0 < length now.octets
-frame_some now apdu e = let size : length now.octets ≡ 4 + length apdu = ap length e ∙ omega arith in omega (arith, size)
+frame_some now apdu e = let size : length now.octets ≡ 4 + length apdu =
+    ap length e ∙ omega arith in omega (arith, size)
 
 -- what an answer says of a piece, where it was refused
 abbrev pub IsRefusedAt : Framing → List ℕ → List (List ℕ) → List (List ℕ) → FrameRefusal → Type 0
@@ -195,7 +206,8 @@ IsRefusedAt start piece old new refusal =
     × Begins (start.octets ++ piece) found rest
     × (fault_in (place_behind start.place (length (flat_map frame found))) rest ≡ Some refusal))
 
-pub refusal_of : (start now : Framing) (piece part : List ℕ) (at : ℕ) (old new : List (List ℕ)) (refusal : FrameRefusal) →
+pub refusal_of : (start now : Framing) (piece part : List ℕ) (at : ℕ) (old new : List (List ℕ))
+    (refusal : FrameRefusal) →
     Feeding start now piece at old new → part ≡ drop at piece →
     (refusal ≡ Memory) ⊎ (fault_in now.place (now.octets ++ part) ≡ Some refusal) →
     IsRefusedAt start piece old new refusal

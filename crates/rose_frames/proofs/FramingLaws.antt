@@ -1,15 +1,19 @@
 -- What is held of a stream, by the four octets of the length and what stands behind them.
-use Rattle.std.proofs.Common.{◌≡◌, ◌⊎◌, inl, inr, ℕ, ◌+◌, ◌-◌, ◌<◌, ◌≤◌, Bool, true, false, not, All, ◌&&◌, ◌==◌, List, [], ◌∷◌, ◌++◌, length, take, drop, min, Some, None, refl, sym, ap, ◌∙◌, subst, arith, zero, suc, append_assoc, take-append-drop, length-append, length-take}
+use Rattle.std.proofs.Common.{◌≡◌, ◌⊎◌, inl, inr, ℕ, ◌+◌, ◌-◌, ◌<◌, ◌≤◌, Bool, true, false, not, All, ◌&&◌, ◌==◌, List}
+use Rattle.std.proofs.Common.{[], ◌∷◌, ◌++◌, length, take, drop, min, Some, None, refl, sym, ap, ◌∙◌, subst, arith}
+use Rattle.std.proofs.Common.{zero, suc, append_assoc, take-append-drop, length-append, length-take}
 use Rattle.std.proofs.Math.Dec.{ltb, leb}
 use Rattle.std.proofs.Math.Seq.{take-length, take-append-add}
-use Rattle.std.proofs.lemmas.Bool.{le-ltb, lt-ltb, ltb-true, le-leb, lt-leb, leb-true, eqb-true, eq-eqb, cases_lt, and_parts}
+use Rattle.std.proofs.lemmas.Bool.{le-ltb, lt-ltb, ltb-true, le-leb, lt-leb, leb-true, eqb-true, eq-eqb, cases_lt}
+use Rattle.std.proofs.lemmas.Bool.{and_parts}
 use Rattle.std.proofs.lemmas.List.{append-nil, take_at, take_min, take_rest, length-take-le}
 use Rattle.term_values.proofs.NumberLaws.{octets-number}
 use Rattle.term_values.specs.Octets.{number, octets}
 use Rattle.term_model.specs.RemoteOperation.{frame}
 use Rattle.rose_frames.specs.Cutting.{IsFramed}
 use Rattle.rose_frames.specs.declared.frame_refusal.FrameRefusal.{FrameRefusal}
-use Rattle.rose_frames.specs.Framing.{Framing, announced, fault_of, fault_in, frame_size, in_hand, is_begun, is_size, is_whole, place_inside}
+use Rattle.rose_frames.specs.Framing.{Framing, announced, fault_of, fault_in, frame_size, in_hand, is_begun, is_size}
+use Rattle.rose_frames.specs.Framing.{is_whole, place_inside}
 
 pub true_not_false : true ≡ false → ⊥
 true_not_false e = absurd (cc)
@@ -27,7 +31,8 @@ pub announced_is : (head rest : List ℕ) → length head ≡ 4 → announced (h
 announced_is head rest four = ap number (take_at head rest 4 four)
 
 -- the length is there
-pub fault_long : (place : ℕ) (head rest : List ℕ) → length head ≡ 4 → fault_in place (head ++ rest) ≡ fault_of place (number head)
+pub fault_long : (place : ℕ) (head rest : List ℕ) → length head ≡ 4
+    → fault_in place (head ++ rest) ≡ fault_of place (number head)
 fault_long place head rest four =
     rw (le-ltb (length (head ++ rest)) 4 (longer head rest four), announced_is head rest four) refl
 
@@ -76,14 +81,16 @@ length_filled filled size apdu f = length-take-le filled size (omega (arith, f.f
 -- a length that is not yet whole
 pub still_short : (filled more : ℕ) (size apdu piece size-2 : List ℕ) → Fields filled size apdu → filled + more < 4 →
     take (filled + more) size-2 ≡ take filled size ++ take more piece → more ≡ min (length piece) (4 - filled) →
-    (held_octets filled size apdu ++ piece ≡ take (filled + more) size-2) × (length (held_octets filled size apdu) ≡ filled)
+    (held_octets filled size apdu ++ piece ≡ take (filled + more) size-2)
+    × (length (held_octets filled size apdu) ≡ filled)
     × (length piece ≡ more)
 still_short filled more size apdu piece size-2 f short is count =
     let nothing : apdu ≡ [] = f.none_yet (omega arith) in
     let all : length piece ≡ more = omega (arith, f.within) in
     let front : held_octets filled size apdu ≡ take filled size =
     ap (λ xs. take filled size ++ xs) nothing ∙ append-nil (take filled size) in (
-      ap (λ xs. xs ++ piece) front ∙ (ap (λ xs. take filled size ++ xs) (sym (take_all piece more (omega arith))) ∙ sym is),
+      ap (λ xs. xs ++ piece) front
+          ∙ (ap (λ xs. take filled size ++ xs) (sym (take_all piece more (omega arith))) ∙ sym is),
       ap length front ∙ length_filled filled size apdu f,
       all,
     )
@@ -100,11 +107,13 @@ pub record Long (now : Framing) (place filled more : ℕ) (size apdu piece full 
   pub is : take (filled + more) full ≡ take filled size ++ take more piece
   pub count : more ≡ min (length piece) (4 - filled)
 
-exactly : {now : Framing} {place filled more : ℕ} {size apdu piece full : List ℕ} → Long now place filled more size apdu piece full →
+exactly : {now : Framing} {place filled more : ℕ} {size apdu piece full : List ℕ}
+    → Long now place filled more size apdu piece full →
     filled + more ≡ 4
 exactly l = let within = l.fields.within in omega (arith, l.whole, l.count)
 
-front : {now : Framing} {place filled more : ℕ} {size apdu piece full : List ℕ} → Long now place filled more size apdu piece full →
+front : {now : Framing} {place filled more : ℕ} {size apdu piece full : List ℕ}
+    → Long now place filled more size apdu piece full →
     full ≡ take filled size ++ take more piece
 front {filled = filled} {more = more} {full = full} l =
     let four = l.four in
@@ -123,36 +132,42 @@ split filled (suc more) size apdu piece f e =
     ∙ (sym (append_assoc (take filled size) (take (suc more) piece) (drop (suc more) piece))
     ∙ ap (λ xs. (take filled size ++ take (suc more) piece) ++ (xs ++ drop (suc more) piece)) (sym nothing))))
 
-pub joined : {now : Framing} {place filled more : ℕ} {size apdu piece full : List ℕ} → Long now place filled more size apdu piece full →
+pub joined : {now : Framing} {place filled more : ℕ} {size apdu piece full : List ℕ}
+    → Long now place filled more size apdu piece full →
     now.octets ++ piece ≡ full ++ (apdu ++ drop more piece)
 joined {filled = filled} {more = more} {size = size} {apdu = apdu} {piece = piece} l =
     ap (λ (v : Framing). v.octets ++ piece) (sym l.view)
     ∙ (split filled more size apdu piece l.fields (exactly l)
     ∙ ap (λ xs. xs ++ (apdu ++ drop more piece)) (sym (front l)))
 
-pub placed : {now : Framing} {place filled more : ℕ} {size apdu piece full : List ℕ} → Long now place filled more size apdu piece full →
+pub placed : {now : Framing} {place filled more : ℕ} {size apdu piece full : List ℕ}
+    → Long now place filled more size apdu piece full →
     now.place ≡ place
 placed l = ap (λ (v : Framing). v.place) (sym l.view)
 
-pub fault_now : {now : Framing} {place filled more : ℕ} {size apdu piece full : List ℕ} → Long now place filled more size apdu piece full →
+pub fault_now : {now : Framing} {place filled more : ℕ} {size apdu piece full : List ℕ}
+    → Long now place filled more size apdu piece full →
     fault_in now.place (now.octets ++ piece) ≡ fault_of place (number full)
 fault_now {now = now} {place = place} {more = more} {apdu = apdu} {piece = piece} {full = full} l =
     ap (λ p. fault_in p (now.octets ++ piece)) (placed l)
     ∙ (ap (fault_in place) (joined l) ∙ fault_long place full (apdu ++ drop more piece) l.four)
 
-pub length_now : {now : Framing} {place filled more : ℕ} {size apdu piece full : List ℕ} → Long now place filled more size apdu piece full →
+pub length_now : {now : Framing} {place filled more : ℕ} {size apdu piece full : List ℕ}
+    → Long now place filled more size apdu piece full →
     take 4 (now.octets ++ piece) ≡ full
 length_now {more = more} {apdu = apdu} {piece = piece} {full = full} l =
     ap (take 4) (joined l) ∙ take_at full (apdu ++ drop more piece) 4 l.four
 
-pub hand_now : {now : Framing} {place filled more : ℕ} {size apdu piece full : List ℕ} → Long now place filled more size apdu piece full →
+pub hand_now : {now : Framing} {place filled more : ℕ} {size apdu piece full : List ℕ}
+    → Long now place filled more size apdu piece full →
     length apdu ≤ number full →
     in_hand (now.octets ++ piece) ≡ full ++ (apdu ++ take (number full - length apdu) (drop more piece))
 hand_now {more = more} {apdu = apdu} {piece = piece} {full = full} l within =
     ap in_hand (joined l) ∙ hand_long full apdu (drop more piece) l.four within
 
 -- the length was whole before
-same_length : {now : Framing} {place filled more : ℕ} {size apdu piece full : List ℕ} → Long now place filled more size apdu piece full →
+same_length : {now : Framing} {place filled more : ℕ} {size apdu piece full : List ℕ}
+    → Long now place filled more size apdu piece full →
     4 ≤ filled → (more ≡ 0) × (full ≡ size)
 same_length {filled = filled} {more = more} {size = size} {piece = piece} l there =
     let nothing : more ≡ 0 = omega (arith, exactly l) in
@@ -162,7 +177,8 @@ same_length {filled = filled} {more = more} {size = size} {piece = piece} l ther
           ∙ (append-nil (take filled size) ∙ take_all size filled (omega (arith, four, there)))),
     )
 
-held_length : {now : Framing} {place filled more : ℕ} {size apdu piece full : List ℕ} → Long now place filled more size apdu piece full →
+held_length : {now : Framing} {place filled more : ℕ} {size apdu piece full : List ℕ}
+    → Long now place filled more size apdu piece full →
     filled < 4 → length now.octets < 4
 held_length {filled = filled} {size = size} {apdu = apdu} l short =
     let nothing : apdu ≡ [] = l.fields.none_yet short in
@@ -171,7 +187,8 @@ held_length {filled = filled} {size = size} {apdu = apdu} l short =
     ∙ (ap length (append-nil (take filled size)) ∙ length_filled filled size apdu l.fields) in
     subst (λ (v : Framing). length v.octets < 4) l.view (omega (arith, is, short))
 
-held_long : {now : Framing} {place filled more : ℕ} {size apdu piece full : List ℕ} → Long now place filled more size apdu piece full →
+held_long : {now : Framing} {place filled more : ℕ} {size apdu piece full : List ℕ}
+    → Long now place filled more size apdu piece full →
     4 ≤ filled → now.octets ≡ full ++ apdu
 held_long {filled = filled} {size = size} {apdu = apdu} {full = full} l there =
     let four = l.fields.four in
@@ -179,8 +196,10 @@ held_long {filled = filled} {size = size} {apdu = apdu} {full = full} l there =
     ∙ ap (λ xs. xs ++ apdu) (take_all size filled (omega (arith, four, there)) ∙ sym (same_length l there).1)
 
 -- what was wrong before is wrong now
-pub fault_before : {now : Framing} {place filled more : ℕ} {size apdu piece full : List ℕ} → Long now place filled more size apdu piece full →
-    (fault_in now.place now.octets ≡ None) ⊎ ((4 ≤ filled) × (fault_in now.place now.octets ≡ fault_of place (number full)))
+pub fault_before : {now : Framing} {place filled more : ℕ} {size apdu piece full : List ℕ}
+    → Long now place filled more size apdu piece full →
+    (fault_in now.place now.octets ≡ None)
+    ⊎ ((4 ≤ filled) × (fault_in now.place now.octets ≡ fault_of place (number full)))
 fault_before {now = now} {place = place} {filled = filled} {apdu = apdu} {full = full} l =
     elim (cases_lt filled 4) [
       | inr there ↦ inr (
@@ -192,7 +211,8 @@ fault_before {now = now} {place = place} {filled = filled} {apdu = apdu} {full =
     ]
 
 -- a length that is wrong
-pub faulty_size : (place size : ℕ) (refusal : FrameRefusal) → fault_of place size ≡ Some refusal → (size ≡ 0) ⊎ (1048576 < size)
+pub faulty_size : (place size : ℕ) (refusal : FrameRefusal) → fault_of place size ≡ Some refusal → (size ≡ 0)
+    ⊎ (1048576 < size)
 faulty_size place size refusal e = grind (arith, e)
 
 pub sound_size : (place size : ℕ) → fault_of place size ≡ None → (0 < size) × (size ≤ 1048576)
@@ -202,7 +222,8 @@ none_left : (xs : List ℕ) → length xs ≡ 0 → xs ≡ []
 none_left [] e = refl
 none_left (x ∷ xs) e = absurd (omega (arith, e))
 
-pub faulty_empty : {now : Framing} {place filled more : ℕ} {size apdu piece full : List ℕ} → Long now place filled more size apdu piece full →
+pub faulty_empty : {now : Framing} {place filled more : ℕ} {size apdu piece full : List ℕ}
+    → Long now place filled more size apdu piece full →
     (refusal : FrameRefusal) → fault_of place (number full) ≡ Some refusal → apdu ≡ []
 faulty_empty {place = place} {filled = filled} {apdu = apdu} {full = full} l refusal e =
     elim (cases_lt filled 4) [
@@ -217,7 +238,8 @@ faulty_empty {place = place} {filled = filled} {apdu = apdu} {full = full} l ref
     ]
 
 -- as much of the length as there is has an APDU that is at most as long
-pub due_within : {now : Framing} {place filled more : ℕ} {size apdu piece full : List ℕ} → Long now place filled more size apdu piece full →
+pub due_within : {now : Framing} {place filled more : ℕ} {size apdu piece full : List ℕ}
+    → Long now place filled more size apdu piece full →
     length apdu ≤ number full
 due_within {filled = filled} {apdu = apdu} {full = full} l =
     elim (cases_lt filled 4) [
@@ -231,24 +253,28 @@ due_within {filled = filled} {apdu = apdu} {full = full} l =
 due_taken : (n due : ℕ) (xs : List ℕ) → due ≡ min (length xs) n → take due xs ≡ take n xs
 due_taken n due xs e = ap (λ k. take k xs) (e ∙ omega arith) ∙ take_min n xs
 
-held_size : {now : Framing} {place filled more : ℕ} {size apdu piece full : List ℕ} → Long now place filled more size apdu piece full →
+held_size : {now : Framing} {place filled more : ℕ} {size apdu piece full : List ℕ}
+    → Long now place filled more size apdu piece full →
     length now.octets ≡ filled + length apdu
 held_size {filled = filled} {size = size} {apdu = apdu} l =
     ap (λ (v : Framing). length v.octets) (sym l.view)
     ∙ (length-append (take filled size) apdu ∙ ap (λ n. n + length apdu) (length_filled filled size apdu l.fields))
 
 -- what is taken of a piece
-pub fed : {now : Framing} {place filled more : ℕ} {size apdu piece full : List ℕ} → Long now place filled more size apdu piece full →
+pub fed : {now : Framing} {place filled more : ℕ} {size apdu piece full : List ℕ}
+    → Long now place filled more size apdu piece full →
     (due : ℕ) (grown : List ℕ) → due ≡ min (length (drop more piece)) (number full - length apdu) →
     grown ≡ apdu ++ take due (drop more piece) →
     IsSame (record { place = place; octets = take 4 full ++ grown })
     (record { place = now.place; octets = in_hand (now.octets ++ piece) })
     × (length now.octets + (more + due) ≡ length (take 4 full ++ grown))
-fed {now = now} {place = place} {filled = filled} {more = more} {apdu = apdu} {piece = piece} {full = full} l due grown is grows =
+fed {now = now} {place = place} {filled = filled} {more = more} {apdu = apdu} {piece = piece} {full = full} l due
+    grown is grows =
     let whole : take 4 full ≡ full = take_all full 4 (omega (arith, l.four)) in
     let hand : take 4 full ++ grown ≡ in_hand (now.octets ++ piece) =
     ap (λ xs. xs ++ grown) whole
-    ∙ (ap (λ xs. full ++ xs) (grows ∙ ap (λ xs. apdu ++ xs) (due_taken (number full - length apdu) due (drop more piece) is))
+    ∙ (ap (λ xs. full ++ xs)
+    (grows ∙ ap (λ xs. apdu ++ xs) (due_taken (number full - length apdu) due (drop more piece) is))
     ∙ sym (hand_now l (due_within l))) in
     let few : due ≤ length (drop more piece) = omega (arith, is) in
     let grown_size : length grown ≡ length apdu + due =
@@ -278,7 +304,8 @@ pub whole_fields : (now : Framing) (place filled : ℕ) (size apdu : List ℕ) �
 whole_fields now place filled size apdu f view there =
     let four = f.four in
     let is : now.octets ≡ size ++ apdu =
-    ap (λ (v : Framing). v.octets) (sym view) ∙ ap (λ xs. xs ++ apdu) (take_all size filled (omega (arith, four, there))) in
+    ap (λ (v : Framing). v.octets) (sym view)
+    ∙ ap (λ xs. xs ++ apdu) (take_all size filled (omega (arith, four, there))) in
     let long : length (size ++ apdu) ≡ 4 + length apdu = length-append size apdu ∙ ap (λ n. n + length apdu) f.four in (
       is,
       ap is_whole is ∙ (whole_long size apdu f.four
@@ -286,26 +313,32 @@ whole_fields now place filled size apdu f view there =
     )
 
 -- nothing is taken exactly where a frame is held or nothing comes
-pub nothing_taken : {now : Framing} {place filled more : ℕ} {size apdu piece full : List ℕ} → Long now place filled more size apdu piece full →
+pub nothing_taken : {now : Framing} {place filled more : ℕ} {size apdu piece full : List ℕ}
+    → Long now place filled more size apdu piece full →
     (is_whole now.octets ≡ true) ⊎ (piece ≡ []) →
     (more ≡ 0) × (min (length (drop more piece)) (number full - length apdu) ≡ 0)
-nothing_taken {now = now} {place = place} {filled = filled} {more = more} {size = size} {apdu = apdu} {piece = piece} {full = full} l (inr empty) =
+nothing_taken {now = now} {place = place} {filled = filled} {more = more} {size = size} {apdu = apdu} {piece = piece}
+    {full = full} l (inr empty) =
     let none_more : more ≡ 0 = omega (arith, l.count, ap length empty) in
     (none_more, omega (arith, ap (λ n. length (drop n piece)) none_more, ap length empty))
-nothing_taken {now = now} {place = place} {filled = filled} {more = more} {size = size} {apdu = apdu} {piece = piece} {full = full} l (inl whole) =
+nothing_taken {now = now} {place = place} {filled = filled} {more = more} {size = size} {apdu = apdu} {piece = piece}
+    {full = full} l (inl whole) =
     elim (cases_lt filled 4) [
       | inl short ↦ absurd (true_not_false (sym whole ∙ whole_short now.octets (held_length l short)))
       | inr there ↦
           let w = whole_fields now place filled size apdu l.fields l.view there in
           let equal : length apdu ≡ number size =
-          eqb-true (length apdu) (number size) (and_parts (is_size (number size)) (length apdu == number size) (sym w.1 ∙ whole)).1 in
+          eqb-true (length apdu) (number size)
+          (and_parts (is_size (number size)) (length apdu == number size) (sym w.1 ∙ whole)).1 in
           ((same_length l there).0, omega (arith, equal, ap number (same_length l there).1))
     ]
 
-pub none_taken : {now : Framing} {place filled more : ℕ} {size apdu piece full : List ℕ} → Long now place filled more size apdu piece full →
+pub none_taken : {now : Framing} {place filled more : ℕ} {size apdu piece full : List ℕ}
+    → Long now place filled more size apdu piece full →
     more + min (length (drop more piece)) (number full - length apdu) ≡ 0 → fault_of place (number full) ≡ None →
     (is_whole now.octets ≡ true) ⊎ (piece ≡ [])
-none_taken {now = now} {place = place} {filled = filled} {more = more} {size = size} {apdu = apdu} {piece = piece} {full = full} l none_now sound =
+none_taken {now = now} {place = place} {filled = filled} {more = more} {size = size} {apdu = apdu} {piece = piece}
+    {full = full} l none_now sound =
     let there : 4 ≤ filled = omega (arith, exactly l, none_now) in
     let s = sound_size place (number full) sound in
     let w = whole_fields now place filled size apdu l.fields l.view there in
@@ -322,7 +355,8 @@ none_taken {now = now} {place = place} {filled = filled} {more = more} {size = s
     ]
 
 -- what is wrong now was right before, where nothing is wrong now
-pub sound_before : {now : Framing} {place filled more : ℕ} {size apdu piece full : List ℕ} → Long now place filled more size apdu piece full →
+pub sound_before : {now : Framing} {place filled more : ℕ} {size apdu piece full : List ℕ}
+    → Long now place filled more size apdu piece full →
     fault_of place (number full) ≡ None → fault_in now.place now.octets ≡ None
 sound_before l sound = elim (fault_before l) [ inl right ↦ right | inr same ↦ same.1 ∙ sound ]
 
@@ -336,7 +370,8 @@ due_is piece apdu full more due size begun e sized length_is =
     ∙ ap (λ n. min (length (drop more piece)) (number full - n)) length_is))
 
 -- what is left of a frame whose length is wrong
-pub refused : {now : Framing} {place filled more : ℕ} {size apdu piece full : List ℕ} → Long now place filled more size apdu piece full →
+pub refused : {now : Framing} {place filled more : ℕ} {size apdu piece full : List ℕ}
+    → Long now place filled more size apdu piece full →
     (refusal : FrameRefusal) → fault_of place (number full) ≡ Some refusal →
     IsSame (record { place = place; octets = take 4 full ++ apdu })
     (record { place = now.place; octets = take 4 (now.octets ++ piece) })
@@ -349,7 +384,8 @@ pub no_fewer : (due : ℕ) (xs : List ℕ) → due ≡ 0 → 0 < length (take du
 no_fewer due xs e some = omega (arith, length-take due xs, e, some)
 
 pub fields_size : (now : Framing) (place filled : ℕ) (size apdu : List ℕ) → Fields filled size apdu →
-    IsSame (record { place = place; octets = held_octets filled size apdu }) now → length now.octets ≡ filled + length apdu
+    IsSame (record { place = place; octets = held_octets filled size apdu }) now
+    → length now.octets ≡ filled + length apdu
 fields_size now place filled size apdu f view =
     ap (λ (v : Framing). length v.octets) (sym view)
     ∙ (length-append (take filled size) apdu ∙ ap (λ n. n + length apdu) (length_filled filled size apdu f))
@@ -371,7 +407,8 @@ framed now place filled size apdu f view whole each =
     elim (cases_lt filled 4) [
       | inl short ↦
           let none_yet = ap length (f.none_yet short) in
-          let few : length now.octets < 4 = omega (arith, fields_size now place filled size apdu f view, none_yet, short) in
+          let few : length now.octets < 4 =
+          omega (arith, fields_size now place filled size apdu f view, none_yet, short) in
           absurd (true_not_false (sym whole ∙ whole_short now.octets few))
       | inr there ↦
           let w = whole_fields now place filled size apdu f view there in
@@ -381,7 +418,10 @@ framed now place filled size apdu f view whole each =
           let head : octets 4 (length apdu) ≡ size =
           ap (octets 4) equal ∙ (ap (λ n. octets n (number size)) (sym f.four) ∙ octets-number size each) in (
             w.0 ∙ ap (λ xs. xs ++ apdu) (sym head),
-            (omega (arith, ltb-true 0 (number size) bounds.0, equal), omega (arith, leb-true (number size) 1048576 bounds.1, equal)),
+            (
+              omega (arith, ltb-true 0 (number size) bounds.0, equal),
+              omega (arith, leb-true (number size) 1048576 bounds.1, equal),
+            ),
             ap length w.0 ∙ (length-append size apdu ∙ ap (λ n. n + length apdu) f.four),
           )
     ]

@@ -14,7 +14,8 @@ octets_below : (count n : ℕ) → All (λ x. x < 256) (octets count n)
 octets_below count n = λ k d h. below_at count n k d h
 
 big_is : (n : ℕ) → big_bytes 4 n ≡ octets 4 n
-big_is n = ap (λ m. (n / 256 ^ 3 % 256) ∷ ((n / 256 ^ 2 % 256) ∷ ((n / 256 ^ 1 % 256) ∷ ((m % 256) ∷ [])))) (sym (div-one n))
+big_is n = ap (λ m. (n / 256 ^ 3 % 256) ∷ ((n / 256 ^ 2 % 256) ∷ ((n / 256 ^ 1 % 256) ∷ ((m % 256) ∷ []))))
+    (sym (div-one n))
 
 same_octets : (n : ℕ) → octets 4 (n % 256 ^ 4) ≡ octets 4 n
 same_octets n =

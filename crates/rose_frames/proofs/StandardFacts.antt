@@ -33,7 +33,8 @@ example_zero : fault_in 12 (0 ∷ 0 ∷ 0 ∷ 0 ∷ 0xA2 ∷ []) ≡ Some (ZeroL
 example_zero = refl
 
 -- the frame of the result without a value of invoke 2
-example_result : frame (apdu_octets (apdus.Result (pos 2) None None)) ≡ 0 ∷ 0 ∷ 0 ∷ 5 ∷ 0xA2 ∷ 0x03 ∷ 0x02 ∷ 0x01 ∷ 0x02 ∷ []
+example_result : frame (apdu_octets (apdus.Result (pos 2) None None)) ≡ 0 ∷ 0 ∷ 0 ∷ 5 ∷ 0xA2 ∷ 0x03 ∷ 0x02
+    ∷ 0x01 ∷ 0x02 ∷ []
 unfolding integer_contents identifier_octets length_octets
 example_result = refl
 
@@ -52,7 +53,8 @@ example_linked = refl
 
 -- the same without the operation
 example_mistyped : apdu_of
-    (Constructed (context 1) (Then (Primitive (universal 2) (2 ∷ [])) (Then (Primitive (context 0) (1 ∷ [])) Nothing))) ≡ None
+    (Constructed (context 1)
+    (Then (Primitive (universal 2) (2 ∷ [])) (Then (Primitive (context 0) (1 ∷ [])) Nothing))) ≡ None
 unfolding integer_in
 example_mistyped = refl
 

@@ -1,5 +1,7 @@
 -- Whole streams: that they are cut in one way, and what each piece adds.
-use Rattle.std.proofs.Common.{◌≡◌, ◌⊎◌, inl, inr, ℕ, zero, suc, ◌+◌, ◌-◌, ◌^◌, ◌<◌, ◌≤◌, Bool, true, false, ◌&&◌, List, [], ◌∷◌, ◌++◌, length, take, drop, get_or, All, flat_map, Some, None, refl, sym, ap, ◌∙◌, subst, arith, append_assoc, take-append-drop, length-append}
+use Rattle.std.proofs.Common.{◌≡◌, ◌⊎◌, inl, inr, ℕ, zero, suc, ◌+◌, ◌-◌, ◌^◌, ◌<◌, ◌≤◌, Bool, true, false, ◌&&◌, List}
+use Rattle.std.proofs.Common.{[], ◌∷◌, ◌++◌, length, take, drop, get_or, All, flat_map, Some, None, refl, sym, ap, ◌∙◌}
+use Rattle.std.proofs.Common.{subst, arith, append_assoc, take-append-drop, length-append}
 use Rattle.std.proofs.lemmas.Bool.{le-ltb, lt-leb, cases_lt}
 use Rattle.std.proofs.Math.Dec.{ltb, leb}
 use Rattle.std.proofs.Math.Seq.{take-length}
@@ -12,7 +14,8 @@ use Rattle.term_model.specs.RemoteOperation.{frame}
 use Rattle.rose_frames.specs.Cutting.{Begins, IsCut, IsFramed, OneCut, joined, place_after}
 use Rattle.rose_frames.specs.declared.frame_refusal.FrameRefusal.{FrameRefusal}
 use Rattle.rose_frames.specs.declared.frame_refusal.FrameRefusal.TheVariants.{Memory}
-use Rattle.rose_frames.specs.Framing.{Framing, announced, fault_of, fault_in, frame_size, in_hand, is_size, is_whole, place_behind}
+use Rattle.rose_frames.specs.Framing.{Framing, announced, fault_of, fault_in, frame_size, in_hand, is_size, is_whole}
+use Rattle.rose_frames.specs.Framing.{place_behind}
 use Rattle.rose_frames.proofs.CuttingLaws.{IsRefusedAt, all_none, is_held}
 use Rattle.rose_frames.proofs.FramingLaws.{IsSame, announced_is, fault_short, faulty_size, hand_long, true_not_false}
 
@@ -24,9 +27,11 @@ whole_frame apdu rest framed =
     let size : number head ≡ length apdu = number-octets_all 4 (length apdu) (omega (arith, framed.1)) in
     let hand : in_hand (frame apdu ++ rest) ≡ head ++ take (number head - 0) (apdu ++ rest) =
     ap in_hand (append_assoc head apdu rest) ∙ hand_long head [] (apdu ++ rest) refl (omega arith) in
-    let taken : take (number head - 0) (apdu ++ rest) ≡ apdu = take_at apdu rest (number head - 0) (omega (arith, size)) in (
+    let taken : take (number head - 0) (apdu ++ rest) ≡ apdu =
+    take_at apdu rest (number head - 0) (omega (arith, size)) in (
       hand ∙ ap (λ xs. head ++ xs) taken,
-      is_held (frame apdu) (length apdu) (announced_is head apdu refl ∙ size) (length-append head apdu) framed.0 framed.1,
+      is_held (frame apdu) (length apdu) (announced_is head apdu refl ∙ size) (length-append head apdu)
+          framed.0 framed.1,
     )
 
 same_apdu : (apdu other : List ℕ) → frame apdu ≡ frame other → apdu ≡ other
@@ -49,8 +54,10 @@ not_left bytes rest others apdu apdus left stops b =
 
 pub one_way : OneCut
 one_way bytes rest others [] [] c d = (refl, sym c.begins.whole ∙ d.begins.whole)
-one_way bytes rest others [] (b ∷ further_b) c d = absurd (not_left bytes rest others b further_b c.begins.whole c.stops d.begins)
-one_way bytes rest others (a ∷ further_a) [] c d = absurd (not_left bytes others rest a further_a d.begins.whole d.stops c.begins)
+one_way bytes rest others [] (b ∷ further_b) c d =
+    absurd (not_left bytes rest others b further_b c.begins.whole c.stops d.begins)
+one_way bytes rest others (a ∷ further_a) [] c d =
+    absurd (not_left bytes others rest a further_a d.begins.whole d.stops c.begins)
 one_way bytes rest others (a ∷ further_a) (b ∷ further_b) c d =
     let x = flat_map frame further_a ++ rest in
     let y = flat_map frame further_b ++ others in
@@ -61,7 +68,8 @@ one_way bytes rest others (a ∷ further_a) (b ∷ further_b) c d =
     let same : frame a ≡ frame b = sym (ap in_hand one ∙ v.0) ∙ (ap in_hand two ∙ w.0) in
     let left : x ≡ y =
     sym (drop_at (frame a) x (length (frame a)) refl)
-    ∙ (ap (λ xs. drop (length (frame a)) xs) (sym one ∙ two) ∙ drop_at (frame b) y (length (frame a)) (ap length (sym same))) in
+    ∙ (ap (λ xs. drop (length (frame a)) xs) (sym one ∙ two)
+    ∙ drop_at (frame b) y (length (frame a)) (ap length (sym same))) in
     let further = one_way x rest others further_a further_b
     (record { begins = record { whole = refl; each = each_other a further_a c.begins.each }; stops = c.stops })
     (record { begins = record { whole = left; each = each_other b further_b d.begins.each }; stops = d.stops }) in
@@ -91,8 +99,10 @@ faulty_stops place rest more refusal fault =
           let wrong : fault_of place (announced rest) ≡ Some refusal = rw (le-ltb (length rest) 4 there) at fault in
           let size : frame_size whole ≡ 4 + announced rest = rw (le-ltb (length whole) 4 long, same) refl in
           let hand : announced (in_hand whole) ≡ announced rest =
-          ap number (ap (λ n. take 4 (take n whole)) size ∙ take-take 4 (4 + announced rest) whole (omega arith)) ∙ same in (
-            stops_by (in_hand whole) (ap is_size hand ∙ not_size (announced rest) (faulty_size place (announced rest) refusal wrong)),
+          ap number (ap (λ n. take 4 (take n whole)) size
+          ∙ take-take 4 (4 + announced rest) whole (omega arith)) ∙ same in (
+            stops_by (in_hand whole)
+                (ap is_size hand ∙ not_size (announced rest) (faulty_size place (announced rest) refusal wrong)),
             rw (le-ltb (length whole) 4 long, same) wrong,
           )
     ]
@@ -131,7 +141,8 @@ begins_on : (bytes piece held rest : List ℕ) (apdus more : List (List ℕ)) �
 begins_on bytes piece held rest apdus more b c =
     record {
       whole = ap (λ xs. xs ++ piece) b.whole ∙ (append_assoc (flat_map frame apdus) held piece
-          ∙ (ap (λ xs. flat_map frame apdus ++ xs) c.whole ∙ (sym (append_assoc (flat_map frame apdus) (flat_map frame more) rest)
+          ∙ (ap (λ xs. flat_map frame apdus ++ xs) c.whole
+          ∙ (sym (append_assoc (flat_map frame apdus) (flat_map frame more) rest)
           ∙ ap (λ xs. xs ++ rest) (sym (flat_map-append frame apdus more)))));
       each = All-append IsFramed apdus more b.each c.each;
     }
@@ -149,7 +160,8 @@ places_on apdus more =
     ap length (flat_map-append frame apdus more) ∙ length-append (flat_map frame apdus) (flat_map frame more) in
     omega (arith, size)
 
-pub cutting_on : (pieces : List (List ℕ)) (i : ℕ) (now later : Framing) (old new further : List (List ℕ)) (piece : List ℕ)
+pub cutting_on : (pieces : List (List ℕ)) (i : ℕ) (now later : Framing) (old new further : List (List ℕ))
+    (piece : List ℕ)
     (d : List ℕ) → i < length pieces → piece ≡ get_or pieces i d → Cutting pieces i now old new →
     (found : List (List ℕ)) × (further ≡ new ++ found) × Begins (now.octets ++ piece) found later.octets
     × (later.place ≡ place_behind now.place (length (flat_map frame found))) →
@@ -168,7 +180,8 @@ cutting_on pieces i now later old new further piece d within is c more stops =
       placed = more.3 ∙ (ap (λ p. place_behind p (length (flat_map frame more.0))) c.placed ∙ places_on c.found more.0);
     }
 
-pub small_place : (pieces : List (List ℕ)) (i : ℕ) (now : Framing) (old new : List (List ℕ)) → Cutting pieces i now old new →
+pub small_place : (pieces : List (List ℕ)) (i : ℕ) (now : Framing) (old new : List (List ℕ))
+    → Cutting pieces i now old new →
     now.place < 2 ^ 64
 small_place pieces i now old new c = omega (arith, c.placed)
 
@@ -184,7 +197,8 @@ refused_in pieces i now old new further piece d refusal within is c (inl memory)
 refused_in pieces i now old new further piece d refusal within is c (inr r) =
     let more = joined (drop (i + 1) pieces) in
     let fault : fault_in (place_after (c.found ++ r.0)) r.1 ≡ Some refusal =
-    ap (λ p. fault_in p r.1) (sym (ap (λ p. place_behind p (length (flat_map frame r.0))) c.placed ∙ places_on c.found r.0)) ∙ r.4 in
+    ap (λ p. fault_in p r.1)
+    (sym (ap (λ p. place_behind p (length (flat_map frame r.0))) c.placed ∙ places_on c.found r.0)) ∙ r.4 in
     let stop = faulty_stops (place_after (c.found ++ r.0)) r.1 more refusal fault in
     let b = begins_on (joined (take i pieces)) piece now.octets r.1 c.found r.0 c.begins r.3 in
     let whole : joined pieces ≡ (joined (take i pieces) ++ piece) ++ more =
@@ -209,7 +223,8 @@ pub all_cut : (pieces : List (List ℕ)) (i : ℕ) (now : Framing) (old new : Li
     (found : List (List ℕ)) × (new ≡ old ++ found) × IsCut (joined pieces) found now.octets
     × (fault_in 0 now.octets ≡ None) × (now.place ≡ place_after found)
 all_cut pieces i now old new past c =
-    let all : take i pieces ≡ pieces = sym (take_min i pieces) ∙ (ap (λ n. take n pieces) (omega (arith, past)) ∙ take-length pieces) in (
+    let all : take i pieces ≡ pieces = sym (take_min i pieces)
+    ∙ (ap (λ n. take n pieces) (omega (arith, past)) ∙ take-length pieces) in (
       c.found,
       c.apdus,
       record {

@@ -1,6 +1,7 @@
 -- Frames in a stream of octets: docs/PROFILE.md, section 4. A frame is four octets of length, the most significant one
 -- first, and as many octets of an APDU, of which there are 1 to 1,048,576.
-use Rattle.std.specs.Prelude.{ℕ, ◌+◌, ◌-◌, ◌^◌, List, [], ◌∷◌, Bool, false, ◌==◌, ◌&&◌, not, nat_lt, nat_le, min, length, take, Option, None, Some, if◌then◌else◌}
+use Rattle.std.specs.Prelude.{ℕ, ◌+◌, ◌-◌, ◌^◌, List, [], ◌∷◌, Bool, false, ◌==◌, ◌&&◌, not, nat_lt, nat_le, min}
+use Rattle.std.specs.Prelude.{length, take, Option, None, Some, if◌then◌else◌}
 use Rattle.term_values.specs.Octets.{number}
 use Rattle.rose_frames.specs.declared.frame_refusal.FrameRefusal.{FrameRefusal}
 use Rattle.rose_frames.specs.declared.frame_refusal.FrameRefusal.TheVariants.{TooLong, ZeroLength}

@@ -1,9 +1,13 @@
 //! Reads the APDUs of remote operations: X.229, section 9.
 
-ghost use Rattle.std.specs.Prelude.{◌≡◌, ◌↔◌, ◌&&◌, ◌==◌, nat_lt, true, false, None, Some, Ok, Err, IfOk, if◌then◌else◌};
+ghost use Rattle.std.specs.Prelude.{◌≡◌, ◌↔◌, ◌&&◌, ◌==◌, nat_lt, true, false, None, Some, Ok, Err, IfOk};
+ghost use Rattle.std.specs.Prelude.{if◌then◌else◌};
 ghost use Rattle.std.specs.Option.{option_copied};
 ghost use Rattle.term_values.specs.Tree.{listed};
-ghost use Rattle.term_model.specs.ApduReading.{apdu_of, error_id, error_in, error_number, fields_in, invoke_id, invoke_in, invoke_linked, invoke_operation, is_apdu_tag, is_class, is_recognised, null_in, problem_in, reject_in, reject_parts, rejected_in, result_body, result_id, result_in, result_parts};
+ghost use Rattle.term_model.specs.ApduReading.{apdu_of, error_id, error_in, error_number, fields_in, invoke_id};
+ghost use Rattle.term_model.specs.ApduReading.{invoke_in, invoke_linked, invoke_operation, is_apdu_tag, is_class};
+ghost use Rattle.term_model.specs.ApduReading.{is_recognised, null_in, problem_in, reject_in, reject_parts};
+ghost use Rattle.term_model.specs.ApduReading.{rejected_in, result_body, result_id, result_in, result_parts};
 ghost use Rattle.rose_frames.specs.declared.apdu_refusal.ApduRefusal.TheVariants.{Unrecognised, MistypedApdu};
 
 use crate::apdu_refusal::ApduRefusal;

@@ -2,14 +2,16 @@
 //! known when it is written, and turned once.
 #![tactic(auto, using(ber_tree::proofs::Extending::extending))]
 
-ghost use Rattle.std.specs.Prelude.{ℕ, ℤ, List, [], ◌≡◌, ◌≤◌, ◌++◌, length, OnErr, OnOk, Option, None, Some, true, reverse};
+ghost use Rattle.std.specs.Prelude.{ℕ, ℤ, List, [], ◌≡◌, ◌≤◌, ◌++◌, length, OnErr, OnOk, Option, None, Some, true};
+ghost use Rattle.std.specs.Prelude.{reverse};
 ghost use Rattle.std.specs.Option.{option_copied};
 ghost use Rattle.ber_tree.specs.Writing.{Extends};
 ghost use Rattle.term_values.specs.Der.{encoded, written};
 ghost use Rattle.term_values.specs.Octets.{octets};
 ghost use Rattle.term_values.specs.Tag.{universal};
 ghost use Rattle.term_model.specs.ApduWriting.{any_octets, apdu_octets, invoke_apdu, linked_octets, result_octets};
-ghost use Rattle.term_model.specs.RemoteOperation.{empty_result_apdu, error_apdu, frame, integer, reject_apdu, rejected_id, result_apdu};
+ghost use Rattle.term_model.specs.RemoteOperation.{empty_result_apdu, error_apdu, frame, integer, reject_apdu};
+ghost use Rattle.term_model.specs.RemoteOperation.{rejected_id, result_apdu};
 
 use crate::apdu_reading::{ERROR, INVOKE, REJECT, RESULT};
 use crate::framer::LENGTH_OCTETS;

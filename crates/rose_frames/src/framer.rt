@@ -1,6 +1,7 @@
 //! The frames of a byte stream that comes in pieces: docs/PROFILE.md, section 4.
 
-ghost use Rattle.std.specs.Prelude.{ℕ, ◌≡◌, ◌↔◌, ◌⊎◌, ◌+◌, ◌-◌, ◌<◌, ◌≤◌, [], ◌++◌, Some, None, Ok, Err, IfOk, IfErr, OnOk, OnErr, IfSome, IfNone, length, take, min, true, false};
+ghost use Rattle.std.specs.Prelude.{ℕ, ◌≡◌, ◌↔◌, ◌⊎◌, ◌+◌, ◌-◌, ◌<◌, ◌≤◌, [], ◌++◌, Some, None, Ok, Err, IfOk, IfErr};
+ghost use Rattle.std.specs.Prelude.{OnOk, OnErr, IfSome, IfNone, length, take, min, true, false};
 ghost use Rattle.term_values.specs.Octets.{number};
 ghost use Rattle.term_model.specs.RemoteOperation.{frame};
 ghost use Rattle.rose_frames.specs.Cutting.{IsFramed};
@@ -137,7 +138,8 @@ impl Framer {
         // a length that is refused, exactly, and for good
         ensures sound { OnOk result (fault_in self.old.place (self.old.octets ++ piece.now) ≡ None) }
         ensures faulty { (refusal : FrameRefusal)
-            → fault_in self.old.place (self.old.octets ++ piece.now) ≡ Some refusal → (result ≡ Err refusal) × (self.new ≡ record self.old { octets = take 4 (self.old.octets ++ piece.now) }) }
+            → fault_in self.old.place (self.old.octets ++ piece.now) ≡ Some refusal → (result ≡ Err refusal)
+            × (self.new ≡ record self.old { octets = take 4 (self.old.octets ++ piece.now) }) }
         ensures fault { IfErr result (λ refusal. (refusal ≡ Memory)
             ⊎ (fault_in self.old.place (self.old.octets ++ piece.now) ≡ Some refusal)) }
         ensures again { (refusal : FrameRefusal) → fault_in self.old.place self.old.octets ≡ Some refusal

@@ -1,6 +1,7 @@
 //! Whole streams in pieces: docs/PROFILE.md, section 4. However a stream is cut into pieces, its frames are the same.
 
-ghost use Rattle.std.specs.Prelude.{ℕ, ◌≡◌, ◌⊎◌, ◌<◌, ◌^◌, List, ◌++◌, Some, None, IfOk, IfErr, OnOk, false, length, flat_map};
+ghost use Rattle.std.specs.Prelude.{ℕ, ◌≡◌, ◌⊎◌, ◌<◌, ◌^◌, List, ◌++◌, Some, None, IfOk, IfErr, OnOk, false, length};
+ghost use Rattle.std.specs.Prelude.{flat_map};
 ghost use Rattle.term_model.specs.RemoteOperation.{frame};
 ghost use Rattle.rose_frames.specs.Cutting.{Begins, IsCut, OneCut, joined, place_after};
 ghost use Rattle.rose_frames.specs.Framing.{fault_in, in_hand, is_whole, place_behind};

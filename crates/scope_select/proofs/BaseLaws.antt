@@ -29,7 +29,8 @@ rdn_Decides x y = (rdns_are x y, λ e. subst (λ (z : Rdn). is_same_rdn x z ≡ 
 pub same_name : (xs ys : List Rdn) → name_cmp xs ys ≡ Equal → xs ≡ ys
 same_name xs ys e = (slice_eq-Decides rdn_Decides xs ys (is_same_name xs ys) refl).0 (name_ties xs ys ∙ ap is_eq e)
 
-told : (base name : List Rdn) (o : Ordering) → name_cmp base name ≡ o → is_same_name name base ≡ is_eq (ordering_reverse o)
+told : (base name : List Rdn) (o : Ordering) → name_cmp base name ≡ o
+    → is_same_name name base ≡ is_eq (ordering_reverse o)
 told base name o e = name_ties name base ∙ ap is_eq (name_total.antisymm name base ∙ ap ordering_reverse e)
 
 -- no name behind the base is the base
@@ -38,7 +39,8 @@ not_there base [] h = refl
 not_there base (name ∷ names) h =
     or_from _ _ (told base name Less h.0) (not_there base names h.1)
 
-all_after : (base name : List Rdn) (names : Names) → name_cmp base name ≡ Less → AllBehind name names → AllBehind base names
+all_after : (base name : List Rdn) (names : Names) → name_cmp base name ≡ Less → AllBehind name names
+    → AllBehind base names
 all_after base name [] low h = tt
 all_after base name (other ∷ names) low h =
     (name_total.trans base name other low h.0, all_after base name names low h.1)
@@ -82,7 +84,8 @@ base_missing base scope (name ∷ names) sorted e =
     by : (is_there base names ≡ false
         → filter (is_within base scope) names ≡ filter (is_within base scope) (names_behind base names))
         → (o : Ordering) → name_cmp base name ≡ o
-        → filter (is_within base scope) (name ∷ names) ≡ filter (is_within base scope) (names_behind base (name ∷ names))
+        → filter (is_within base scope) (name ∷ names) ≡ filter (is_within base scope)
+        (names_behind base (name ∷ names))
     by again Less f =
         ap (filter (is_within base scope))
         (sym (all_behind base (name ∷ names) (f, all_after base name names f sorted.0)))

@@ -1,5 +1,6 @@
 -- Looking for names among named objects.
-use Rattle.std.proofs.Common.{◌≡◌, Bool, true, false, List, [], ◌∷◌, Option, None, Some, is_some, refl, sym, ap, ◌∙◌, subst}
+use Rattle.std.proofs.Common.{◌≡◌, Bool, true, false, List, [], ◌∷◌, Option, None, Some, is_some, refl, sym, ap, ◌∙◌}
+use Rattle.std.proofs.Common.{subst}
 use Rattle.std.specs.Prelude.{MatchOption, find}
 use Rattle.std.specs.Option.{option_map}
 use Rattle.term_model.specs.declared.name.Rdn.{Rdn}
@@ -18,13 +19,16 @@ entry_name : NamedObject → List Rdn
 entry_name entry = entry.name
 
 pub next_entry : (here : List Rdn) (entries : List NamedObject)
-    → next_name here (names entries) ≡ option_map (λ (entry : NamedObject). entry.name) (find (λ (entry : NamedObject). follows here entry.name) entries)
+    → next_name here (names entries) ≡ option_map (λ (entry : NamedObject). entry.name)
+    (find (λ (entry : NamedObject). follows here entry.name) entries)
 next_entry here [] = refl
 next_entry here (entry ∷ entries) = by (next_entry here entries) (follows here entry.name) refl
   where
-    by : next_name here (names entries) ≡ option_map (λ (e : NamedObject). e.name) (find (λ (e : NamedObject). follows here e.name) entries)
+    by : next_name here (names entries) ≡ option_map (λ (e : NamedObject). e.name)
+        (find (λ (e : NamedObject). follows here e.name) entries)
         → (b : Bool) → follows here entry.name ≡ b
-        → next_name here (names (entry ∷ entries)) ≡ option_map (λ (e : NamedObject). e.name) (find (λ (e : NamedObject). follows here e.name) (entry ∷ entries))
+        → next_name here (names (entry ∷ entries)) ≡ option_map (λ (e : NamedObject). e.name)
+        (find (λ (e : NamedObject). follows here e.name) (entry ∷ entries))
     by again true e = rw e refl
     by again false e = rw e again
 

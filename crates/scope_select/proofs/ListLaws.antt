@@ -24,13 +24,15 @@ contains_later x xs y h =
 contains_here : {X : Type 0} (x : X) (xs : List X) (y : X) → x ≡ y → Contains (x ∷ xs) y
 contains_here x xs y e = (0, omega arith, e)
 
-pub filter_has : {X : Type 0} (p : X → Bool) (xs : List X) (y : X) → Contains (filter p xs) y → Contains xs y × (p y ≡ true)
+pub filter_has : {X : Type 0} (p : X → Bool) (xs : List X) (y : X) → Contains (filter p xs) y → Contains xs y
+    × (p y ≡ true)
 filter_has p xs y h = (
   All-contains (Contains xs) (filter p xs) y (All-filter p (Contains xs) xs (All-contains_itself xs)) h,
   All-contains (λ x. p x ≡ true) (filter p xs) y (filter_passes p xs) h,
 )
 
-pub filter_gets : {X : Type 0} (p : X → Bool) (xs : List X) (y : X) → Contains xs y → p y ≡ true → Contains (filter p xs) y
+pub filter_gets : {X : Type 0} (p : X → Bool) (xs : List X) (y : X) → Contains xs y → p y ≡ true
+    → Contains (filter p xs) y
 filter_gets p [] y h e = absurd (omega (arith, h.1))
 filter_gets {X} p (x ∷ xs) y h e =
     ⊎_elim

@@ -1,5 +1,6 @@
 -- Names that another one begins, and the order of names.
-use Rattle.std.proofs.Common.{◌≡◌, ℕ, Bool, true, false, List, [], ◌∷◌, ◌++◌, Option, None, Some, length, refl, sym, ap, ◌∙◌}
+use Rattle.std.proofs.Common.{◌≡◌, ℕ, Bool, true, false, List, [], ◌∷◌, ◌++◌, Option, None, Some, length, refl, sym, ap}
+use Rattle.std.proofs.Common.{◌∙◌}
 use Rattle.std.specs.Option.{option_map_or}
 use Rattle.std.specs.Ordering.{is_eq, ordering_then}
 use Rattle.std.specs.declared.cmp.Ordering.{Ordering}
@@ -16,7 +17,8 @@ use Rattle.term_model.specs.NameOrder.{name_cmp, rdn_cmp}
 use Rattle.term_model.specs.Scope.{IsWithin, has_level, is_within, level_below}
 
 -- at a part that is the base's, what is below the base is told by the other parts; at another one nothing is below it
-same_part : (p a : Rdn) (ps others : List Rdn) → is_same_rdn p a ≡ true → level_below (p ∷ ps) (a ∷ others) ≡ level_below ps others
+same_part : (p a : Rdn) (ps others : List Rdn) → is_same_rdn p a ≡ true
+    → level_below (p ∷ ps) (a ∷ others) ≡ level_below ps others
 same_part p a ps others e = rw e refl
 
 other_part : (p a : Rdn) (ps others : List Rdn) → is_same_rdn p a ≡ false → level_below (p ∷ ps) (a ∷ others) ≡ None
@@ -47,7 +49,8 @@ outside_stays (p ∷ ps) (a ∷ others) [] low none high = absurd cc
 outside_stays (p ∷ ps) (a ∷ others) (b ∷ bs) low none high =
     by (outside_stays ps others bs) (rdn_cmp p a) (rdn_cmp a b) refl refl
   where
-    by : (name_cmp ps others ≡ Less → level_below ps others ≡ None → name_cmp others bs ≡ Less → level_below ps bs ≡ None)
+    by : (name_cmp ps others ≡ Less → level_below ps others ≡ None → name_cmp others bs ≡ Less
+        → level_below ps bs ≡ None)
         → (o q : Ordering) → rdn_cmp p a ≡ o → rdn_cmp a b ≡ q → level_below (p ∷ ps) (b ∷ bs) ≡ None
     by again Less Less e f = other_part p b ps bs (apart_less p b (rdn_total.trans p a b e f))
     by again Less Equal e f =
@@ -70,7 +73,8 @@ begun_is_behind [] (a ∷ others) high = absurd (cc)
 begun_is_behind (p ∷ ps) [] high = refl
 begun_is_behind (p ∷ ps) (a ∷ others) high = by (begun_is_behind ps others) (rdn_cmp p a) refl
   where
-    by : (name_cmp ps others ≡ Greater → level_below ps others ≡ None) → (o : Ordering) → rdn_cmp p a ≡ o → level_below (p ∷ ps) (a ∷ others) ≡ None
+    by : (name_cmp ps others ≡ Greater → level_below ps others ≡ None) → (o : Ordering) → rdn_cmp p a ≡ o
+        → level_below (p ∷ ps) (a ∷ others) ≡ None
     by again Less e = absurd (less_greater (sym (cmp_parts p a ps others Less e) ∙ high))
     by again Equal e =
         same_part p a ps others (tied_parts p a e)

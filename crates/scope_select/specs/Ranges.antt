@@ -1,5 +1,6 @@
 -- Names behind another one, in the order of names; docs/PROFILE.md, section 4.
-use Rattle.std.specs.Prelude.{false, suc, ◌≡◌, ◌≤◌, ◌+◌, ◌*◌, is_some, length, ℕ, Bool, List, MatchOption, None, Option, Some, filter, find}
+use Rattle.std.specs.Prelude.{false, suc, ◌≡◌, ◌≤◌, ◌+◌, ◌*◌, is_some, length, ℕ, Bool, List, MatchOption, None, Option}
+use Rattle.std.specs.Prelude.{Some, filter, find}
 use Rattle.std.specs.Ordering.{is_lt}
 use Rattle.term_model.specs.declared.name.Rdn.{Rdn}
 use Rattle.term_model.specs.declared.objects.NamedObject.{NamedObject}
@@ -37,8 +38,8 @@ begins base name = is_some (level_below base name)
 abbrev pub begun_behind : List Rdn → List Rdn → List (List Rdn) → List (List Rdn)
 begun_behind base here names = filter (begins base) (names_behind here names)
 
--- The visits before and after one way through the names that a base begins, in a map of up to 100,000 objects: of at most
--- 128 for the base, for each name below it, and once more.
+-- The visits before and after one way through the names that a base begins, in a map of up to 100,000 objects: of at
+-- most 128 for the base, for each name below it, and once more.
 abbrev pub IsOneWay : List NamedObject → List Rdn → ℕ → ℕ → Type 0
 IsOneWay objects base before after =
     length objects ≤ 100000 → after ≤ before + 128 * (length (begun_behind base base (names objects)) + 2)

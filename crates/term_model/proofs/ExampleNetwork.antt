@@ -1,4 +1,5 @@
--- The network of the examples: a class `element` of two attributes in one package, and a root of it with the values 1 and 7.
+-- The network of the examples: a class `element` of two attributes in one package, and a root of it with the values 1
+-- and 7.
 use Rattle.std.specs.Prelude.{ℕ, None, pos, true, false, List, [], ◌∷◌, codes}
 use Rattle.term_values.specs.declared.rules.Rules.{Rules}
 use Rattle.term_values.specs.Syntaxes.TypeSyntax.{Integer}

@@ -1,5 +1,6 @@
 -- What follows a name has the least greater one, and what was taken out is gone.
-use Rattle.std.proofs.Common.{◌≡◌, ℕ, zero, suc, ◌<◌, Bool, true, false, List, [], ◌∷◌, length, get_or, None, Some, refl, sym, ap, ◌∙◌, subst, arith}
+use Rattle.std.proofs.Common.{◌≡◌, ℕ, zero, suc, ◌<◌, Bool, true, false, List, [], ◌∷◌, length, get_or, None, Some}
+use Rattle.std.proofs.Common.{refl, sym, ap, ◌∙◌, subst, arith}
 use Rattle.std.proofs.lemmas.Bool.{false≢true}
 use Rattle.std.proofs.lemmas.Option.{same_Some}
 use Rattle.std.specs.List.{AllByRecursion}
@@ -29,13 +30,15 @@ never_both o e f = absurd (cc (sym e ∙ f))
 not_itself : (name : List Rdn) → name_cmp name name ≡ Less → ⊥
 not_itself name e = never_both (name_cmp name name) e (turned name name Less e)
 
-all_of : (P : List Rdn → Type 0) (objects : List NamedObject) (k : ℕ) (x : NamedObject) → k < length objects → get_or objects k x ≡ x
+all_of : (P : List Rdn → Type 0) (objects : List NamedObject) (k : ℕ) (x : NamedObject) → k < length objects
+    → get_or objects k x ≡ x
     → AllByRecursion P (names objects) → P x.name
 all_of P [] k x h is all = absurd (omega arith)
 all_of P (y ∷ ys) zero x h is all = subst (λ (z : NamedObject). P z.name) is all.0
 all_of P (y ∷ ys) (suc k) x h is all = all_of P ys k x (omega arith) is all.1
 
-none_less : (x : NamedObject) (xs : List NamedObject) (k : ℕ) (other : NamedObject) → IsByName (x ∷ xs) → k < length (x ∷ xs)
+none_less : (x : NamedObject) (xs : List NamedObject) (k : ℕ) (other : NamedObject) → IsByName (x ∷ xs)
+    → k < length (x ∷ xs)
     → get_or (x ∷ xs) k other ≡ other → name_cmp other.name x.name ≡ Less → ⊥
 unfolding IsStrictlySortedBy
 none_less x xs zero other rising h is below =
@@ -44,7 +47,8 @@ none_less x xs (suc k) other rising h is below =
     never_both (name_cmp other.name x.name) below
     (turned x.name other.name Less (all_of (λ n. name_cmp x.name n ≡ Less) xs k other (omega arith) is rising.0))
 
-head_least : (name : List Rdn) (x : NamedObject) (xs : List NamedObject) → IsByName (x ∷ xs) → name_cmp name x.name ≡ Less
+head_least : (name : List Rdn) (x : NamedObject) (xs : List NamedObject) → IsByName (x ∷ xs)
+    → name_cmp name x.name ≡ Less
     → IsLeastGreater (x ∷ xs) name x
 head_least name x xs rising less = record {
   there = (0, omega arith, refl);
@@ -52,15 +56,18 @@ head_least name x xs rising less = record {
   least = λ other held greater below. none_less x xs held.0 other rising held.1 held.2 below;
 }
 
-not_less_at : (name : List Rdn) (x : NamedObject) (xs : List NamedObject) (entry : NamedObject) → is_lt (name_cmp name x.name) ≡ false
-    → IsLeastGreater xs name entry → (k : ℕ) (other : NamedObject) → k < length (x ∷ xs) → get_or (x ∷ xs) k other ≡ other
+not_less_at : (name : List Rdn) (x : NamedObject) (xs : List NamedObject) (entry : NamedObject)
+    → is_lt (name_cmp name x.name) ≡ false
+    → IsLeastGreater xs name entry → (k : ℕ) (other : NamedObject) → k < length (x ∷ xs)
+    → get_or (x ∷ xs) k other ≡ other
     → name_cmp name other.name ≡ Less → name_cmp other.name entry.name ≡ Less → ⊥
 not_less_at name x xs entry h so zero other within is greater below =
     absurd (false≢true (sym h ∙ ap is_lt (subst (λ (z : NamedObject). name_cmp name z.name ≡ Less) (sym is) greater)))
 not_less_at name x xs entry h so (suc k) other within is greater below =
     so.least other (k, omega arith, is) greater below
 
-later_least : (name : List Rdn) (x : NamedObject) (xs : List NamedObject) (entry : NamedObject) → is_lt (name_cmp name x.name) ≡ false
+later_least : (name : List Rdn) (x : NamedObject) (xs : List NamedObject) (entry : NamedObject)
+    → is_lt (name_cmp name x.name) ≡ false
     → IsLeastGreater xs name entry → IsLeastGreater (x ∷ xs) name entry
 later_least name x xs entry h so = record {
   there = (suc so.there.0, omega (arith, so.there.1), so.there.2);
@@ -68,19 +75,23 @@ later_least name x xs entry h so = record {
   least = λ other held greater below. not_less_at name x xs entry h so held.0 other held.1 held.2 greater below;
 }
 
-after_here : (name : List Rdn) (x : NamedObject) (xs : List NamedObject) → is_lt (name_cmp name x.name) ≡ true → entry_after (x ∷ xs) name ≡ Some x
+after_here : (name : List Rdn) (x : NamedObject) (xs : List NamedObject) → is_lt (name_cmp name x.name) ≡ true
+    → entry_after (x ∷ xs) name ≡ Some x
 after_here name x xs h = rw h refl
 
-after_later : (name : List Rdn) (x : NamedObject) (xs : List NamedObject) → is_lt (name_cmp name x.name) ≡ false → entry_after (x ∷ xs) name ≡ entry_after xs name
+after_later : (name : List Rdn) (x : NamedObject) (xs : List NamedObject) → is_lt (name_cmp name x.name) ≡ false
+    → entry_after (x ∷ xs) name ≡ entry_after xs name
 after_later name x xs h = rw h refl
 
-least : (objects : List NamedObject) (name : List Rdn) (entry : NamedObject) → IsByName objects → entry_after objects name ≡ Some entry
+least : (objects : List NamedObject) (name : List Rdn) (entry : NamedObject) → IsByName objects
+    → entry_after objects name ≡ Some entry
     → IsLeastGreater objects name entry
 unfolding IsStrictlySortedBy
 least [] name entry rising is = absurd cc
 least (x ∷ xs) name entry rising is = by (is_lt (name_cmp name x.name)) refl (least xs name entry rising.1)
   where
-    by : (b : Bool) → is_lt (name_cmp name x.name) ≡ b → (entry_after xs name ≡ Some entry → IsLeastGreater xs name entry)
+    by : (b : Bool) → is_lt (name_cmp name x.name) ≡ b
+        → (entry_after xs name ≡ Some entry → IsLeastGreater xs name entry)
         → IsLeastGreater (x ∷ xs) name entry
     by true h rest =
         subst (λ z. IsLeastGreater (x ∷ xs) name z) (same_Some x entry (sym (after_here name x xs h) ∙ is))
@@ -90,35 +101,42 @@ least (x ∷ xs) name entry rising is = by (is_lt (name_cmp name x.name)) refl (
 pub next_is_least : NextIsLeast
 next_is_least = least
 
-nothing_greater : (objects : List NamedObject) (name : List Rdn) (other : NamedObject) (k : ℕ) → entry_after objects name ≡ None
+nothing_greater : (objects : List NamedObject) (name : List Rdn) (other : NamedObject) (k : ℕ)
+    → entry_after objects name ≡ None
     → k < length objects → get_or objects k other ≡ other → name_cmp name other.name ≡ Less → ⊥
 nothing_greater [] name other k is h at greater = absurd (omega arith)
 nothing_greater (x ∷ xs) name other k is h at greater =
-    by (is_lt (name_cmp name x.name)) refl k h at (λ j none there held. nothing_greater xs name other j none there held greater)
+    by (is_lt (name_cmp name x.name)) refl k h at
+    (λ j none there held. nothing_greater xs name other j none there held greater)
   where
     by : (b : Bool) → is_lt (name_cmp name x.name) ≡ b → (j : ℕ) → j < length (x ∷ xs) → get_or (x ∷ xs) j other ≡ other
         → ((i : ℕ) → entry_after xs name ≡ None → i < length xs → get_or xs i other ≡ other → ⊥) → ⊥
     by true e j h at rest = absurd (cc (sym (after_here name x xs e) ∙ is))
     by false e zero h at rest =
-        absurd (false≢true (sym e ∙ ap is_lt (subst (λ (z : NamedObject). name_cmp name z.name ≡ Less) (sym at) greater)))
+        absurd (false≢true (sym e
+        ∙ ap is_lt (subst (λ (z : NamedObject). name_cmp name z.name ≡ Less) (sym at) greater)))
     by false e (suc j) h at rest = rest j (sym (after_later name x xs e) ∙ is) (omega arith) at
 
 pub none_is_greater : NoneIsGreater
-none_is_greater = λ objects name other is held greater. nothing_greater objects name other held.0 is held.1 held.2 greater
+none_is_greater = λ objects name other is held greater. nothing_greater objects name other held.0 is held.1
+    held.2 greater
 
 -- ---- what was taken out
 
-drop_head : (name : List Rdn) (x : NamedObject) (xs : List NamedObject) → is_same_name x.name name ≡ true → removed name (x ∷ xs) ≡ removed name xs
+drop_head : (name : List Rdn) (x : NamedObject) (xs : List NamedObject) → is_same_name x.name name ≡ true
+    → removed name (x ∷ xs) ≡ removed name xs
 drop_head name x xs h = rw h refl
 
-keep_head : (name : List Rdn) (x : NamedObject) (xs : List NamedObject) → is_same_name x.name name ≡ false → removed name (x ∷ xs) ≡ x ∷ removed name xs
+keep_head : (name : List Rdn) (x : NamedObject) (xs : List NamedObject) → is_same_name x.name name ≡ false
+    → removed name (x ∷ xs) ≡ x ∷ removed name xs
 keep_head name x xs h = rw h refl
 
 gone : (name : List Rdn) (objects : List NamedObject) → object_at (removed name objects) name ≡ None
 gone name [] = refl
 gone name (x ∷ xs) = by (is_same_name x.name name) refl (gone name xs)
   where
-    by : (b : Bool) → is_same_name x.name name ≡ b → object_at (removed name xs) name ≡ None → object_at (removed name (x ∷ xs)) name ≡ None
+    by : (b : Bool) → is_same_name x.name name ≡ b → object_at (removed name xs) name ≡ None
+        → object_at (removed name (x ∷ xs)) name ≡ None
     by true h rest = ap (λ os. object_at os name) (drop_head name x xs h) ∙ rest
     by false h rest = ap (λ os. object_at os name) (keep_head name x xs h) ∙ later x (removed name xs) name h ∙ rest
 

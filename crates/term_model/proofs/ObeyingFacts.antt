@@ -15,15 +15,29 @@ use Rattle.term_model.specs.AgentState.{start}
 use Rattle.term_model.specs.Inheritance.{Derives, HasAttribute, HasPackage, IsAbove}
 use Rattle.term_model.specs.Inheritance.IsAbove.{Further, Itself}
 use Rattle.term_model.specs.WellFormedMib.{identifiers, FitsTemplate, IsWellFormedMib, ObeysTemplates}
-use Rattle.term_model.proofs.ExampleNetwork.{element, element_class, element_oid, element_package, id_oid, id_property, id_template, id_value, load_oid, load_property, load_template, load_value, network}
+use Rattle.term_model.proofs.ExampleNetwork.{element, element_class, element_oid, element_package, id_oid, id_property}
+use Rattle.term_model.proofs.ExampleNetwork.{id_template, id_value, load_oid, load_property, load_template, load_value}
+use Rattle.term_model.proofs.ExampleNetwork.{network}
 
 id_fits : FitsTemplate network id_value
 unfolding identifier_octets length_octets integer_contents
-id_fits = record { template = id_template; known = (0, omega arith, refl); named = refl; fits = (omega arith, refl); small = omega arith }
+id_fits = record {
+  template = id_template;
+  known = (0, omega arith, refl);
+  named = refl;
+  fits = (omega arith, refl);
+  small = omega arith;
+}
 
 load_fits : FitsTemplate network load_value
 unfolding identifier_octets length_octets integer_contents
-load_fits = record { template = load_template; known = (1, omega arith, refl); named = refl; fits = (omega arith, refl); small = omega arith }
+load_fits = record {
+  template = load_template;
+  known = (1, omega arith, refl);
+  named = refl;
+  fits = (omega arith, refl);
+  small = omega arith;
+}
 
 both : {X : Type 0} (P : X → Type 0) (x y : X) → P x → P y → All P (x ∷ y ∷ [])
 both P x y p q = All-cons P x (y ∷ []) p (All-cons P y [] q (All-nil P))
@@ -74,7 +88,8 @@ above_element Itself = refl
 above_element (Further is derives) = absurd (only_itself is _ derives)
 
 mandatory_of : (of_class : ClassRec) (is : element_class ≡ of_class) (has : PackageRec)
-    → Contains of_class.mandatory has ⊎ (Contains of_class.conditional has × ((id : List ℕ) × (has.id ≡ Some id) × Contains [] id))
+    → Contains of_class.mandatory has
+    ⊎ (Contains of_class.conditional has × ((id : List ℕ) × (has.id ≡ Some id) × Contains [] id))
     → element_package ≡ has
 mandatory_of of_class is has (inl there) =
     contains_one (subst (λ (c : ClassRec). Contains c.mandatory has) (sym is) there)
@@ -94,7 +109,8 @@ only_these : (attribute : List ℕ) → HasAttribute network element_oid [] attr
     → Contains (identifiers element.attrs) attribute
 only_these attribute h =
     subst (Contains (identifiers element.attrs)) h.is
-    (of_two h.property (subst (λ (p : PackageRec). Contains p.attributes h.property) (sym (element_package_only h.has)) h.stated))
+    (of_two h.property (subst (λ (p : PackageRec). Contains p.attributes h.property)
+    (sym (element_package_only h.has)) h.stated))
 
 element_obeys : ObeysTemplates network element
 unfolding IsStrictlySortedBy identifier_octets length_octets integer_contents subidentifier
@@ -114,5 +130,7 @@ network_obeys = record {
   root = (0, omega arith, refl);
   few = omega arith;
   by_name = (tt, tt);
-  each = All-cons (λ (entry : NamedObject). ObeysTemplates network entry.object) (record { name = []; object = element }) [] element_obeys (All-nil (λ (entry : NamedObject). ObeysTemplates network entry.object));
+  each = All-cons (λ (entry : NamedObject). ObeysTemplates network entry.object)
+      (record { name = []; object = element }) [] element_obeys
+      (All-nil (λ (entry : NamedObject). ObeysTemplates network entry.object));
 }

@@ -18,13 +18,17 @@ use Rattle.term_model.specs.History.{replay, replay_from}
 use Rattle.term_model.specs.Operation.{exec}
 use Rattle.term_model.specs.Arriving.{Arriving, arriving}
 use Rattle.term_model.specs.Arriving.Arriving.{Rejected, Cancels, NoEffect, Queued}
-use Rattle.term_model.specs.Step.{cancelled_at, cancelled_where, counted, effect, is_get, is_legal, is_outstanding_as, performed, received, step}
+use Rattle.term_model.specs.Step.{cancelled_at, cancelled_where, counted, effect, is_get, is_legal, is_outstanding_as}
+use Rattle.term_model.specs.Step.{performed, received, step}
 
-pub exec_objects : (schema : Set) (objects : List NamedObject) (request : Request) (moment : ℕ) → (exec schema objects request moment).objects ≡ objects
+pub exec_objects : (schema : Set) (objects : List NamedObject) (request : Request) (moment : ℕ)
+    → (exec schema objects request moment).objects ≡ objects
 exec_objects schema objects (Get head) moment = refl
 
-work_objects : (agent : AgentState) (number : ℕ) (w : Work) (moment : ℕ) → (performed agent number w moment).objects ≡ agent.objects
-work_objects agent number (work.Asked association invoke request) moment = exec_objects agent.schema agent.objects request moment
+work_objects : (agent : AgentState) (number : ℕ) (w : Work) (moment : ℕ)
+    → (performed agent number w moment).objects ≡ agent.objects
+work_objects agent number (work.Asked association invoke request) moment =
+    exec_objects agent.schema agent.objects request moment
 work_objects agent number (work.Append log own) moment = refl
 
 performed_objects : (agent : AgentState) (number : ℕ) (o : Operation) (granted : Option ℕ)
@@ -33,12 +37,14 @@ performed_objects agent number o None = refl
 performed_objects agent number o (Some moment) = work_objects agent number o.work moment
 
 committed_objects : (agent : AgentState) (number : ℕ) (found : Option Operation)
-    → (option_map_or (λ (o : Operation). option_map_or (performed agent number o.work) (granted_moment o.state) agent) found
+    → (option_map_or (λ (o : Operation). option_map_or (performed agent number o.work)
+    (granted_moment o.state) agent) found
     agent).objects ≡ agent.objects
 committed_objects agent number None = refl
 committed_objects agent number (Some o) = performed_objects agent number o (granted_moment o.state)
 
-chosen_objects : (legal : Bool) (one other agent : AgentState) → one.objects ≡ agent.objects → other.objects ≡ agent.objects
+chosen_objects : (legal : Bool) (one other agent : AgentState) → one.objects ≡ agent.objects
+    → other.objects ≡ agent.objects
     → (if legal then one else other).objects ≡ agent.objects
 chosen_objects true one other agent same alike = same
 chosen_objects false one other agent same alike = alike
@@ -54,7 +60,8 @@ cancelled_objects agent number id cancelled None = refl
 cancelled_objects agent number id cancelled (Some index) =
     cancelled_at_objects agent number id cancelled index (slice_get agent.operations index)
 
-received_objects : (agent : AgentState) (number : ℕ) (brings : Arriving) → (received agent number brings).objects ≡ agent.objects
+received_objects : (agent : AgentState) (number : ℕ) (brings : Arriving)
+    → (received agent number brings).objects ≡ agent.objects
 received_objects agent number (Rejected invoke kind problem) = refl
 received_objects agent number (Cancels id cancelled) =
     cancelled_objects agent number id cancelled (position (is_outstanding_as number cancelled) agent.operations)

@@ -69,7 +69,8 @@ tree =
     ∷ record { name = five_six; object = element } ∷ record { name = five_six_seven; object = element }
     ∷ record { name = part 50 ∷ []; object = element } ∷ []
 
-all_of_it : names_in_scope tree [] (Plain (pos 2)) ≡ [] ∷ (part 5 ∷ []) ∷ five_six ∷ five_six_seven ∷ (part 50 ∷ []) ∷ []
+all_of_it : names_in_scope tree [] (Plain (pos 2)) ≡ [] ∷ (part 5 ∷ []) ∷ five_six ∷ five_six_seven
+    ∷ (part 50 ∷ []) ∷ []
 all_of_it = refl
 
 level_one : names_in_scope tree [] (Level (pos 1)) ≡ (part 5 ∷ []) ∷ (part 50 ∷ []) ∷ []
@@ -90,7 +91,8 @@ to_level_nought = refl
 to_level_two : names_in_scope tree [] (Upto (pos 2)) ≡ [] ∷ (part 5 ∷ []) ∷ five_six ∷ (part 50 ∷ []) ∷ []
 to_level_two = refl
 
-to_level_three : names_in_scope tree [] (Upto (pos 3)) ≡ [] ∷ (part 5 ∷ []) ∷ five_six ∷ five_six_seven ∷ (part 50 ∷ []) ∷ []
+to_level_three : names_in_scope tree [] (Upto (pos 3)) ≡ [] ∷ (part 5 ∷ []) ∷ five_six ∷ five_six_seven
+    ∷ (part 50 ∷ []) ∷ []
 to_level_three = refl
 
 -- from a base that isn't the root
@@ -146,7 +148,8 @@ six_is_not_greater = refl
 six_is_less : holds (OfItem (items.LessOrEqual (load_is (pos 6)))) ≡ true
 six_is_less = refl
 
-seven_is_equal : holds (And (two (OfItem (items.Equality (load_is (pos 7)))) (OfItem (items.Present (Global load_oid))))) ≡ true
+seven_is_equal : holds (And
+    (two (OfItem (items.Equality (load_is (pos 7)))) (OfItem (items.Present (Global load_oid))))) ≡ true
 seven_is_equal = refl
 
 -- load has no SUBSTRINGS: invalid, wherever the item stands
@@ -177,10 +180,12 @@ unknown_is_false = refl
 abbrev piece_of : IdRef → Piece
 piece_of id = record { kind = 1; given = record { id = id; value = None; raw = [] } }
 
-two_attributes : stands (OfItem (items.Substrings (piece_of (Local (pos 1)) ∷ piece_of (Local (pos 2)) ∷ []) None)) ≡ false
+two_attributes : stands (OfItem
+    (items.Substrings (piece_of (Local (pos 1)) ∷ piece_of (Local (pos 2)) ∷ []) None)) ≡ false
 two_attributes = refl
 
-one_attribute : stands (OfItem (items.Substrings (piece_of (Local (pos 1)) ∷ piece_of (Local (pos 1)) ∷ []) None)) ≡ true
+one_attribute : stands (OfItem
+    (items.Substrings (piece_of (Local (pos 1)) ∷ piece_of (Local (pos 1)) ∷ []) None)) ≡ true
 one_attribute = refl
 
 no_piece : stands (OfItem (items.Substrings [] None)) ≡ false

@@ -1,5 +1,5 @@
--- Worked runs, computed from the definitions alone: a Get of the root, and a Get of an object that is not there. Then which
--- entries the program can hold, at the bounds.
+-- Worked runs, computed from the definitions alone: a Get of the root, and a Get of an object that is not there. Then
+-- which entries the program can hold, at the bounds.
 use Rattle.std.specs.Prelude.{◌≡◌, ℕ, zero, suc, ◌<◌, List, [], ◌∷◌, None, codes, refl}
 use Rattle.std.specs.Fmt.{digits}
 use Rattle.std.proofs.Common.{arith, subst}
@@ -35,24 +35,29 @@ bind_octets = 0x30 ∷ 0x06 ∷ 0x06 ∷ 0x04 ∷ 0x88 ∷ 0x37 ∷ 0x0B ∷ 0x0
 -- m-Get of the root with invoke id 1
 abbrev get_root : List ℕ
 get_root =
-    0xA1 ∷ 0x10 ∷ 0x02 ∷ 0x01 ∷ 0x01 ∷ 0x02 ∷ 0x01 ∷ 0x03 ∷ 0x30 ∷ 0x08 ∷ 0x80 ∷ 0x04 ∷ 0x88 ∷ 0x37 ∷ 0x03 ∷ 0x01 ∷ 0xA4 ∷ 0x00 ∷ []
+    0xA1 ∷ 0x10 ∷ 0x02 ∷ 0x01 ∷ 0x01 ∷ 0x02 ∷ 0x01 ∷ 0x03 ∷ 0x30 ∷ 0x08 ∷ 0x80 ∷ 0x04 ∷ 0x88 ∷ 0x37 ∷ 0x03 ∷ 0x01
+    ∷ 0xA4 ∷ 0x00 ∷ []
 
 run_of_the_root : run_text network shipped (Open bind_octets ∷ Send 1 get_root ∷ []) ≡
     codes "opened 1 3006060488370B01\ntaken 1 12\narrived 1 A1100201010201033008800488370301A400\ngranted 1 0\ncommitted 1\ntaken 1 65\nfinished 1\nclosed 1 end\n--\nout 1 0000000830060A01000201010000003DA23B02010130360201033031800488370301A400850F31393730303130313030303030305AA61630098004883707010201013009800488370702020107\nobjects 1\n"
-unfolding digits encode_with subidentifier oid_in integer_contents integer_in identifier_octets length_octets identifier_of length_at front_of moment_text date_from date_in_year played step
+unfolding digits encode_with subidentifier oid_in integer_contents integer_in identifier_octets length_octets
+    identifier_of length_at front_of moment_text date_from date_in_year played step
 run_of_the_root = refl
 
 -- m-Get of the object 5 with invoke id 1, which is not there
 abbrev get_five : List ℕ
 get_five =
-    0xA1 ∷ 0x1D ∷ 0x02 ∷ 0x01 ∷ 0x01 ∷ 0x02 ∷ 0x01 ∷ 0x03 ∷ 0x30 ∷ 0x15 ∷ 0x80 ∷ 0x04 ∷ 0x88 ∷ 0x37 ∷ 0x03 ∷ 0x01 ∷ 0xA4 ∷ 0x0D ∷ 0x31 ∷ 0x0B ∷ 0x30 ∷ 0x09 ∷ 0x06 ∷ 0x04 ∷ 0x88 ∷ 0x37 ∷ 0x07 ∷ 0x01 ∷ 0x02 ∷ 0x01 ∷ 0x05 ∷ []
+    0xA1 ∷ 0x1D ∷ 0x02 ∷ 0x01 ∷ 0x01 ∷ 0x02 ∷ 0x01 ∷ 0x03 ∷ 0x30 ∷ 0x15 ∷ 0x80 ∷ 0x04 ∷ 0x88 ∷ 0x37 ∷ 0x03 ∷ 0x01 ∷ 0xA4
+    ∷ 0x0D ∷ 0x31 ∷ 0x0B ∷ 0x30 ∷ 0x09 ∷ 0x06 ∷ 0x04 ∷ 0x88 ∷ 0x37 ∷ 0x07 ∷ 0x01 ∷ 0x02 ∷ 0x01 ∷ 0x05 ∷ []
 
 run_of_five : run_text network shipped (Open bind_octets ∷ Send 1 get_five ∷ []) ≡
     codes "opened 1 3006060488370B01\ntaken 1 12\narrived 1 A11D0201010201033015800488370301A40D310B3009060488370701020105\ngranted 1 0\ncommitted 1\ntaken 1 27\nfinished 1\nclosed 1 end\n--\nout 1 0000000830060A010002010100000017A315020101020101A40D310B3009060488370701020105\nobjects 1\n"
-unfolding digits encode_with subidentifier oid_in integer_contents integer_in identifier_octets length_octets identifier_of length_at front_of moment_text date_from date_in_year played step
+unfolding digits encode_with subidentifier oid_in integer_contents integer_in identifier_octets length_octets
+    identifier_of length_at front_of moment_text date_from date_in_year played step
 run_of_five = refl
 
--- of a script with two associations, the frames of each, and none of one that is never opened and to which nothing is sent
+-- of a script with two associations, the frames of each, and none of one that is never opened and to which nothing is
+-- sent
 abbrev two_managers : List ScriptLine
 two_managers = Open bind_octets ∷ Send 1 get_root ∷ Open (1 ∷ []) ∷ Send 2 get_five ∷ Send 1 get_five ∷ []
 
@@ -74,7 +79,9 @@ one_association state taken = record (start network shipped) {
 -- nothing is left to do once it is closed and both were taken
 settled_once_closed : IsSettled (one_association (Closed why.End) 2)
 settled_once_closed number a found =
-    let alone = numbered_alone (record { title = None; state = Closed why.End; next_own = 1; placed = 1 ∷ 2 ∷ []; taken = 2 }) number a found in
+    let alone = numbered_alone
+    (record { title = None; state = Closed why.End; next_own = 1; placed = 1 ∷ 2 ∷ []; taken = 2 })
+    number a found in
     subst (λ (x : Association). IsDone (one_association (Closed why.End) 2) number x) alone.1
     (record { closed = refl; taken = refl; idle = refl })
 

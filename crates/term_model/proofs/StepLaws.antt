@@ -1,6 +1,8 @@
 -- What a legal entry does, where the associations and operations that it speaks of stand in the state.
-use Rattle.std.proofs.Common.{◌≡◌, ℕ, zero, suc, ◌+◌, ◌-◌, ◌<◌, ◌≤◌, Bool, true, false, List, [], ◌∷◌, ◌++◌, length, Option, Some, None, refl, sym, ap, ◌∙◌, ⊎_elim, arith}
-use Rattle.std.specs.Prelude.{ℤ, ◌==◌, nat_le, slice_get, slice_set, map, count_by, sum_by, ◌&&◌, if◌then◌else◌, is_some, option_and_then, position}
+use Rattle.std.proofs.Common.{◌≡◌, ℕ, zero, suc, ◌+◌, ◌-◌, ◌<◌, ◌≤◌, Bool, true, false, List, [], ◌∷◌, ◌++◌, length}
+use Rattle.std.proofs.Common.{Option, Some, None, refl, sym, ap, ◌∙◌, ⊎_elim, arith}
+use Rattle.std.specs.Prelude.{ℤ, ◌==◌, nat_le, slice_get, slice_set, map, count_by, sum_by, ◌&&◌, if◌then◌else◌}
+use Rattle.std.specs.Prelude.{is_some, option_and_then, position}
 use Rattle.std.specs.Option.{option_map_or}
 use Rattle.std.proofs.lemmas.Bool.{false≢true, cases_Bool, eqb-true, eqb-false, ne_eqb, eq-eqb, le-leb, and_parts}
 use Rattle.std.proofs.lemmas.List.Sums.{sum_by-cons}
@@ -19,13 +21,18 @@ use Rattle.term_model.specs.declared.entry.Entry.TheVariants as entry
 use Rattle.term_model.specs.declared.entry.Why.TheVariants as why
 use Rattle.term_model.specs.declared.limits.Limits.{Limits}
 use Rattle.term_model.specs.declared.schema.Set.{Set}
-use Rattle.term_model.specs.AgentState.{association_of, operation_of, numbered, outstanding, is_outstanding, left_to_take, granted_moment, is_finished_state, is_closed_state, is_waiting_state}
+use Rattle.term_model.specs.AgentState.{association_of, operation_of, numbered, outstanding, is_outstanding}
+use Rattle.term_model.specs.AgentState.{left_to_take, granted_moment, is_finished_state, is_closed_state}
+use Rattle.term_model.specs.AgentState.{is_waiting_state}
 use Rattle.term_model.specs.Arriving.{Arriving, arriving}
 use Rattle.term_model.specs.Arriving.Arriving.{Rejected, Cancels, NoEffect, Queued}
-use Rattle.term_model.specs.Step.{is_legal, effect, counted, step, may_take, may_close, last_moment, changed_association, changed_operation, ended_with, performed, with_state, with_taken, cancelled_at, cancelled_where, is_get, is_outstanding_as, received}
+use Rattle.term_model.specs.Step.{is_legal, effect, counted, step, may_take, may_close, last_moment}
+use Rattle.term_model.specs.Step.{changed_association, changed_operation, ended_with, performed, with_state, with_taken}
+use Rattle.term_model.specs.Step.{cancelled_at, cancelled_where, is_get, is_outstanding_as, received}
 
 -- a legal entry does what it does, and is counted
-pub step_legal : (agent : AgentState) (next : Entry) → is_legal agent next ≡ true → step agent next ≡ counted (effect agent next)
+pub step_legal : (agent : AgentState) (next : Entry) → is_legal agent next ≡ true
+    → step agent next ≡ counted (effect agent next)
 unfolding step
 step_legal agent next h = rw h refl
 
@@ -36,11 +43,13 @@ pub record StandsAt {T : Type 0} (items : List T) (number : ℕ) (item : T) : Ty
   pub there : slice_get items (number - 1) ≡ Some item
   pub is : numbered items number ≡ Some item
 
-some_passes : {T : Type 0} (test : T → Bool) (o : Option T) → option_map_or test o false ≡ true → (x : T) × (o ≡ Some x) × (test x ≡ true)
+some_passes : {T : Type 0} (test : T → Bool) (o : Option T) → option_map_or test o false ≡ true → (x : T) × (o ≡ Some x)
+    × (test x ≡ true)
 some_passes test None h = absurd (false≢true h)
 some_passes test (Some x) h = (x, refl, h)
 
-pub stands_from_some : {T : Type 0} (items : List T) (number : ℕ) (x : T) → numbered items number ≡ Some x → StandsAt items number x
+pub stands_from_some : {T : Type 0} (items : List T) (number : ℕ) (x : T) → numbered items number ≡ Some x
+    → StandsAt items number x
 stands_from_some {T} items number x h =
     ⊎_elim
     (λ (e : (number == 0) ≡ true). let none : ◌≡◌ {A = Option T} None (Some x) = rw e at h in absurd cc)
@@ -52,41 +61,59 @@ stands_from_some {T} items number x h =
     (cases_Bool (number == 0))
 
 -- what passes a test under a number stands there
-pub stands_where_passed : {T : Type 0} (test : T → Bool) (items : List T) (number : ℕ) → option_map_or test (numbered items number) false ≡ true → (x : T) × StandsAt items number x × (test x ≡ true)
-stands_where_passed test items number h = let p = some_passes test (numbered items number) h in (p.0, stands_from_some items number p.0 p.1, p.2)
+pub stands_where_passed : {T : Type 0} (test : T → Bool) (items : List T) (number : ℕ)
+    → option_map_or test (numbered items number) false ≡ true → (x : T) × StandsAt items number x × (test x ≡ true)
+stands_where_passed test items number h = let p =
+    some_passes test (numbered items number) h in (p.0, stands_from_some items number p.0 p.1, p.2)
 
-pub changed_association_at : (associations : List Association) (number : ℕ) (change : Association → Association) (a : Association) → slice_get associations (number - 1) ≡ Some a → changed_association associations number change ≡ slice_set associations (number - 1) (change a)
+pub changed_association_at : (associations : List Association) (number : ℕ) (change : Association → Association)
+    (a : Association) → slice_get associations (number - 1) ≡ Some a
+    → changed_association associations number change ≡ slice_set associations (number - 1) (change a)
 changed_association_at associations number change a h = rw h refl
 
-pub changed_operation_at : (operations : List Operation) (number : ℕ) (state : OperationState) (o : Operation) → slice_get operations (number - 1) ≡ Some o → changed_operation operations number state ≡ slice_set operations (number - 1) (record o { state = state })
+pub changed_operation_at : (operations : List Operation) (number : ℕ) (state : OperationState) (o : Operation)
+    → slice_get operations (number - 1) ≡ Some o
+    → changed_operation operations number state ≡ slice_set operations (number - 1) (record o { state = state })
 changed_operation_at operations number state o h = rw h refl
 
 slice_get_last : {T : Type 0} (items : List T) (item : T) → slice_get (items ++ item ∷ []) (length items) ≡ Some item
 slice_get_last [] item = refl
 slice_get_last (x ∷ items) item = slice_get_last items item
 
-slice_get_set : {T : Type 0} (items : List T) (i : ℕ) (item : T) → i < length items → slice_get (slice_set items i item) i ≡ Some item
-slice_get_set items i item h = slice_get-get_or (slice_set items i item) i item (omega (arith, length-set items i item)) ∙ ap Some (get_or-set_same items i item item h)
+slice_get_set : {T : Type 0} (items : List T) (i : ℕ) (item : T) → i < length items
+    → slice_get (slice_set items i item) i ≡ Some item
+slice_get_set items i item h =
+    slice_get-get_or (slice_set items i item) i item (omega (arith, length-set items i item))
+    ∙ ap Some (get_or-set_same items i item item h)
 
 numbered_get : {T : Type 0} (items : List T) (number i : ℕ) → number ≡ i + 1 → numbered items number ≡ slice_get items i
 numbered_get items number i e = let d : number - 1 ≡ i = omega arith in rw (ne_eqb number 0 (λ z. omega arith), d) refl
 
 -- the last item stands under the list's length
-pub numbered_last : {T : Type 0} (items : List T) (item : T) (number : ℕ) → number ≡ length items + 1 → numbered (items ++ item ∷ []) number ≡ Some item
-numbered_last items item number e = numbered_get (items ++ item ∷ []) number (length items) e ∙ slice_get_last items item
+pub numbered_last : {T : Type 0} (items : List T) (item : T) (number : ℕ) → number ≡ length items + 1
+    → numbered (items ++ item ∷ []) number ≡ Some item
+numbered_last items item number e =
+    numbered_get (items ++ item ∷ []) number (length items) e ∙ slice_get_last items item
 
 -- of one item, only it stands under a number, which is 1
-pub numbered_alone : {T : Type 0} (item : T) (number : ℕ) (other : T) → numbered (item ∷ []) number ≡ Some other → (number ≡ 1) × (item ≡ other)
+pub numbered_alone : {T : Type 0} (item : T) (number : ℕ) (other : T) → numbered (item ∷ []) number ≡ Some other
+    → (number ≡ 1) × (item ≡ other)
 numbered_alone item zero other e = absurd (none-some other e)
 numbered_alone item (suc zero) other e = (refl, cc)
 numbered_alone item (suc (suc n)) other e =
-    absurd (none-some other (sym (numbered_get (item ∷ []) (suc (suc n)) (n + 1) (omega arith) ∙ slice_get_past (item ∷ []) (n + 1) (omega arith)) ∙ e))
+    absurd (none-some other (sym (numbered_get (item ∷ []) (suc (suc n)) (n + 1) (omega arith)
+    ∙ slice_get_past (item ∷ []) (n + 1) (omega arith)) ∙ e))
 
-pub numbered_set : {T : Type 0} (items : List T) (number : ℕ) (item : T) → 1 ≤ number → number ≤ length items → numbered (slice_set items (number - 1) item) number ≡ Some item
-numbered_set items number item p w = numbered_get (slice_set items (number - 1) item) number (number - 1) (omega arith) ∙ slice_get_set items (number - 1) item (omega arith)
+pub numbered_set : {T : Type 0} (items : List T) (number : ℕ) (item : T) → 1 ≤ number → number ≤ length items
+    → numbered (slice_set items (number - 1) item) number ≡ Some item
+numbered_set items number item p w =
+    numbered_get (slice_set items (number - 1) item) number (number - 1) (omega arith)
+    ∙ slice_get_set items (number - 1) item (omega arith)
 
 -- a change of the last operation
-pub changed_last : (operations : List Operation) (o : Operation) (number : ℕ) (state : OperationState) → number ≡ length operations + 1 → changed_operation (operations ++ o ∷ []) number state ≡ operations ++ (record o { state = state }) ∷ []
+pub changed_last : (operations : List Operation) (o : Operation) (number : ℕ) (state : OperationState)
+    → number ≡ length operations + 1 → changed_operation (operations ++ o ∷ []) number state ≡ operations
+    ++ (record o { state = state }) ∷ []
 changed_last operations o number state e =
     let d : number - 1 ≡ length operations = omega arith in
     rw (d, slice_get_last operations o) (set_at operations o [] (record o { state = state }) (length operations) refl)
@@ -109,52 +136,76 @@ none_ended number place (o ∷ operations) h =
     rw (e.0, none_ended number place operations e.1) refl
 
 -- at a regular end none of the association's operations is outstanding, so that none is ended by it
-idle_at_end : (agent : AgentState) (number : ℕ) (a : Association) → may_close agent number why.End a ≡ true → outstanding agent number ≡ 0
+idle_at_end : (agent : AgentState) (number : ℕ) (a : Association) → may_close agent number why.End a ≡ true
+    → outstanding agent number ≡ 0
 idle_at_end agent number a h =
     let p = and_parts (is_finished_state a.state && outstanding agent number == 0) (left_to_take a == 0) h in
     let q = and_parts (is_finished_state a.state) (outstanding agent number == 0) p.0 in
     eqb-true (outstanding agent number) 0 q.1
 
-pub closed_at_end : (agent : AgentState) (number : ℕ) → is_legal agent (entry.Closed number why.End) ≡ true → step agent (entry.Closed number why.End) ≡ counted (record agent { associations = changed_association agent.associations number (with_state (standing.Closed why.End)) })
+pub closed_at_end : (agent : AgentState) (number : ℕ) → is_legal agent (entry.Closed number why.End) ≡ true
+    → step agent (entry.Closed number why.End) ≡ counted
+    (record agent {
+      associations =
+          changed_association agent.associations number (with_state (standing.Closed why.End));
+    })
 closed_at_end agent number legal =
     let p = stands_where_passed (may_close agent number why.End) agent.associations number legal in
     step_legal agent (entry.Closed number why.End) legal
-    ∙ ap (λ xs. counted (record agent { associations = changed_association agent.associations number (with_state (standing.Closed why.End)); operations = xs }))
+    ∙ ap (λ xs. counted (record agent {
+      associations = changed_association agent.associations number (with_state (standing.Closed why.End));
+      operations = xs;
+    }))
     (none_ended number agent.entries agent.operations (idle_at_end agent number p.0 p.2))
 
 -- all that is left, where something is left, may be taken
-pub taken_at : (agent : AgentState) (number count : ℕ) (a : Association) → association_of agent number ≡ Some a → left_to_take a ≡ count → (count ≡ 0 → ⊥) → step agent (entry.Taken number count) ≡ counted (record agent { associations = changed_association agent.associations number (with_taken count) })
+pub taken_at : (agent : AgentState) (number count : ℕ) (a : Association) → association_of agent number ≡ Some a
+    → left_to_take a ≡ count → (count ≡ 0 → ⊥)
+    → step agent (entry.Taken number count) ≡ counted
+    (record agent { associations = changed_association agent.associations number (with_taken count) })
 taken_at agent number count a is left some =
     let all : may_take count count ≡ true = rw (eq-eqb count count refl, le-leb 1 count (omega arith)) refl in
-    let legal : is_legal agent (entry.Taken number count) ≡ true = ap (λ o. option_map_or (λ (b : Association). may_take count (left_to_take b)) o false) is ∙ (ap (λ n. may_take count n) left ∙ all) in
+    let legal : is_legal agent (entry.Taken number count) ≡ true =
+    ap (λ o. option_map_or (λ (b : Association). may_take count (left_to_take b)) o false) is
+    ∙ (ap (λ n. may_take count n) left ∙ all) in
     step_legal agent (entry.Taken number count) legal
 
 -- something is left only where an association stands
-pub left_stands : (o : Option Association) (count : ℕ) → count ≡ option_map_or left_to_take o 0 → (count ≡ 0 → ⊥) → (a : Association) × (o ≡ Some a) × (left_to_take a ≡ count)
+pub left_stands : (o : Option Association) (count : ℕ) → count ≡ option_map_or left_to_take o 0 → (count ≡ 0 → ⊥)
+    → (a : Association) × (o ≡ Some a) × (left_to_take a ≡ count)
 left_stands None count e some = absurd (some e)
 left_stands (Some a) count e some = (a, refl, sym e)
 
 -- where something is left and all of it is taken, all that was placed is taken
-taken_whole : (a : Association) (count : ℕ) → left_to_take a ≡ count → (count ≡ 0 → ⊥) → length a.placed ≡ a.taken + count
+taken_whole : (a : Association) (count : ℕ) → left_to_take a ≡ count → (count ≡ 0 → ⊥)
+    → length a.placed ≡ a.taken + count
 taken_whole a count left some =
     ⊎_elim
     (λ (e : is_closed_state a.state ≡ true). let none : 0 ≡ count = rw e at left in absurd (some (sym none)))
-    (λ (e : is_closed_state a.state ≡ false). let rest : length a.placed - a.taken ≡ count = rw e at left in omega arith)
+    (λ (e : is_closed_state a.state ≡ false). let rest : length a.placed - a.taken ≡ count =
+    rw e at left in omega arith)
     (cases_Bool (is_closed_state a.state))
 
-pub taken_wholly : (associations : List Association) (number count : ℕ) (a : Association) → slice_get associations (number - 1) ≡ Some a → left_to_take a ≡ count → (count ≡ 0 → ⊥) → changed_association associations number (λ (b : Association). record b { taken = length b.placed }) ≡ changed_association associations number (with_taken count)
+pub taken_wholly : (associations : List Association) (number count : ℕ) (a : Association)
+    → slice_get associations (number - 1) ≡ Some a → left_to_take a ≡ count → (count ≡ 0 → ⊥)
+    → changed_association associations number
+    (λ (b : Association). record b { taken = length b.placed }) ≡ changed_association associations number
+    (with_taken count)
 taken_wholly associations number count a there left some =
     changed_association_at associations number (λ (b : Association). record b { taken = length b.placed }) a there
     ∙ (ap (λ n. slice_set associations (number - 1) (record a { taken = n })) (taken_whole a count left some)
     ∙ sym (changed_association_at associations number (with_taken count) a there))
 
 -- a granted operation is performed
-pub granted_stands : (q : Option Operation) (moment : ℕ) → option_and_then (λ (o : Operation). granted_moment o.state) q ≡ Some moment → (o : Operation) × (q ≡ Some o) × (granted_moment o.state ≡ Some moment)
+pub granted_stands : (q : Option Operation) (moment : ℕ)
+    → option_and_then (λ (o : Operation). granted_moment o.state) q ≡ Some moment → (o : Operation) × (q ≡ Some o)
+    × (granted_moment o.state ≡ Some moment)
 granted_stands None moment h = absurd cc
 granted_stands (Some o) moment h = (o, refl, h)
 
 pub committed_at : (agent : AgentState) (number moment : ℕ) (o : Operation) → operation_of agent number ≡ Some o
-    → granted_moment o.state ≡ Some moment → step agent (entry.Committed number) ≡ counted (performed agent number o.work moment)
+    → granted_moment o.state ≡ Some moment
+    → step agent (entry.Committed number) ≡ counted (performed agent number o.work moment)
 committed_at agent number moment o is at =
     let legal : is_legal agent (entry.Committed number) ≡ true =
     ap (λ q. option_map_or (λ (p : Operation). is_some (granted_moment p.state)) q false) is ∙ ap (λ m. is_some m) at in
@@ -164,12 +215,16 @@ committed_at agent number moment o is at =
     ∙ ap (λ m. counted (option_map_or (performed agent number o.work) m agent)) at)
 
 -- after its grant an operation is granted
-pub granted_then : (agent : AgentState) (number moment : ℕ) → is_legal agent (entry.Granted number moment) ≡ true → option_and_then (λ (o : Operation). granted_moment o.state) (operation_of (step agent (entry.Granted number moment)) number) ≡ Some moment
+pub granted_then : (agent : AgentState) (number moment : ℕ) → is_legal agent (entry.Granted number moment) ≡ true
+    → option_and_then (λ (o : Operation). granted_moment o.state)
+    (operation_of (step agent (entry.Granted number moment)) number) ≡ Some moment
 granted_then agent number moment legal =
-    let p = stands_where_passed (λ (o : Operation). is_waiting_state o.state && nat_le moment last_moment) agent.operations number legal in
+    let p = stands_where_passed (λ (o : Operation). is_waiting_state o.state && nat_le moment last_moment)
+    agent.operations number legal in
     let o = p.0 in
     let s = p.1 in
-    let there : operation_of (step agent (entry.Granted number moment)) number ≡ Some (record o { state = operation.Granted moment }) =
+    let there : operation_of (step agent (entry.Granted number moment)) number ≡ Some
+    (record o { state = operation.Granted moment }) =
     ap (λ (after : AgentState). operation_of after number) (step_legal agent (entry.Granted number moment) legal)
     ∙ (ap (λ xs. numbered xs number) (changed_operation_at agent.operations number (operation.Granted moment) o s.there)
     ∙ numbered_set agent.operations number (record o { state = operation.Granted moment }) s.positive s.within) in
@@ -250,7 +305,8 @@ performed_ground agent number o None = refl
 performed_ground agent number o (Some moment) = work_ground agent number o.work moment
 
 committed_ground : (agent : AgentState) (number : ℕ) (q : Option Operation)
-    → ground_of (option_map_or (λ (o : Operation). option_map_or (performed agent number o.work) (granted_moment o.state) agent)
+    → ground_of (option_map_or
+    (λ (o : Operation). option_map_or (performed agent number o.work) (granted_moment o.state) agent)
     q agent) ≡ ground_of agent
 committed_ground agent number None = refl
 committed_ground agent number (Some o) = performed_ground agent number o (granted_moment o.state)
@@ -285,4 +341,5 @@ effect_ground agent (entry.Closed number cause) = refl
 
 pub step_ground : (agent : AgentState) (next : Entry) → ground_of (step agent next) ≡ ground_of agent
 unfolding step
-step_ground agent next = either_ground (is_legal agent next) agent (counted (effect agent next)) agent (effect_ground agent next) refl
+step_ground agent next =
+    either_ground (is_legal agent next) agent (counted (effect agent next)) agent (effect_ground agent next) refl

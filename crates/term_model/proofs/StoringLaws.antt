@@ -1,5 +1,6 @@
 -- An object is stored in its place among the others.
-use Rattle.std.proofs.Common.{◌≡◌, ℕ, zero, suc, append_assoc, ◌+◌, ◌<◌, ◌≤◌, true, false, List, [], ◌∷◌, ◌++◌, length, take, drop, get_or, Option, Some, None, refl, sym, ap, ◌∙◌, arith}
+use Rattle.std.proofs.Common.{◌≡◌, ℕ, zero, suc, append_assoc, ◌+◌, ◌<◌, ◌≤◌, true, false, List, [], ◌∷◌, ◌++◌, length}
+use Rattle.std.proofs.Common.{take, drop, get_or, Option, Some, None, refl, sym, ap, ◌∙◌, arith}
 use Rattle.std.specs.Prelude.{insert, slice_get, slice_set}
 use Rattle.std.specs.Option.{option_map_or}
 use Rattle.std.specs.Ordering.{is_eq, is_gt}
@@ -13,7 +14,8 @@ use Rattle.term_model.specs.NameOrder.{name_cmp}
 use Rattle.term_model.specs.NamedObjects.{is_named_at, stored, stored_by}
 
 -- what stands at an index begins what is left from there on
-pub left_there : (xs : List NamedObject) (i : ℕ) (x : NamedObject) → slice_get xs i ≡ Some x → drop i xs ≡ x ∷ drop (i + 1) xs
+pub left_there : (xs : List NamedObject) (i : ℕ) (x : NamedObject) → slice_get xs i ≡ Some x
+    → drop i xs ≡ x ∷ drop (i + 1) xs
 left_there xs i x h =
     let within = slice_get_within xs i x h in
     drop_more xs i x within
@@ -83,7 +85,8 @@ inserts entry xs at front named stops = found (slice_get xs at) refl named
         → insert xs at entry ≡ stored entry xs
     found None there h =
         sym (front ∙ ap (λ ys. take at xs ++ ys)
-        (ap (stored entry) (drop_all at xs (left_none xs at there)) ∙ ap (λ ys. entry ∷ ys) (sym (drop_all at xs (left_none xs at there)))))
+        (ap (stored entry) (drop_all at xs (left_none xs at there))
+        ∙ ap (λ ys. entry ∷ ys) (sym (drop_all at xs (left_none xs at there)))))
     found (Some x) there h =
         sym (front ∙ ap (λ ys. take at xs ++ ys)
         (ap (stored entry) (left_there xs at x there) ∙ (stored_in_front entry x (drop (at + 1) xs) h (stops x there)

@@ -1,5 +1,6 @@
 -- Each line of a journal ends at its own line feed and tells its entry, so different journals have different texts.
-use Rattle.std.proofs.Common.{◌≡◌, ℕ, suc, ◌<◌, ◌/◌, ◌%◌, Bool, true, false, List, [], ◌∷◌, ◌++◌, get_or, drop, slice_index, Option, Some, None, refl, sym, ap, ◌∙◌, append_assoc, arith}
+use Rattle.std.proofs.Common.{◌≡◌, ℕ, suc, ◌<◌, ◌/◌, ◌%◌, Bool, true, false, List, [], ◌∷◌, ◌++◌, get_or, drop}
+use Rattle.std.proofs.Common.{slice_index, Option, Some, None, refl, sym, ap, ◌∙◌, append_assoc, arith}
 use Rattle.std.specs.Prelude.{◌==◌, ◌&&◌, codes, decimal, nat_lt, nat_le, if◌then◌else◌}
 use Rattle.std.specs.List.{All}
 use Rattle.std.specs.Option.{option_map_or}
@@ -28,7 +29,8 @@ is_stop limit [] = false
 is_stop limit (c ∷ cs) = nat_le c limit
 
 -- codes above a limit end at the first one that is not
-one_end : (limit : ℕ) (a b p q : List ℕ) → is_above limit a ≡ true → is_above limit b ≡ true → is_stop limit p ≡ true → is_stop limit q ≡ true → a ++ p ≡ b ++ q → (a ≡ b) × (p ≡ q)
+one_end : (limit : ℕ) (a b p q : List ℕ) → is_above limit a ≡ true → is_above limit b ≡ true → is_stop limit p ≡ true
+    → is_stop limit q ≡ true → a ++ p ≡ b ++ q → (a ≡ b) × (p ≡ q)
 one_end limit [] [] p q ha hb hp hq e = (refl, e)
 one_end limit [] (d ∷ b) p q ha hb hp hq e =
     let below = leb-true d limit (sym (ap (is_stop limit) e) ∙ hp) in
@@ -40,7 +42,8 @@ one_end limit (c ∷ a) [] p q ha hb hp hq e =
     absurd (omega arith)
 one_end limit (c ∷ a) (d ∷ b) p q ha hb hp hq e =
     let head : c ≡ d = ap (λ l. get_or l 0 0) e in
-    let more = one_end limit a b p q (and_parts (nat_lt limit c) (is_above limit a) ha).1 (and_parts (nat_lt limit d) (is_above limit b) hb).1 hp hq (ap (λ l. drop 1 l) e) in
+    let more = one_end limit a b p q (and_parts (nat_lt limit c) (is_above limit a) ha).1
+    (and_parts (nat_lt limit d) (is_above limit b) hb).1 hp hq (ap (λ l. drop 1 l) e) in
     (cc, more.1)
 
 -- the digits of numbers and of octets
@@ -108,14 +111,16 @@ abbrev tail : Option (List ℕ) → List ℕ → List ℕ
 tail None r = 10 ∷ r
 tail (Some text) r = 32 ∷ (text ++ 10 ∷ r)
 
-two_words_then : (front : List ℕ) (number : ℕ) (text r : List ℕ) → two_words (front ++ codes " ") number text ++ r ≡ front ++ 32 ∷ (decimal number ++ tail (Some text) r)
+two_words_then : (front : List ℕ) (number : ℕ) (text r : List ℕ) → two_words (front ++ codes " ") number text
+    ++ r ≡ front ++ 32 ∷ (decimal number ++ tail (Some text) r)
 two_words_then front number text r =
     append_assoc (front ++ codes " ") (decimal number ++ (codes " " ++ (text ++ line_feed))) r
     ∙ (append_assoc front (codes " ") ((decimal number ++ (codes " " ++ (text ++ line_feed))) ++ r)
     ∙ ap (λ l. front ++ 32 ∷ l) (append_assoc (decimal number) (codes " " ++ (text ++ line_feed)) r
     ∙ ap (λ l. decimal number ++ 32 ∷ l) (append_assoc text line_feed r)))
 
-one_word_then : (front : List ℕ) (number : ℕ) (r : List ℕ) → one_word (front ++ codes " ") number ++ r ≡ front ++ 32 ∷ (decimal number ++ tail None r)
+one_word_then : (front : List ℕ) (number : ℕ) (r : List ℕ) → one_word (front ++ codes " ") number ++ r ≡ front
+    ++ 32 ∷ (decimal number ++ tail None r)
 one_word_then front number r =
     append_assoc (front ++ codes " ") (decimal number ++ line_feed) r
     ∙ (append_assoc front (codes " ") ((decimal number ++ line_feed) ++ r)
@@ -214,15 +219,19 @@ tail_stops None r = refl
 tail_stops (Some text) r = refl
 
 -- so each of them is determined
-one_tail : (t u : Option (List ℕ)) (r s : List ℕ) → text_above t → text_above u → tail t r ≡ tail u s → (t ≡ u) × (r ≡ s)
+one_tail : (t u : Option (List ℕ)) (r s : List ℕ) → text_above t → text_above u → tail t r ≡ tail u s
+    → (t ≡ u) × (r ≡ s)
 one_tail None None r s ht hu e = (refl, ap (λ l. drop 1 l) e)
-one_tail None (Some u) r s ht hu e = let stop : get_or (10 ∷ r) 0 0 ≡ get_or (32 ∷ s) 0 0 = ap (λ l. get_or l 0 0) e in absurd (omega arith)
-one_tail (Some t) None r s ht hu e = let stop : get_or (32 ∷ r) 0 0 ≡ get_or (10 ∷ s) 0 0 = ap (λ l. get_or l 0 0) e in absurd (omega arith)
+one_tail None (Some u) r s ht hu e = let stop : get_or (10 ∷ r) 0 0 ≡ get_or (32 ∷ s) 0 0 =
+    ap (λ l. get_or l 0 0) e in absurd (omega arith)
+one_tail (Some t) None r s ht hu e = let stop : get_or (32 ∷ r) 0 0 ≡ get_or (10 ∷ s) 0 0 =
+    ap (λ l. get_or l 0 0) e in absurd (omega arith)
 one_tail (Some t) (Some u) r s ht hu e =
     let p = one_end 10 t u (10 ∷ r) (10 ∷ s) ht hu refl refl (ap (λ l. drop 1 l) e) in
     (ap Some p.0, ap (λ l. drop 1 l) p.1)
 
-same_parts : (e f : Entry) → IsEntry e → IsEntry f → word e ≡ word f → number_of e ≡ number_of f → text_of e ≡ text_of f → e ≡ f
+same_parts : (e f : Entry) → IsEntry e → IsEntry f → word e ≡ word f → number_of e ≡ number_of f
+    → text_of e ≡ text_of f → e ≡ f
 same_parts e f is_e is_f words numbers texts =
     sym (entry_is_read e is_e)
     ∙ (ap (λ w. entry_read w (number_of e) (text_of e)) words
@@ -233,10 +242,12 @@ same_parts e f is_e is_f words numbers texts =
 same_number : (m n : ℕ) → IsNumber m → IsNumber n → decimal m ≡ decimal n → m ≡ n
 same_number m n is_m is_n e = sym (decimal_read m is_m) ∙ (ap (digits_value 10) e ∙ decimal_read n is_n)
 
-one_word_end : (e f : Entry) (p q : List ℕ) → word e ++ 32 ∷ p ≡ word f ++ 32 ∷ q → (word e ≡ word f) × (32 ∷ p ≡ 32 ∷ q)
+one_word_end : (e f : Entry) (p q : List ℕ) → word e ++ 32 ∷ p ≡ word f ++ 32 ∷ q → (word e ≡ word f)
+    × (32 ∷ p ≡ 32 ∷ q)
 one_word_end e f p q same = one_end 32 (word e) (word f) (32 ∷ p) (32 ∷ q) (word_above e) (word_above f) refl refl same
 
-one_number_end : (m n : ℕ) (t u : Option (List ℕ)) (r s : List ℕ) → IsNumber m → IsNumber n → decimal m ++ tail t r ≡ decimal n ++ tail u s → (decimal m ≡ decimal n) × (tail t r ≡ tail u s)
+one_number_end : (m n : ℕ) (t u : Option (List ℕ)) (r s : List ℕ) → IsNumber m → IsNumber n → decimal m
+    ++ tail t r ≡ decimal n ++ tail u s → (decimal m ≡ decimal n) × (tail t r ≡ tail u s)
 one_number_end m n t u r s is_m is_n same =
     one_end 32 (decimal m) (decimal n) (tail t r) (tail u s)
     (decimal_above 32 m (omega arith) is_m) (decimal_above 32 n (omega arith) is_n)
@@ -246,8 +257,10 @@ one_line : (e f : Entry) (r s : List ℕ) → IsEntry e → IsEntry f → line e
 one_line e f r s is_e is_f same =
     let m = number_is e is_e in
     let n = number_is f is_f in
-    let words = one_word_end e f (decimal (number_of e) ++ tail (text_of e) r) (decimal (number_of f) ++ tail (text_of f) s) (sym (line_then e r) ∙ (same ∙ line_then f s)) in
-    let numbers = one_number_end (number_of e) (number_of f) (text_of e) (text_of f) r s m n (ap (λ l. drop 1 l) words.1) in
+    let words = one_word_end e f (decimal (number_of e) ++ tail (text_of e) r)
+    (decimal (number_of f) ++ tail (text_of f) s) (sym (line_then e r) ∙ (same ∙ line_then f s)) in
+    let numbers = one_number_end (number_of e) (number_of f) (text_of e) (text_of f) r s m n
+    (ap (λ l. drop 1 l) words.1) in
     let texts = one_tail (text_of e) (text_of f) r s (text_is_above e is_e) (text_is_above f is_f) numbers.1 in
     let number = same_number (number_of e) (number_of f) m n numbers.0 in
     (same_parts e f is_e is_f words.0 number texts.0, texts.1)
@@ -269,17 +282,20 @@ printed text r = text ++ ((45 ∷ 45 ∷ line_feed) ++ r)
 no_dash : (e : Entry) (text r s : List ℕ) → printed [] s ≡ printed (line e ++ text) r → ⊥
 no_dash e text r s same =
     let letter = begins_with_letter e (printed text r) in
-    let dash : 45 ≡ get_or (line e ++ printed text r) 0 0 = ap (λ l. get_or l 0 0) (same ∙ append_assoc (line e) text ((45 ∷ 45 ∷ line_feed) ++ r)) in
+    let dash : 45 ≡ get_or (line e ++ printed text r) 0 0 =
+    ap (λ l. get_or l 0 0) (same ∙ append_assoc (line e) text ((45 ∷ 45 ∷ line_feed) ++ r)) in
     absurd (omega arith)
 
-pub print_tells_journal : (xs ys : List Entry) (r s : List ℕ) → All IsEntry xs → All IsEntry ys → printed (journal_text xs) r ≡ printed (journal_text ys) s → (xs ≡ ys) × (r ≡ s)
+pub print_tells_journal : (xs ys : List Entry) (r s : List ℕ) → All IsEntry xs → All IsEntry ys
+    → printed (journal_text xs) r ≡ printed (journal_text ys) s → (xs ≡ ys) × (r ≡ s)
 print_tells_journal [] [] r s hx hy e = (refl, ap (λ l. drop 3 l) e)
 print_tells_journal [] (y ∷ ys) r s hx hy e = absurd (no_dash y (journal_text ys) s r e)
 print_tells_journal (x ∷ xs) [] r s hx hy e = absurd (no_dash x (journal_text xs) r s (sym e))
 print_tells_journal (x ∷ xs) (y ∷ ys) r s hx hy e =
     let left = append_assoc (line x) (journal_text xs) ((45 ∷ 45 ∷ line_feed) ++ r) in
     let right = append_assoc (line y) (journal_text ys) ((45 ∷ 45 ∷ line_feed) ++ s) in
-    let head = one_line x y (printed (journal_text xs) r) (printed (journal_text ys) s) (All-head IsEntry x xs hx) (All-head IsEntry y ys hy) (sym left ∙ (e ∙ right)) in
+    let head = one_line x y (printed (journal_text xs) r) (printed (journal_text ys) s) (All-head IsEntry x xs hx)
+    (All-head IsEntry y ys hy) (sym left ∙ (e ∙ right)) in
     let more = print_tells_journal xs ys r s (All-tail IsEntry x xs hx) (All-tail IsEntry y ys hy) head.1 in
     (ap (λ z. z ∷ xs) head.0 ∙ ap (λ zs. y ∷ zs) more.0, more.1)
 

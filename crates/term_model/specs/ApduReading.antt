@@ -1,5 +1,6 @@
 -- The APDU of remote operations that a tree is: X.229, section 9. The relation is in Apdu.
-use Rattle.std.specs.Prelude.{ℕ, ℤ, List, [], ◌∷◌, Bool, true, false, ◌==◌, ◌&&◌, nat_le, nat_lt, Option, None, Some, option_map, option_and_then, if◌then◌else◌}
+use Rattle.std.specs.Prelude.{ℕ, ℤ, List, [], ◌∷◌, Bool, true, false, ◌==◌, ◌&&◌, nat_le, nat_lt, Option, None, Some}
+use Rattle.std.specs.Prelude.{option_map, option_and_then, if◌then◌else◌}
 use Rattle.term_values.specs.LeafReading.{no_trees}
 use Rattle.term_values.specs.Octets.{integer_in}
 use Rattle.term_values.specs.Tag.{context, is_same_tag, universal}

@@ -4,7 +4,8 @@ use Rattle.term_values.specs.Der.{encoded, written}
 use Rattle.term_values.specs.Octets.{integer_contents}
 use Rattle.term_values.specs.Tag.{context}
 use Rattle.term_values.specs.Tree.{TreeValue}
-use Rattle.term_model.specs.RemoteOperation.{empty_result_apdu, error_apdu, integer, invoke_tag, linked_id, reject_apdu, result_apdu}
+use Rattle.term_model.specs.RemoteOperation.{empty_result_apdu, error_apdu, integer, invoke_tag, linked_id, reject_apdu}
+use Rattle.term_model.specs.RemoteOperation.{result_apdu}
 use Rattle.term_model.specs.declared.apdu.Apdu.{Apdu}
 use Rattle.term_model.specs.declared.apdu.Apdu.TheVariants as apdus
 

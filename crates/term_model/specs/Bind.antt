@@ -32,4 +32,5 @@ bad_bind = 2
 -- the answer to the BIND of an association with this number
 abbrev pub bind_answer : ℕ → ℕ → List ℕ
 bind_answer result association =
-    encoded true (universal 16) (encoded false (universal 10) (integer_contents (pos result)) ++ integer (pos association))
+    encoded true (universal 16) (encoded false (universal 10) (integer_contents (pos result))
+    ++ integer (pos association))

@@ -79,7 +79,8 @@ invocation_in bytes = option_and_then invocation_by (option_and_then invoke_of (
 
 -- the written encoding of names
 abbrev pub assertion_octets : Rdn → List ℕ
-assertion_octets rdn = encoded true (universal 16) (encoded false (universal 6) (oid_contents rdn.attribute) ++ rdn.value)
+assertion_octets rdn = encoded true (universal 16) (encoded false (universal 6) (oid_contents rdn.attribute)
+    ++ rdn.value)
 
 abbrev pub rdn_octets : Rdn → List ℕ
 rdn_octets rdn = encoded true (universal 17) (assertion_octets rdn)

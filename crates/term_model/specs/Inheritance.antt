@@ -1,5 +1,5 @@
--- Inheritance: a class has what its packages and those of all classes from which it derives have; X.722, sections 5.2 and 8.3.
--- An object has the mandatory packages and the conditional ones that its creation chose.
+-- Inheritance: a class has what its packages and those of all classes from which it derives have; X.722, sections 5.2
+-- and 8.3. An object has the mandatory packages and the conditional ones that its creation chose.
 use Rattle.std.specs.Prelude.{◌≡◌, ◌⊎◌, ℕ, List, Some, Contains}
 use Rattle.term_model.specs.declared.packages.PackageRec.{PackageRec}
 use Rattle.term_model.specs.declared.packages.Property.{Property}
@@ -20,7 +20,8 @@ pub record Derives (schema : Set) (class superclass : List ℕ) : Type 0 where
 -- the least set of classes that has a class, and each class from which one of them derives
 pub data IsAbove (schema : Set) (class : List ℕ) : List ℕ → Type 0 where
   Itself : IsAbove schema class class
-  Further : {above further : List ℕ} → IsAbove schema class above → Derives schema above further → IsAbove schema class further
+  Further : {above further : List ℕ} → IsAbove schema class above → Derives schema above further
+      → IsAbove schema class further
 
 -- an object of a class whose creation chose these packages has the package
 pub record HasPackage (schema : Set) (class : List ℕ) (chosen : List (List ℕ)) (has : PackageRec) : Type 0 where
@@ -45,7 +46,8 @@ pub record HasAction (schema : Set) (class : List ℕ) (chosen : List (List ℕ)
   pub has : HasPackage schema class chosen of_package
   pub is : Contains of_package.actions action
 
-pub record HasNotification (schema : Set) (class : List ℕ) (chosen : List (List ℕ)) (notification : List ℕ) : Type 0 where
+pub record HasNotification (schema : Set) (class : List ℕ) (chosen : List (List ℕ))
+    (notification : List ℕ) : Type 0 where
   pub of_package : PackageRec
   pub has : HasPackage schema class chosen of_package
   pub is : Contains of_package.notifications notification

@@ -1,5 +1,5 @@
--- Laws of journals: one that follows another goes on where that one ended, what was placed for an association stays, the
--- journal of a script comes to its agent and has the script's frames; docs/PROFILE.md, section 7.
+-- Laws of journals: one that follows another goes on where that one ended, what was placed for an association stays,
+-- the journal of a script comes to its agent and has the script's frames; docs/PROFILE.md, section 7.
 use Rattle.std.specs.Prelude.{◌≡◌, ℕ, ◌+◌, ◌==◌, ◌&&◌, List, [], ◌∷◌, ◌++◌, if◌then◌else◌}
 use Rattle.term_model.specs.declared.agent_state.AgentState.{AgentState}
 use Rattle.term_model.specs.declared.entry.Entry.{Entry}

@@ -53,7 +53,8 @@ name_ties = lists_ties rdn_cmp rdn_ties
 pub rdn_total : IsTotalOrder rdn_cmp
 rdn_total =
     then_total (on_total (λ (rdn : Rdn). rdn.attribute) nat_list_cmp_total)
-    (then_total (on_total (λ (rdn : Rdn). length rdn.value) nat_cmp_total) (on_total (λ (rdn : Rdn). rdn.value) nat_list_cmp_total))
+    (then_total (on_total (λ (rdn : Rdn). length rdn.value) nat_cmp_total)
+    (on_total (λ (rdn : Rdn). rdn.value) nat_list_cmp_total))
 
 pub name_total : IsTotalOrder name_cmp
 name_total = lists_total rdn_total

@@ -1,5 +1,5 @@
--- The order of names: as lists of their parts, a name before those that it begins. A part goes by its attribute's arcs, then by
--- the length of its value, then by the value's octets; docs/PROFILE.md, section 4.
+-- The order of names: as lists of their parts, a name before those that it begins. A part goes by its attribute's arcs,
+-- then by the length of its value, then by the value's octets; docs/PROFILE.md, section 4.
 use Rattle.std.specs.Prelude.{List, length}
 use Rattle.std.specs.Cmp.Lexicographic.{slice_cmp}
 use Rattle.std.specs.declared.cmp.Ordering.{Ordering}

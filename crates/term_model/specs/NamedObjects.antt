@@ -1,5 +1,5 @@
--- The objects of the system: a finite map from names to objects, as the list of its entries by rising name, each name once. So
--- equal maps are equal lists. X.720, section 5; the order is this project's own.
+-- The objects of the system: a finite map from names to objects, as the list of its entries by rising name, each name
+-- once. So equal maps are equal lists. X.720, section 5; the order is this project's own.
 use Rattle.std.specs.Prelude.{ℕ, Bool, false, List, [], ◌∷◌, Option, filter, find, map, not, slice_get}
 use Rattle.std.specs.List.Sorted.{IsStrictlySortedBy}
 use Rattle.std.specs.Option.{option_map, option_map_or}

@@ -38,12 +38,14 @@ attribute_record records attribute = find (λ (of_attribute : AttrRec). is_same_
 -- the written encoding of an attribute's value, in the attribute's syntax
 abbrev pub value_octets : List AttrRec → Attribute → List ℕ
 value_octets records attribute =
-    option_map_or (λ (of_attribute : AttrRec). der of_attribute.syntax attribute.value) (attribute_record records attribute.id) []
+    option_map_or (λ (of_attribute : AttrRec). der of_attribute.syntax attribute.value)
+    (attribute_record records attribute.id) []
 
 -- Attribute ::= SEQUENCE { attributeId, attributeValue }, with the identifier in globalForm
 abbrev pub attribute_octets : List AttrRec → Attribute → List ℕ
 attribute_octets records attribute =
-    encoded true (universal 16) (encoded false global_form (oid_contents attribute.id) ++ value_octets records attribute)
+    encoded true (universal 16) (encoded false global_form (oid_contents attribute.id)
+    ++ value_octets records attribute)
 
 -- the attributes that a Get without a list gives
 abbrev pub readable : Set → Object → List Attribute

@@ -62,8 +62,8 @@ abbrev pub sent_parameter : Option (List ℕ) → List ℕ
 sent_parameter None = []
 sent_parameter (Some parameter) = if nat_lt most_parameter (length parameter) then [] else parameter
 
--- the greatest of the agent's own invoke ids, and the one that follows an own invoke id: they count from 1 and begin anew
--- behind the greatest one
+-- the greatest of the agent's own invoke ids, and the one that follows an own invoke id: they count from 1 and begin
+-- anew behind the greatest one
 abbrev pub last_own : ℕ
 last_own = 2147483647
 

@@ -1,5 +1,5 @@
--- The parts of a tree under a tag: what stands inside it, its contents octets, and the identifier that these denote; X.690,
--- section 8.1.
+-- The parts of a tree under a tag: what stands inside it, its contents octets, and the identifier that these denote;
+-- X.690, section 8.1.
 use Rattle.std.specs.Prelude.{ℕ, ℤ, List, Option, None, Some, option_and_then, if◌then◌else◌}
 use Rattle.term_values.specs.declared.tag.Tag.{Tag}
 use Rattle.term_values.specs.Octets.{integer_in}

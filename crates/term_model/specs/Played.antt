@@ -1,5 +1,5 @@
--- The journal that a script gives. After an `open` all that was placed is taken. After a `send` the operation, where one
--- was queued, is granted and committed, and then all is taken. At the end each association is finished and closed;
+-- The journal that a script gives. After an `open` all that was placed is taken. After a `send` the operation, where
+-- one was queued, is granted and committed, and then all is taken. At the end each association is finished and closed;
 -- docs/PROFILE.md, section 7.
 use Rattle.std.specs.Prelude.{ℕ, suc, zero, ◌+◌, ◌==◌, List, [], ◌∷◌, ◌++◌, length, nat_lt, if◌then◌else◌}
 use Rattle.std.specs.Option.{option_map_or}

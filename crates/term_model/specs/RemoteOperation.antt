@@ -44,8 +44,8 @@ result_apdu invoke operation result =
 abbrev pub empty_result_apdu : ℤ → List ℕ
 empty_result_apdu invoke = encoded true result_tag (integer invoke)
 
--- ROIV of a linked reply: the agent's own invoke id, the invoke id to which it is linked, and what stands under the tag of
--- LinkedReply with this number
+-- ROIV of a linked reply: the agent's own invoke id, the invoke id to which it is linked, and what stands under the tag
+-- of LinkedReply with this number
 abbrev pub linked_apdu : ℤ → ℤ → ℕ → List ℕ → List ℕ
 linked_apdu own invoke number contents =
     encoded true invoke_tag
@@ -58,7 +58,8 @@ abbrev pub rejected_id : Option ℤ → List ℕ
 rejected_id None = encoded false (universal 5) []
 rejected_id (Some invoke) = integer invoke
 
--- RORJ: the invoke id, and the problem under the tag of its kind: 0 general, 1 of an invoke, 2 of a result, 3 of an error
+-- RORJ: the invoke id, and the problem under the tag of its kind: 0 general, 1 of an invoke, 2 of a result, 3 of an
+-- error
 abbrev pub reject_apdu : Option ℤ → ℕ → ℤ → List ℕ
 reject_apdu invoke kind problem =
     encoded true reject_tag (rejected_id invoke ++ encoded false (context kind) (integer_contents problem))

@@ -1,5 +1,5 @@
--- Which objects a request reaches: X.711, section 7.5, type Scope; docs/PROFILE.md. The base object is at the level 0, and
--- each object is one level below its superior.
+-- Which objects a request reaches: X.711, section 7.5, type Scope; docs/PROFILE.md. The base object is at the level 0,
+-- and each object is one level below its superior.
 use Rattle.std.specs.Prelude.{◌≡◌, ℕ, ℤ, pos, List, [], ◌∷◌, ◌++◌, Bool, true, false, Contains, Option, Some, None}
 use Rattle.std.specs.Prelude.{◌==◌, ◌&&◌, ◌||◌, filter, int_le, length, if◌then◌else◌}
 use Rattle.std.specs.Option.{option_map_or}

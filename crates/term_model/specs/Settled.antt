@@ -1,5 +1,5 @@
--- Settled: no association is open, nothing that was placed for one is left to take, and no operation of one is outstanding;
--- docs/PROFILE.md, section 7.
+-- Settled: no association is open, nothing that was placed for one is left to take, and no operation of one is
+-- outstanding; docs/PROFILE.md, section 7.
 use Rattle.std.specs.Prelude.{◌≡◌, ℕ, length, IsTrue, Some}
 use Rattle.term_model.specs.declared.agent_state.AgentState.{AgentState}
 use Rattle.term_model.specs.declared.agent_state.Association.{Association}

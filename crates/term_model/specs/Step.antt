@@ -19,7 +19,8 @@ use Rattle.term_model.specs.declared.entry.Entry.TheVariants as entry
 use Rattle.term_model.specs.declared.entry.Why.{Why}
 use Rattle.term_model.specs.declared.entry.Why.TheVariants as why
 use Rattle.term_model.specs.AgentState.{association_of, operation_of, outstanding, is_outstanding, left_to_take}
-use Rattle.term_model.specs.AgentState.{is_live_state, is_finished_state, is_closed_state, is_waiting_state, granted_moment}
+use Rattle.term_model.specs.AgentState.{is_live_state, is_finished_state, is_closed_state, is_waiting_state}
+use Rattle.term_model.specs.AgentState.{granted_moment}
 use Rattle.term_model.specs.Arriving.{Arriving, arriving}
 use Rattle.term_model.specs.Arriving.Arriving.{Rejected, Cancels, NoEffect, Queued}
 use Rattle.term_model.specs.Bind.{title_in, bind_answer, accepted, bad_bind}
@@ -56,14 +57,16 @@ is_legal agent (entry.Arrived number apdu) =
     option_map_or (λ (a : Association). is_live_state a.state && nat_lt (outstanding agent number) most_outstanding)
     (association_of agent number) false
 is_legal agent (entry.Granted number moment) =
-    option_map_or (λ (o : Operation). is_waiting_state o.state && nat_le moment last_moment) (operation_of agent number) false
+    option_map_or (λ (o : Operation). is_waiting_state o.state && nat_le moment last_moment)
+    (operation_of agent number) false
 is_legal agent (entry.Committed number) =
     option_map_or (λ (o : Operation). is_some (granted_moment o.state)) (operation_of agent number) false
 is_legal agent (entry.Taken number count) =
     option_map_or (λ (a : Association). may_take count (left_to_take a)) (association_of agent number) false
 is_legal agent (entry.Finished number) =
     option_map_or (λ (a : Association). is_live_state a.state) (association_of agent number) false
-is_legal agent (entry.Closed number cause) = option_map_or (may_close agent number cause) (association_of agent number) false
+is_legal agent (entry.Closed number cause) =
+    option_map_or (may_close agent number cause) (association_of agent number) false
 
 -- the association whose manager bound with these octets; one that is turned away is finished at once
 abbrev pub bound : ℕ → Option (List ℕ) → Association
@@ -92,7 +95,8 @@ queued number invocation = record {
 -- the associations with a change of the one under a number
 abbrev pub changed_association : List Association → ℕ → (Association → Association) → List Association
 changed_association associations number change =
-    option_map_or (λ a. slice_set associations (number - 1) (change a)) (slice_get associations (number - 1)) associations
+    option_map_or (λ a. slice_set associations (number - 1) (change a))
+    (slice_get associations (number - 1)) associations
 
 abbrev pub changed_operation : List Operation → ℕ → OperationState → List Operation
 changed_operation operations number state =
@@ -116,10 +120,11 @@ with_replies invoke number replies a =
 
 -- the operation under a number ends with this entry
 abbrev pub ended : AgentState → ℕ → AgentState
-ended agent number = record agent { operations = changed_operation agent.operations number (operation.Ended agent.entries) }
+ended agent number = record agent
+    { operations = changed_operation agent.operations number (operation.Ended agent.entries) }
 
--- what a granted operation does on the objects as they are: a request's replies are placed for its association. An append is
--- begun by no entry so far.
+-- what a granted operation does on the objects as they are: a request's replies are placed for its association. An
+-- append is begun by no entry so far.
 abbrev pub carried_out : AgentState → Work → ℕ → AgentState
 carried_out agent (work.Asked association_ invoke request) moment =
     let outcome = exec agent.schema agent.objects request moment in
@@ -171,7 +176,8 @@ cancelled_at agent number id cancelled index o =
       associations = changed_association agent.associations number (with_placed (cancelling id cancelled));
     }
     else record agent {
-      associations = changed_association agent.associations number (with_placed (frame (error_apdu id mistyped_operation [])));
+      associations = changed_association agent.associations number
+          (with_placed (frame (error_apdu id mistyped_operation [])));
     }
 
 abbrev pub cancelled_where : AgentState → ℕ → ℤ → ℤ → Option ℕ → AgentState
@@ -190,7 +196,8 @@ received agent number (Rejected invoke kind problem) = record agent {
 received agent number (Cancels id cancelled) =
     cancelled_where agent number id cancelled (position (is_outstanding_as number cancelled) agent.operations)
 received agent number NoEffect = agent
-received agent number (Queued invocation) = record agent { operations = agent.operations ++ queued number invocation ∷ [] }
+received agent number (Queued invocation) =
+    record agent { operations = agent.operations ++ queued number invocation ∷ [] }
 
 -- what the entry does
 abbrev pub effect : AgentState → Entry → AgentState

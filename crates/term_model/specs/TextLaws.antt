@@ -1,4 +1,5 @@
--- Which entries the program can hold, and that different journals of them have different texts; docs/PROFILE.md, section 5.
+-- Which entries the program can hold, and that different journals of them have different texts; docs/PROFILE.md,
+-- section 5.
 use Rattle.std.specs.Prelude.{◌≡◌, ℕ, ◌<◌, ◌^◌, List, ◌++◌}
 use Rattle.std.specs.List.{All}
 use Rattle.hex.specs.Hex.{IsBytes}

@@ -32,7 +32,8 @@ impl Model for AttrRecs {
 
     ghost view = { λ list. list.items.items };
 
-    ghost invariant = { λ list. HasPlaces list.places (map (λ (of_attribute : AttrRec). of_attribute.id) list.items.items) };
+    ghost invariant = { λ list. HasPlaces list.places
+        (map (λ (of_attribute : AttrRec). of_attribute.id) list.items.items) };
 }
 
 impl AttrRecs {

@@ -1,7 +1,9 @@
 //! Laws of journals and of the map of objects, each as the contract of a function that does nothing.
 
-ghost use Rattle.term_model.specs.JournalLaws.{LegalGoesOn, PlacedStays, ReplayGoesOn, ReplayStepsOn, ScriptFrames, ScriptReplays};
-ghost use Rattle.term_model.specs.MapLaws.{EqualMaps, NamesRise, NextIsLeast, NoneIsGreater, OthersAreLeft, OthersStay, RemovedIsGone, StoredIsFound};
+ghost use Rattle.term_model.specs.JournalLaws.{LegalGoesOn, PlacedStays, ReplayGoesOn, ReplayStepsOn, ScriptFrames};
+ghost use Rattle.term_model.specs.JournalLaws.{ScriptReplays};
+ghost use Rattle.term_model.specs.MapLaws.{EqualMaps, NamesRise, NextIsLeast, NoneIsGreater, OthersAreLeft, OthersStay};
+ghost use Rattle.term_model.specs.MapLaws.{RemovedIsGone, StoredIsFound};
 ghost use Rattle.term_model.specs.TextLaws.{PrintTellsJournal, TextsDiffer};
 
 /// A journal that follows another is replayed from the state that the other one came to.
@@ -14,7 +16,8 @@ pub fn replay_steps_on()
     ensures { ReplayStepsOn }
 {}
 
-/// Two journals in a row are legal where the first one is, and the second one from the state that the first one came to.
+/// Two journals in a row are legal where the first one is, and the second one from the state that the first one came
+/// to.
 pub fn legal_goes_on()
     ensures { LegalGoesOn }
 {}

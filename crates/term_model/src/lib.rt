@@ -1,5 +1,5 @@
-//! The managed system as definitions speak of it: names, objects, records, requests, replies, the entries of the journal and
-//! the state of the one-manager agent. X.720, X.711 and X.722.
+//! The managed system as definitions speak of it: names, objects, records, requests, replies, the entries of the
+//! journal and the state of the one-manager agent. X.720, X.711 and X.722.
 #![tactic(auto)]
 
 pub mod actions;

@@ -6,7 +6,8 @@ use std::alloc::{AllocError, Global};
 use std::marker::Model;
 use term_values::{Oid, Value};
 
-/// The most octets of an object, as the encoding of its attributes as SET OF Attribute. This is the project's own limit.
+/// The most octets of an object, as the encoding of its attributes as SET OF Attribute. This is the project's own
+/// limit.
 pub const MOST_OBJECT: usize = 16_384;
 
 /// Identifiers in their order.

@@ -69,8 +69,8 @@ impl Objects {
         find_in(self.items.as_slice(), name)
     }
 
-    /// Stores an object under its name, in place of the one that had the name. For want of memory nothing changes, and the
-    /// object is let go.
+    /// Stores an object under its name, in place of the one that had the name. For want of memory nothing changes, and
+    /// the object is let go.
     pub fn store(&mut self, entry: NamedObject) -> Result<(), AllocError>
         ensures stored { OnOk result (self.new ≡ stored entry self.old) }
         ensures kept { OnErr result (self.new ≡ self.old) }

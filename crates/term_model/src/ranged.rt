@@ -11,8 +11,8 @@ use crate::name::Name;
 use crate::object::Object;
 use crate::steps::{StepLedger, Steps};
 
-/// A finite map from names to objects. It gives an object only to a caller who lends a counter of visits: each call adds at
-/// least one visit where the map isn't empty, and at most 128 up to 100,000 objects. No call takes memory.
+/// A finite map from names to objects. It gives an object only to a caller who lends a counter of visits: each call
+/// adds at least one visit where the map isn't empty, and at most 128 up to 100,000 objects. No call takes memory.
 pub trait Ranged<L: StepLedger> {
     ghost objects: { Self → List NamedObject };
 

@@ -66,7 +66,8 @@ pub struct ClassRec {
     pub mandatory: PackageRecs,
     /// The packages of CONDITIONAL PACKAGES, which an object has where its creation names them.
     pub conditional: PackageRecs,
-    /// The properties of each attribute, joined over all packages of the class and of the classes from which it derives.
+    /// The properties of each attribute, joined over all packages of the class and of the classes from which it
+    /// derives.
     pub properties: Properties,
 }
 

@@ -6,7 +6,8 @@ ghost use Rattle.std.specs.Prelude.{◌≡◌, ◌+◌, ◌<◌, ℕ};
 use std::marker::Model;
 use std::sync::ledger::{Blank, Book, Ledger, Share};
 
-/// What visits are entered into. Code that is generic over it can't make one, and so counts on the one that it was lent.
+/// What visits are entered into. Code that is generic over it can't make one, and so counts on the one that it was
+/// lent.
 pub trait StepLedger {
     ghost visits: { Self → ℕ };
 

@@ -1,11 +1,13 @@
 -- The date that `date_from` gives is one of the calendar, and has so many days before it.
-use Rattle.std.proofs.Common.{◌≡◌, ℕ, zero, suc, ◌+◌, ◌-◌, ◌<◌, ◌≤◌, Bool, true, false, nat_lt, if◌then◌else◌, refl, sym, ◌∙◌, subst, arith, pos}
+use Rattle.std.proofs.Common.{◌≡◌, ℕ, zero, suc, ◌+◌, ◌-◌, ◌<◌, ◌≤◌, Bool, true, false, nat_lt, if◌then◌else◌, refl}
+use Rattle.std.proofs.Common.{sym, ◌∙◌, subst, arith, pos}
 use Rattle.std.proofs.lemmas.Bool.Decides.{nat_tests}
 use Rattle.jiff_core.specs.declared.civil.date.Date.{Date as CalendarDate}
 use Rattle.jiff_core.specs.Calendar.{day_count, days_in_month, days_in_year, days_from_civil, IsCivilDate, IsYear}
 use Rattle.jiff_core.specs.Date.{epoch_day}
 use Rattle.jiff_core.proofs.SignedLemmas.{signed_arith}
-use Rattle.jiff_core.proofs.CalendarLemmas.{days_from_civil-day_count, day_count-day, day_count-next_month, day_count-next_year, day_count-last_of_year, day_count-epoch, day_count-end}
+use Rattle.jiff_core.proofs.CalendarLemmas.{days_from_civil-day_count, day_count-day, day_count-next_month}
+use Rattle.jiff_core.proofs.CalendarLemmas.{day_count-next_year, day_count-last_of_year, day_count-epoch, day_count-end}
 use Rattle.jiff_core.proofs.DateLemmas.{epoch_day_injective}
 use Rattle.term_values.specs.Moment.{Date, date_in_year, date_from, days_of_year}
 use Rattle.term_values.specs.Times.{days_in}
@@ -40,7 +42,12 @@ unfolding date_in_year
 day_in_year zero year month days fits low last within =
     let december : month ≡ 12 = omega arith in
     in_month year month days fits low (omega arith)
-    (rw december (omega (arith, rw december at within, day_count-last_of_year (pos year), day_count-day (pos year) 12 31 1 (omega arith) (omega arith))))
+    (rw december (omega (
+      arith,
+      rw december at within,
+      day_count-last_of_year (pos year),
+      day_count-day (pos year) 12 31 1 (omega arith) (omega arith),
+    )))
 day_in_year (suc months) year month days fits low last within =
     let next = day_count-next_month (pos year) month low in
     month_by_test _ year month days _ _ refl (λ here. in_month year month days fits low (omega arith) here)
@@ -80,16 +87,19 @@ pub day_from : (years year last days : ℕ) → year + years ≡ last → last �
 unfolding date_from
 day_from zero year last days sum fits within =
     let only : year ≡ last = omega arith in
-    let here : days + day_count (pos year) 1 1 < day_count (pos year) 1 1 + days_in_year (pos year) = rw only (rw only at within) in
+    let here : days + day_count (pos year) 1 1 < day_count (pos year) 1 1 + days_in_year (pos year) =
+    rw only (rw only at within) in
     of_year year last _ _ (omega arith)
     (day_in_year 11 year 1 days (omega (arith, signed_arith)) (omega arith) (omega arith) here)
 day_from (suc years) year last days sum fits within =
-    let next = day_count-next_year (pos year) (pos (year + 1)) (omega (arith, signed_arith)) (omega (arith, signed_arith)) in
+    let next = day_count-next_year (pos year) (pos (year + 1)) (omega (arith, signed_arith))
+    (omega (arith, signed_arith)) in
     year_by_test _ year last days _ _ _ refl
     (λ here. of_year year last _ _ (omega arith)
     (day_in_year 11 year 1 days (omega (arith, signed_arith)) (omega arith) (omega arith) (omega (arith, here))))
     (λ past. weaker year last _ _
-    (subst (λ n. IsDayFrom (year + 1) last n (date_from years (year + 1) (days - days_of_year year))) (omega (arith, next, past))
+    (subst (λ n. IsDayFrom (year + 1) last n (date_from years (year + 1) (days - days_of_year year)))
+    (omega (arith, next, past))
     (day_from years (year + 1) last (days - days_of_year year) (omega arith) fits (omega (arith, next, past)))))
 
 -- so many days behind the first of January 1970

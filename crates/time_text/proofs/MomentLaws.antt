@@ -1,5 +1,6 @@
 -- The cells of a moment's text, and the second that its parts tell.
-use Rattle.std.proofs.Common.{rules, ◌≡◌, ℕ, ◌*◌, ◌/◌, ◌%◌, ◌^◌, ◌<◌, ◌≤◌, List, [], ◌∷◌, ◌++◌, refl, sym, ap, subst, ◌∙◌, arith, Fits, w8, w64, true, ℤ, pos, ◌-ℤ◌, to_z, of_z, unsigned_abs}
+use Rattle.std.proofs.Common.{rules, ◌≡◌, ℕ, ◌*◌, ◌/◌, ◌%◌, ◌^◌, ◌<◌, ◌≤◌, List, [], ◌∷◌, ◌++◌, refl, sym, ap, subst}
+use Rattle.std.proofs.Common.{◌∙◌, arith, Fits, w8, w64, true, ℤ, pos, ◌-ℤ◌, to_z, of_z, unsigned_abs}
 use Rattle.std.proofs.lemmas.Int.{to_z_pos}
 use Rattle.std.specs.Int.{Width}
 use Rattle.std.specs.Prelude.{int_div}
@@ -53,7 +54,8 @@ abbrev pub pairs_text : Parts → List ℕ
 pairs_text parts = (digits_of 2 (parts.year / 100) ++ digits_of 2 (parts.year % 100)) ++ behind_year parts
 
 pub pairs_are : (seconds : ℕ) → moment_text seconds ≡ pairs_text (parts_of seconds)
-pairs_are seconds = text_is seconds ∙ ap (λ year. year ++ behind_year (parts_of seconds)) (year_digits (parts_of seconds).year)
+pairs_are seconds = text_is seconds
+    ∙ ap (λ year. year ++ behind_year (parts_of seconds)) (year_digits (parts_of seconds).year)
 
 -- the numbers of which a text consists are below those that its digits can tell
 pub record IsSmall (parts : Parts) : Type 0 where
@@ -94,7 +96,8 @@ clock_parts clock seconds is =
 
 -- and the other way
 pub clock_seconds : (clock : DateTime) (seconds : ℕ) → epoch_day clock.date ≡ pos (seconds / 86400)
-    → clock.time.hour ≡ seconds % 86400 / 3600 → clock.time.minute ≡ seconds % 3600 / 60 → clock.time.second ≡ seconds % 60
+    → clock.time.hour ≡ seconds % 86400 / 3600 → clock.time.minute ≡ seconds % 3600 / 60
+    → clock.time.second ≡ seconds % 60
     → clock.time.subsec_nanosecond ≡ 0 → civil_nanos clock ≡ pos (seconds * 1000000000)
 clock_seconds clock seconds days hour minute second subsec =
     omega (arith, signed_arith, civil_nanos-parts clock)
@@ -103,11 +106,13 @@ clock_seconds clock seconds days hour minute second subsec =
 pub cast_back : (w : Width) (z : ℤ) (n : ℕ) → z ≡ pos n → n < 2 ^ hbits w → unsigned_abs (to_z w (of_z w z)) ≡ n
 cast_back w z n is small = rw (is, back_small w (pos n) small)
 
-pub cast_fits : (z : ℤ) (n : ℕ) → z ≡ pos n → n < 10000 → T (non_neg (to_z w16 (of_z w16 z))) × Fits w16 (unsigned_abs (to_z w16 (of_z w16 z)))
+pub cast_fits : (z : ℤ) (n : ℕ) → z ≡ pos n → n < 10000 → T (non_neg (to_z w16 (of_z w16 z)))
+    × Fits w16 (unsigned_abs (to_z w16 (of_z w16 z)))
 cast_fits z n is small = rw (is, back_small w16 (pos n) (omega arith)) (tt, search rules)
 
 -- the date of a moment is one of the calendar
-pub moment_date : (seconds : ℕ) → seconds ≤ 253370764799 → IsDate (pos (parts_of seconds).year) (pos (parts_of seconds).month) (pos (parts_of seconds).day)
+pub moment_date : (seconds : ℕ) → seconds ≤ 253370764799
+    → IsDate (pos (parts_of seconds).year) (pos (parts_of seconds).month) (pos (parts_of seconds).day)
 moment_date seconds within =
     let day = day_behind_1970 (seconds / 86400) (omega arith) in
     (day.civil.0, omega (arith, signed_arith, day.civil.1), omega (arith, signed_arith, day.civil.2))
@@ -115,19 +120,22 @@ moment_date seconds within =
 -- a clock that shows its parts shows that second
 pub told_clock : (clock : DateTime) (seconds : ℕ) → seconds ≤ 253370764799
     → IsYmd (pos (parts_of seconds).year) (pos (parts_of seconds).month) (pos (parts_of seconds).day) clock.date
-    → IsHms (pos (parts_of seconds).hour) (pos (parts_of seconds).minute) (pos (parts_of seconds).second) (pos 0) clock.time
+    → IsHms (pos (parts_of seconds).hour) (pos (parts_of seconds).minute) (pos (parts_of seconds).second)
+    (pos 0) clock.time
     → civil_nanos clock ≡ pos (seconds * 1000000000)
 told_clock clock seconds within date time =
     let days = seconds / 86400 in
     let day = day_behind_1970 days (omega arith) in
     let month : clock.date.month ≡ (parts_of seconds).month = omega (arith, signed_arith, date.1) in
     let same : clock.date.day ≡ (parts_of seconds).day = omega (arith, signed_arith, date.2) in
-    let shown : epoch_day clock.date ≡ pos days = rw (date.0, month, same) (civil_epoch_day (date_from 8029 1970 days) days day) in
+    let shown : epoch_day clock.date ≡ pos days =
+    rw (date.0, month, same) (civil_epoch_day (date_from 8029 1970 days) days day) in
     clock_seconds clock seconds shown (omega (arith, signed_arith, time.0)) (omega (arith, signed_arith, time.1))
     (omega (arith, signed_arith, time.2)) (omega (arith, signed_arith, time.3))
 
 -- the second of an instant
-pub instant_second : (nanos second : ℤ) (seconds : ℕ) → nanos ≡ pos (seconds * 1000000000) → second ≡ int_div nanos (pos 1000000000) → second ≡ pos seconds
+pub instant_second : (nanos second : ℤ) (seconds : ℕ) → nanos ≡ pos (seconds * 1000000000)
+    → second ≡ int_div nanos (pos 1000000000) → second ≡ pos seconds
 instant_second nanos second seconds is at =
     let whole : seconds * 1000000000 / 1000000000 ≡ seconds = omega arith in
     at ∙ ap (λ z. int_div z (pos 1000000000)) is ∙ ap (λ n. pos n) whole
@@ -139,7 +147,8 @@ small_day date = omega (arith, date.day_in, days_in_month_bounds date.year date.
 -- what is read of the parts of a moment is a date
 pub date_of : (seconds : ℕ) → seconds ≤ 253370764799 → (parts : Parts) → parts ≡ parts_of seconds → (year month day : ℤ)
     → year ≡ pos parts.year → month ≡ pos parts.month → day ≡ pos parts.day → IsDate year month day
-date_of seconds within parts is year month day of_year of_month of_day = rw (of_year, of_month, of_day, is) (moment_date seconds within)
+date_of seconds within parts is year month day of_year of_month of_day =
+    rw (of_year, of_month, of_day, is) (moment_date seconds within)
 
 -- a clock that is made of the parts of a moment, cast to signed numbers, shows that second
 pub made_clock : (seconds : ℕ) → seconds ≤ 253370764799 → (parts : Parts) → parts ≡ parts_of seconds
@@ -151,7 +160,8 @@ made_clock seconds within parts is clock date time date_is time_is of_date of_ti
     let told = parts_of seconds in
     let small = parts_small seconds within in
     let dated = subst (λ (p : Parts). IsYmd (to_z w16 p.year) (to_z w8 p.month) (to_z w8 p.day) date) is of_date in
-    let timed = subst (λ (p : Parts). IsHms (to_z w8 p.hour) (to_z w8 p.minute) (to_z w8 p.second) (pos 0) time) is of_time in
+    let timed = subst (λ (p : Parts). IsHms (to_z w8 p.hour) (to_z w8 p.minute) (to_z w8 p.second) (pos 0) time)
+    is of_time in
     let year = dated.0 ∙ to_z_pos w16 told.year (omega (arith, small.year)) in
     let month = dated.1 ∙ to_z_pos w8 told.month (omega (arith, small.month)) in
     let day = dated.2 ∙ to_z_pos w8 told.day (omega (arith, small.day)) in
@@ -159,11 +169,14 @@ made_clock seconds within parts is clock date time date_is time_is of_date of_ti
     let minute = timed.1 ∙ to_z_pos w8 told.minute (omega (arith, small.minute)) in
     let second = timed.2 ∙ to_z_pos w8 told.second (omega (arith, small.second)) in
     told_clock clock seconds within
-    (subst (λ (d : CalendarDate). IsYmd (pos told.year) (pos told.month) (pos told.day) d) (sym date_is) (year, month, day))
-    (subst (λ (t : ClockTime). IsHms (pos told.hour) (pos told.minute) (pos told.second) (pos 0) t) (sym time_is) (hour, minute, second, timed.3))
+    (subst (λ (d : CalendarDate). IsYmd (pos told.year) (pos told.month) (pos told.day) d) (sym date_is)
+    (year, month, day))
+    (subst (λ (t : ClockTime). IsHms (pos told.hour) (pos told.minute) (pos told.second) (pos 0) t) (sym time_is)
+    (hour, minute, second, timed.3))
 
 -- an instant that isn't negative has no second below 0
-pub not_below : (second : ℤ) (seconds : ℕ) → seconds ≤ 253370764799 → second ≡ pos seconds → lt_z (to_z w64 (of_z w64 second)) (pos 0) ≡ true → ⊥
+pub not_below : (second : ℤ) (seconds : ℕ) → seconds ≤ 253370764799 → second ≡ pos seconds
+    → lt_z (to_z w64 (of_z w64 second)) (pos 0) ≡ true → ⊥
 not_below second seconds within is below =
     let back : to_z w64 (of_z w64 second) ≡ pos seconds = rw is (back_small w64 (pos seconds) (omega arith)) in
     omega (arith, signed_arith, rw back at below)
@@ -172,5 +185,6 @@ pub has_instant : (nanos : ℤ) (seconds : ℕ) → seconds ≤ 253370764799 →
     → IsTimestampNanos (nanos -ℤ nanos_of_seconds (pos 0))
 has_instant nanos seconds within is = omega (arith, signed_arith)
 
-pub at_no_offset : (nanos : ℤ) (seconds : ℕ) → nanos ≡ pos (seconds * 1000000000) → nanos -ℤ nanos_of_seconds (pos 0) ≡ pos (seconds * 1000000000)
+pub at_no_offset : (nanos : ℤ) (seconds : ℕ) → nanos ≡ pos (seconds * 1000000000)
+    → nanos -ℤ nanos_of_seconds (pos 0) ≡ pos (seconds * 1000000000)
 at_no_offset nanos seconds is = omega (arith, signed_arith)

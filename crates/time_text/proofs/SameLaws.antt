@@ -1,5 +1,6 @@
 -- No two moments have one text.
-use Rattle.std.proofs.Common.{◌≡◌, ℕ, ◌+◌, ◌-◌, ◌*◌, ◌/◌, ◌%◌, ◌<◌, ◌≤◌, List, get_or, sym, ap, ◌∙◌, arith, pos, Result, Ok, Err, IfOk, OnErr}
+use Rattle.std.proofs.Common.{◌≡◌, ℕ, ◌+◌, ◌-◌, ◌*◌, ◌/◌, ◌%◌, ◌<◌, ◌≤◌, List, get_or, sym, ap, ◌∙◌, arith, pos, Result}
+use Rattle.std.proofs.Common.{Ok, Err, IfOk, OnErr}
 use Rattle.jiff_core.specs.Calendar.{days_from_civil}
 use Rattle.jiff_core.proofs.SignedLemmas.{signed_arith}
 use Rattle.term_values.specs.Moment.{moment_text, date_from}
@@ -23,16 +24,21 @@ four_read n small = omega arith
 
 same_parts : (p q : Parts) → IsSmall p → IsSmall q → parts_text p ≡ parts_text q → p ≡ q
 same_parts p q small other same =
-    let year = sym (four_read p.year small.year) ∙ ap (λ text. number_at text 0 * 100 + number_at text 2) same ∙ four_read q.year other.year in
-    let month = sym (two_read p.month small.month) ∙ ap (λ text. number_at text 4) same ∙ two_read q.month other.month in
+    let year = sym (four_read p.year small.year) ∙ ap (λ text. number_at text 0 * 100 + number_at text 2) same
+    ∙ four_read q.year other.year in
+    let month = sym (two_read p.month small.month) ∙ ap (λ text. number_at text 4) same
+    ∙ two_read q.month other.month in
     let day = sym (two_read p.day small.day) ∙ ap (λ text. number_at text 6) same ∙ two_read q.day other.day in
     let hour = sym (two_read p.hour small.hour) ∙ ap (λ text. number_at text 8) same ∙ two_read q.hour other.hour in
-    let minute = sym (two_read p.minute small.minute) ∙ ap (λ text. number_at text 10) same ∙ two_read q.minute other.minute in
-    let second = sym (two_read p.second small.second) ∙ ap (λ text. number_at text 12) same ∙ two_read q.second other.second in
+    let minute = sym (two_read p.minute small.minute) ∙ ap (λ text. number_at text 10) same
+    ∙ two_read q.minute other.minute in
+    let second = sym (two_read p.second small.second) ∙ ap (λ text. number_at text 12) same
+    ∙ two_read q.second other.second in
     λ i. record { year = year i; month = month i; day = day i; hour = hour i; minute = minute i; second = second i }
 
 -- the parts tell the day, and so the second
-same_second : (first second : ℕ) → first ≤ 253370764799 → second ≤ 253370764799 → parts_of first ≡ parts_of second → first ≡ second
+same_second : (first second : ℕ) → first ≤ 253370764799 → second ≤ 253370764799 → parts_of first ≡ parts_of second
+    → first ≡ second
 same_second first second within also same =
     let one = date_from 8029 1970 (first / 86400) in
     let other = date_from 8029 1970 (second / 86400) in
@@ -45,14 +51,17 @@ same_second first second within also same =
     let last : first % 60 ≡ second % 60 = ap (λ (p : Parts). p.second) same in
     omega (arith, day, hour, minute, last)
 
-pub same_moment : (first second : ℕ) → first ≤ 253370764799 → second ≤ 253370764799 → moment_text first ≡ moment_text second → first ≡ second
+pub same_moment : (first second : ℕ) → first ≤ 253370764799 → second ≤ 253370764799
+    → moment_text first ≡ moment_text second → first ≡ second
 same_moment first second within also same =
     same_second first second within also
     (same_parts (parts_of first) (parts_of second) (parts_small first within) (parts_small second also)
     (sym (text_is first) ∙ same ∙ text_is second))
 
--- what is read of a moment's text, where a second is read only where it is written so, and no fault is told of such a text
-pub read_is : (read : Result ℕ BadTime) (seconds : ℕ) (text : List ℕ) → seconds ≤ 253370764799 → text ≡ moment_text seconds
+-- what is read of a moment's text, where a second is read only where it is written so, and no fault is told of such a
+-- text
+pub read_is : (read : Result ℕ BadTime) (seconds : ℕ) (text : List ℕ) → seconds ≤ 253370764799
+    → text ≡ moment_text seconds
     → IfOk read (λ n. (n ≤ 253370764799) × (text ≡ moment_text n))
     → OnErr read ((n : ℕ) → n ≤ 253370764799 → text ≡ moment_text n → ⊥) → read ≡ Ok seconds
 read_is (Ok n) seconds text within is told bad = ap (λ m. Ok m) (same_moment n seconds told.0 within (sym told.1 ∙ is))

@@ -9,4 +9,5 @@ HasFifteenOctets = (seconds : ℕ) → length (moment_text seconds) ≡ 15
 -- up to the end of the year 9998 no two seconds have one text
 abbrev pub TellsOneMoment : Type 0
 TellsOneMoment =
-    (first second : ℕ) → first ≤ 253370764799 → second ≤ 253370764799 → moment_text first ≡ moment_text second → first ≡ second
+    (first second : ℕ) → first ≤ 253370764799 → second ≤ 253370764799 → moment_text first ≡ moment_text second
+    → first ≡ second

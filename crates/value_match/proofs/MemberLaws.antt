@@ -1,5 +1,6 @@
 -- Members of values, by place.
-use Rattle.std.proofs.Common.{◌≡◌, ◌⊎◌, ◌≤◌, ◌+◌, ℕ, zero, suc, List, [], ◌∷◌, length, take, drop, Option, None, Some, refl, sym, subst, inl, inr, ⊎_elim, arith, length-drop, length-take}
+use Rattle.std.proofs.Common.{◌≡◌, ◌⊎◌, ◌≤◌, ◌+◌, ℕ, zero, suc, List, [], ◌∷◌, length, take, drop, Option, None, Some}
+use Rattle.std.proofs.Common.{refl, sym, subst, inl, inr, ⊎_elim, arith, length-drop, length-take}
 use Rattle.term_values.specs.Typed.{TypedValue, TypedValues, listed}
 use Rattle.term_values.specs.Matching.{Have, AreHeld}
 use Rattle.value_match.specs.MemberPlaces.{IsPlaceOf}

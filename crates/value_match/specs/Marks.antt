@@ -1,6 +1,7 @@
 -- The identifier octets with which a value begins, as one number whose order is that of the octets: X.690, section
 -- 8.1.2.
-use Rattle.std.specs.Prelude.{ℕ, zero, suc, List, ◌+◌, ◌*◌, ◌/◌, ◌%◌, Bool, true, false, Option, None, Some, nat_lt, slice_index_or, if◌then◌else◌}
+use Rattle.std.specs.Prelude.{ℕ, zero, suc, List, ◌+◌, ◌*◌, ◌/◌, ◌%◌, Bool, true, false, Option, None, Some, nat_lt}
+use Rattle.std.specs.Prelude.{slice_index_or, if◌then◌else◌}
 use Rattle.term_values.specs.Syntaxes.{TypeSyntax, TypeParts}
 use Rattle.term_values.specs.Syntaxes.TypeSyntax.{Boolean, Integer, Enumerated, BitString, OctetString, NullType}
 use Rattle.term_values.specs.Syntaxes.TypeSyntax.{ObjectIdentifier, TextString, GeneralizedTime, Sequence, SetType}
@@ -9,7 +10,8 @@ use Rattle.term_values.specs.Syntaxes.TypeParts.{NoParts, Part}
 use Rattle.term_values.specs.TreeTags.{due}
 use Rattle.term_values.specs.Typed.{TypedValue}
 use Rattle.term_values.specs.Typed.TypedValue.{Pick, Raw}
-use Rattle.term_values.specs.UniversalTags.{boolean, integer, bit_string, octet_string, null, object_identifier, enumerated}
+use Rattle.term_values.specs.UniversalTags.{boolean, integer, bit_string, octet_string, null, object_identifier}
+use Rattle.term_values.specs.UniversalTags.{enumerated}
 use Rattle.term_values.specs.UniversalTags.{sequence, set, generalized_time, text_tag}
 use Rattle.term_values.specs.declared.tag.Tag.{Tag}
 use Rattle.value_match.specs.LeafKeys.{arc_place, five}

@@ -5,7 +5,8 @@
 -- octets may be there is in turn 0 with the component that has it, or 1 where none has: so of two SETs of one size that
 -- one stands before the other which alone has a component, or has the lesser one, at the first such number at which
 -- they differ.
-use Rattle.std.specs.Prelude.{ℕ, zero, suc, List, [], ◌∷◌, ◌++◌, ◌&&◌, ◌==◌, Bool, true, false, not, Option, None, Some, if◌then◌else◌}
+use Rattle.std.specs.Prelude.{ℕ, zero, suc, List, [], ◌∷◌, ◌++◌, ◌&&◌, ◌==◌, Bool, true, false, not, Option, None, Some}
+use Rattle.std.specs.Prelude.{if◌then◌else◌}
 use Rattle.term_values.specs.Lengths.{octet_count}
 use Rattle.term_values.specs.SameValue.{same_value}
 use Rattle.term_values.specs.Syntaxes.{TypeSyntax, TypeParts}

@@ -1,5 +1,6 @@
 -- What is found of the octets of tags among the components of a SET: X.690, section 10.3.
-use Rattle.std.specs.Prelude.{◌≡◌, ◌≢◌, ◌⊎◌, ◌≤◌, ◌<◌, ℕ, List, [], ◌∷◌, false, Option, None, Some, length, slice_index_or, IfSome, MatchOption}
+use Rattle.std.specs.Prelude.{◌≡◌, ◌≢◌, ◌⊎◌, ◌≤◌, ◌<◌, ℕ, List, [], ◌∷◌, false, Option, None, Some, length}
+use Rattle.std.specs.Prelude.{slice_index_or, IfSome, MatchOption}
 use Rattle.term_values.specs.PartsView.{parts_listed}
 use Rattle.term_values.specs.SlotsView.{slots_listed}
 use Rattle.term_values.specs.declared.syntax.Part.{Part}

@@ -2,7 +2,8 @@
 
 ghost use Rattle.std.specs.Prelude.{◌≡◌, ◌⊎◌, ◌≤◌, ℕ, IfSome, true};
 ghost use Rattle.value_match.specs.MemberKeys.{is_written};
-ghost use Rattle.value_match.specs.SetMarks.{IsBelow, IsLeastMark, IsMarkFrom, IsMarkOf, IsMarkOfEither, IsOther, IsPlaceOfMark};
+ghost use Rattle.value_match.specs.SetMarks.{IsBelow, IsLeastMark, IsMarkFrom, IsMarkOf, IsMarkOfEither, IsOther};
+ghost use Rattle.value_match.specs.SetMarks.{IsPlaceOfMark};
 ghost use Rattle.value_match.specs.SlotKeys.{has_mark};
 
 use crate::marks::mark_of;

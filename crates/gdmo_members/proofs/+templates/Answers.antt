@@ -398,12 +398,15 @@ attribute::read_attribute_clause-returns t c =
           attribute_syntax c.args.at c.args.at (omega arith) refl
           (λ t e. one_of_two (is_word_of (codes "WITH") t) (is_word_of (codes "DERIVED") t) e)
           (sym c.is_one_of_at.ensures
-          ∙ comes_not attribute_syntax_tree c.args.draft.now.syntax c.is_none.result c.is_one_of_at.result c.is_none.ensures
+          ∙ comes_not attribute_syntax_tree c.args.draft.now.syntax c.is_none.result c.is_one_of_at.result
+          c.is_none.ensures
           c.if-has_syntax.false open_now))
           (slot_not labels labels_lead (codes "MATCHES") _ _ _ refl (λ t e. e) c.is_none-2.ensures c.is_word_at.ensures
-          c.if-has_rules.false (slot_not labels labels_lead (codes "BEHAVIOUR") _ _ _ refl (λ t e. e) c.is_none-3.ensures
+          c.if-has_rules.false (slot_not labels labels_lead (codes "BEHAVIOUR") _ _ _ refl (λ t e. e)
+          c.is_none-3.ensures
           c.is_word_at-2.ensures c.if-has_behaviour.false
-          (slot_not labels labels_lead (codes "PARAMETERS") _ _ _ refl (λ t e. e) c.is_none-4.ensures c.is_word_at-3.ensures
+          (slot_not labels labels_lead (codes "PARAMETERS") _ _ _ refl (λ t e. e) c.is_none-4.ensures
+          c.is_word_at-3.ensures
           c.if-has_parameters.false no_slots_stop))));
     }
 
@@ -454,13 +457,15 @@ parameter::read_parameter_clause-returns t c =
       none =
           (slot_not labels labels_lead (codes "CONTEXT") _ _ _ refl (λ t e. e) c.is_none.ensures c.is_word_at.ensures
           c.if-has_context.false (slot_stops
-          (λ open_now. stops_unless labels labels_lead (is_one_of (codes "WITH" ∷ codes "ATTRIBUTE" ∷ [])) parameter_syntax
+          (λ open_now. stops_unless labels labels_lead (is_one_of (codes "WITH" ∷ codes "ATTRIBUTE" ∷ []))
+          parameter_syntax
           c.args.at c.args.at (omega arith) refl
           (λ t e. one_of_two (is_word_of (codes "WITH") t) (is_word_of (codes "ATTRIBUTE") t) e)
           (sym c.is_one_of_at.ensures
           ∙ comes_not parameter_syntax_tree c.args.draft.now.syntax c.is_none-2.result c.is_one_of_at.result
           c.is_none-2.ensures c.if-has_syntax.false open_now))
-          (slot_not labels labels_lead (codes "BEHAVIOUR") _ _ _ refl (λ t e. e) c.is_none-3.ensures c.is_word_at-2.ensures
+          (slot_not labels labels_lead (codes "BEHAVIOUR") _ _ _ refl (λ t e. e) c.is_none-3.ensures
+          c.is_word_at-2.ensures
           c.if-has_behaviour.false no_slots_stop)));
     }
 

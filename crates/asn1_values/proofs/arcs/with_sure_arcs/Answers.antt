@@ -1,4 +1,5 @@
-use Rattle.std.proofs.Common.{rules, ◌≡◌, ◌∷◌, [], ◌++◌, IfOk, map, option_map, ℕ, List, Option, Some, ap, sym, subst, ◌∙◌}
+use Rattle.std.proofs.Common.{rules, ◌≡◌, ◌∷◌, [], ◌++◌, IfOk, map, option_map, ℕ, List, Option, Some, ap, sym, subst}
+use Rattle.std.proofs.Common.{◌∙◌}
 use Rattle.token_grammar.specs.declared.object_identifier.Arc.{Arc}
 use Rattle.asn1_values.proofs.NumberLaws.{digits_then}
 use Rattle.asn1_values.specs.Arcs.{arc_number, arc_numbers}

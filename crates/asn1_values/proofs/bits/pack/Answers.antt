@@ -1,4 +1,5 @@
-use Rattle.std.proofs.Common.{rules, ◌≡◌, length, ◌≤◌, ◌+◌, ◌<◌, ℕ, Bool, List, [], ◌∷◌, ◌++◌, take, drop, ap, sym, ◌∙◌, arith, append_assoc}
+use Rattle.std.proofs.Common.{rules, ◌≡◌, length, ◌≤◌, ◌+◌, ◌<◌, ℕ, Bool, List, [], ◌∷◌, ◌++◌, take, drop, ap, sym, ◌∙◌}
+use Rattle.std.proofs.Common.{arith, append_assoc}
 use Rattle.asn1_values.specs.Bits.{weighed, packed}
 use Rattle.asn1_values.proofs.BitLaws.{pack_step}
 use Rattle.asn1_values.proofs.bits.pack.Goals as goal

@@ -1,4 +1,5 @@
-use Rattle.std.proofs.Common.{rules, ◌≡◌, length, ◌≤◌, ◌+◌, ◌<◌, ℕ, Bool, true, false, List, [], ◌∷◌, ◌++◌, ap, sym, ◌∙◌, arith}
+use Rattle.std.proofs.Common.{rules, ◌≡◌, length, ◌≤◌, ◌+◌, ◌<◌, ℕ, Bool, true, false, List, [], ◌∷◌, ◌++◌, ap, sym}
+use Rattle.std.proofs.Common.{◌∙◌, arith}
 use Rattle.asn1_values.specs.LeafTexts.{with_bit}
 use Rattle.asn1_values.proofs.BitLaws.{with_bit_behind, with_bit_there}
 use Rattle.asn1_values.proofs.bits.set_bit.Goals as goal

@@ -1,4 +1,5 @@
-use Rattle.std.proofs.Common.{rules, ◌≡◌, ◌<◌, ◌+◌, ◌≤◌, true, false, IfOk, subst, take, drop, replicate, length, get_or, List, ℕ, [], ◌∷◌, ◌++◌, Some, None, ap, sym, refl, arith, ◌∙◌, option_map}
+use Rattle.std.proofs.Common.{rules, ◌≡◌, ◌<◌, ◌+◌, ◌≤◌, true, false, IfOk, subst, take, drop, replicate, length}
+use Rattle.std.proofs.Common.{get_or, List, ℕ, [], ◌∷◌, ◌++◌, Some, None, ap, sym, refl, arith, ◌∙◌, option_map}
 use Rattle.std.proofs.lemmas.List.{drop_more}
 use Rattle.ber_values.proofs.DecodingLaws.{values_all, slots_all, nothing_left}
 use Rattle.ber_values.proofs.UnorderedLaws.{nothing_before, put_back, is_true}
@@ -6,12 +7,14 @@ use Rattle.ber_values.specs.Left.{values_before, slots_before, slot_left_out}
 use Rattle.term_values.specs.PartsView.{parts_listed}
 use Rattle.term_values.specs.Syntaxes.TypeSyntax.{SequenceOf, SetOf}
 use Rattle.term_values.specs.declared.value.Slot.TheVariants.{Present}
-use Rattle.asn1_values.proofs.ComponentLaws.{member_read, part_there, part_absent, part_missing, too_many, names_next, drop_next, empty_is}
+use Rattle.asn1_values.proofs.ComponentLaws.{member_read, part_there, part_absent, part_missing, too_many, names_next}
+use Rattle.asn1_values.proofs.ComponentLaws.{drop_next, empty_is}
 use Rattle.asn1_values.proofs.UnorderedLaws.{component_read, component_missing, none_left, all_left}
 use Rattle.asn1_values.specs.Denoted.{denoted, members_said, components_said, unordered_said}
 use Rattle.asn1_values.specs.Steps.{part_names, next_comes, left_of, no_texts, next_slot}
 use Rattle.asn1_values.specs.TextValues.{said, said_name, said_value, parts_said}
-use Rattle.asn1_values.proofs.denoting.+denoting.Goals.{denote_components-then-comes+in_ok-denote+in-Some+in_ok-push-in-Some, denote_components-else-comes+in_ok-left_out+in-Some-2+in_ok-push-in-Some-2}
+use Rattle.asn1_values.proofs.denoting.+denoting.Goals.{denote_components-then-comes+in_ok-denote+in-Some+in_ok-push-in-Some}
+use Rattle.asn1_values.proofs.denoting.+denoting.Goals.{denote_components-else-comes+in_ok-left_out+in-Some-2+in_ok-push-in-Some-2}
 use Rattle.asn1_values.proofs.denoting.+denoting.Goals as goal
 
 pub denote-returns-in-ListOf : goal.denote-returns-in-ListOf

@@ -15,7 +15,8 @@ abbrev pub invariant-denote_components-loop-k : goal.invariant-denote_components
 invariant-denote_components-loop-k g l = record {
   within : l.next ≤ length l.texts;
   same : components_said g.F.FilterReading.reading [] (parts_listed l.items) (parts_said l.texts)
-      ≡ option_map (slots_before l.slots.items) (components_said g.F.FilterReading.reading (part_names (take l.k l.items))
+      ≡ option_map (slots_before l.slots.items)
+      (components_said g.F.FilterReading.reading (part_names (take l.k l.items))
       (parts_listed (drop l.k l.items)) (parts_said (drop l.next l.texts)));
 }
 
@@ -29,6 +30,7 @@ abbrev pub invariant-denote_unordered-loop-k : goal.invariant-denote_unordered-l
 invariant-denote_unordered-loop-k g l = record {
   long : length l.taken.items ≡ length l.texts;
   same : unordered_said g.F.FilterReading.reading [] (parts_listed l.items) (parts_said l.texts)
-      ≡ option_map (slots_before l.slots.items) (unordered_said g.F.FilterReading.reading (part_names (take l.k l.items))
+      ≡ option_map (slots_before l.slots.items)
+      (unordered_said g.F.FilterReading.reading (part_names (take l.k l.items))
       (parts_listed (drop l.k l.items)) (left_of l.taken.items l.texts));
 }

@@ -1,4 +1,5 @@
-use Rattle.std.proofs.Common.{rules, ◌≡◌, ◌+◌, ◌<◌, length, drop, IfOk, List, [], ◌∷◌, ◌++◌, Option, Some, None, subst, ap, sym, ◌∙◌, arith, option_map}
+use Rattle.std.proofs.Common.{rules, ◌≡◌, ◌+◌, ◌<◌, length, drop, IfOk, List, [], ◌∷◌, ◌++◌, Option, Some, None, subst}
+use Rattle.std.proofs.Common.{ap, sym, ◌∙◌, arith, option_map}
 use Rattle.ber_values.proofs.DecodingLaws.{values_all, nothing_left}
 use Rattle.ber_values.specs.Left.{values_before}
 use Rattle.asn1_values.proofs.ComponentLaws.{drop_next}
@@ -18,7 +19,8 @@ read_each-loop-part-preserved t c =
     let left : drop i texts ≡ x ∷ drop (i + 1) texts = drop_next texts i x (search rules) (search rules) in
     let is : where_unnamed (said_name x) (filter_said (said_value x)) ≡ Some c.in-Some.value = search rules in
     let pushed : c.push.new.self.items ≡ c.loop-part.items.items ++ c.in-Some.value ∷ [] = search rules in
-    c.loop-part.invariant ∙ each_read c.loop-part.items.items x (drop i texts) (drop (i + 1) texts) c.in-Some.value left is
+    c.loop-part.invariant ∙ each_read c.loop-part.items.items x (drop i texts) (drop (i + 1) texts)
+    c.in-Some.value left is
     ∙ ap (λ xs. option_map (values_before xs) (each_said (parts_said (drop (i + 1) texts)))) (sym pushed)
 
 pub read_each-returns : goal.read_each-returns

@@ -6,7 +6,8 @@ use Rattle.asn1_values.proofs.strings.undouble.Given as goal
 abbrev pub invariant-octets : goal.invariant-octets
 invariant-octets l = record {
   within : l.at ≤ length l.text;
-  same : undoubled l.delimiter l.text ≡ option_map (λ rest. l.items.items ++ rest) (undoubled l.delimiter (drop l.at l.text));
+  same : undoubled l.delimiter l.text ≡ option_map (λ rest. l.items.items ++ rest)
+      (undoubled l.delimiter (drop l.at l.text));
 }
 
 abbrev pub decreases-octets : goal.decreases-octets

@@ -10,8 +10,10 @@ use Rattle.cmip_apdus.proofs.apdu_writing.write_bind_answer.Goals as goal
 
 pub returns-clause-written : goal.returns-clause-written
 returns-clause-written c =
-    let code = rw (to_z-of_z {w = w64} {z = c.from.result} (search rules), c.from.ensures) at c.in_ok-write_integer_backwards-2.ensures.written in
-    let number : c.write_integer_backwards.new.into.items ≡ c.args.into.now.items ++ reverse (integer (pos c.args.association)) = search rules in
+    let code = rw (to_z-of_z {w = w64} {z = c.from.result} (search rules), c.from.ensures) at
+    c.in_ok-write_integer_backwards-2.ensures.written in
+    let number : c.write_integer_backwards.new.into.items ≡ c.args.into.now.items
+    ++ reverse (integer (pos c.args.association)) = search rules in
     c.in_ok-close_value.ensures.written c.args.into.now.items _ (search rules)
     (before c.args.into.now.items (encoded false (universal 10) (integer_contents (pos c.args.code))) _ code
     number)

@@ -9,7 +9,8 @@ pub returns-clause-written : goal.returns-clause-written
 returns-clause-written c =
     let id = rw (to_z-of_z c.ranges.invoke) at c.in_ok-write_integer_backwards-2.ensures.written in
     let error = rw (to_z-of_z c.ranges.code) at c.in_ok-write_integer_backwards.ensures.written in
-    c.in_ok-close_frame.ensures.written c.args.into.now.items (error_apdu c.args.invoke c.args.code c.args.parameter.now) (search rules)
+    c.in_ok-close_frame.ensures.written c.args.into.now.items
+    (error_apdu c.args.invoke c.args.code c.args.parameter.now) (search rules)
     (c.in_ok-close_value.ensures.written c.args.into.now.items _ (search rules)
     (before c.args.into.now.items (integer c.args.invoke) _ id
     (before c.args.into.now.items (integer c.args.code) _ error c.in_ok-write_backwards.ensures.written)))

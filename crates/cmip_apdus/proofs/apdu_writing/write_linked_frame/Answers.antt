@@ -13,8 +13,10 @@ returns-clause-written c =
     let id = rw (to_z-of_z c.ranges.invoke) at c.in_ok-write_integer_backwards-2.ensures.written in
     let tag : c.context.result ≡ context c.args.number = search rules in
     let reply = rw tag at c.in_ok-write_value_backwards.ensures.written in
-    let own = rw (to_z-of_z {w = w64} {z = c.from-2.result} (search rules), c.from-2.ensures) at c.in_ok-write_integer_backwards-3.ensures.written in
-    c.in_ok-close_frame.ensures.written c.args.into.now.items (linked_apdu (pos c.args.own) c.args.invoke c.args.number c.args.reply.now) (search rules)
+    let own = rw (to_z-of_z {w = w64} {z = c.from-2.result} (search rules), c.from-2.ensures) at
+    c.in_ok-write_integer_backwards-3.ensures.written in
+    c.in_ok-close_frame.ensures.written c.args.into.now.items
+    (linked_apdu (pos c.args.own) c.args.invoke c.args.number c.args.reply.now) (search rules)
     (c.in_ok-close_value.ensures.written c.args.into.now.items _ (search rules)
     (before c.args.into.now.items (integer (pos c.args.own)) _ own
     (before c.args.into.now.items (encoded false (context 0) (integer_contents c.args.invoke)) _ id

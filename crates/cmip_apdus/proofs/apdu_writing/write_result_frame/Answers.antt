@@ -9,6 +9,7 @@ pub returns-clause-written : goal.returns-clause-written
 returns-clause-written c =
     let id = rw (to_z-of_z c.ranges.invoke) at c.in_ok-write_integer_backwards.ensures.written in
     let result = rw (to_z-of_z c.ranges.operation) at c.in_ok-write_result.ensures.written in
-    c.in_ok-close_frame.ensures.written c.args.into.now.items (result_apdu c.args.invoke c.args.operation c.args.value.now) (search rules)
+    c.in_ok-close_frame.ensures.written c.args.into.now.items
+    (result_apdu c.args.invoke c.args.operation c.args.value.now) (search rules)
     (c.in_ok-close_value.ensures.written c.args.into.now.items _ (search rules)
     (before c.args.into.now.items (integer c.args.invoke) _ id result))

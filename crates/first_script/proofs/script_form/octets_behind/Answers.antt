@@ -7,4 +7,5 @@ pub returns-in-Some-clause-outside : goal.returns-in-Some-clause-outside
 returns-in-Some-clause-outside c =
     λ e octets spelt held.
     c.read_octets.ensures.outside e octets
-    (append_cancel_left c.args.front.now c.in-Some.digits.now (encode_upper octets) (sym c.in-Some.ensures.found ∙ spelt)) held
+    (append_cancel_left c.args.front.now c.in-Some.digits.now (encode_upper octets)
+    (sym c.in-Some.ensures.found ∙ spelt)) held

@@ -34,7 +34,8 @@ returns-else-eq-clause-outside c =
 
 pub returns-then-eq-clause-found : goal.returns-then-eq-clause-found
 returns-then-eq-clause-found c =
-    let count = subst (λ l. (0 < length l) × (length l ≤ most_octets)) c.as_slice-octets.ensures.value (c.may_hold.ensures.0 c.if-not-may_hold.false) in
+    let count = subst (λ l. (0 < length l) × (length l ≤ most_octets)) c.as_slice-octets.ensures.value
+    (c.may_hold.ensures.0 c.if-not-may_hold.false) in
     let bytes = decode_of-ok c.args.digits.now c.in-Ok.items.items c.in-Ok.ensures.ok in (
       sym (same_text c.as_bytes.result.now c.args.digits.now c.if-eq.ensures)
           ∙ (c.as_bytes.ensures.value

@@ -8,5 +8,6 @@ returns-else-branch-clause-outside c =
     λ e apdu sending.
     let found = c.in_ok-apdu.ensures.found in
     let same = same_behind send_word apdu c.in_ok-apdu.apdu (sym sending.spelt ∙ found.0) sending.held found.1 in
-    let is = c.in_ok-is_written_get.ensures.1 (subst (IsWrittenGet c.args.class.now) (same ∙ sym c.as_slice.ensures) sending.is) in
+    let is = c.in_ok-is_written_get.ensures.1
+    (subst (IsWrittenGet c.args.class.now) (same ∙ sym c.as_slice.ensures) sending.is) in
     cc (sym is ∙ c.if-branch.false)

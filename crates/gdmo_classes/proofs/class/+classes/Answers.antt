@@ -168,7 +168,8 @@ read_class_clause-returns t c =
           c.if-has_superclasses.false
           (slot_not labels labels_lead (codes "CHARACTERIZED") _ _ _ refl (λ t e. e) c.is_none-2.ensures
           c.is_word_at-2.ensures c.if-has_packages.false
-          (slot_not labels labels_lead (codes "CONDITIONAL") _ _ _ refl (λ t e. e) c.is_none-3.ensures c.is_word_at-3.ensures
+          (slot_not labels labels_lead (codes "CONDITIONAL") _ _ _ refl (λ t e. e) c.is_none-3.ensures
+          c.is_word_at-3.ensures
           c.if-has_conditional.false no_slots_stop)));
     }
 

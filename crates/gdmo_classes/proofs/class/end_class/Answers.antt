@@ -18,6 +18,7 @@ returns c = record {
       spelt_as (ap (λ (x : ObjectClassTemplate). registered_ending_tree x.registration) c.in_ok-template.ensures.ok)
       c.in_ok-registration.ensures;
   made =
-      subst (λ (x : ObjectClassTemplate). class_tree x ≡ template_tree 0 c.args.label (class_clauses_tree c.args.clauses)
+      subst (λ (x : ObjectClassTemplate). class_tree x ≡ template_tree 0 c.args.label
+      (class_clauses_tree c.args.clauses)
       (registered_ending_tree x.registration)) (sym c.in_ok-template.ensures.ok) refl;
 }

@@ -87,7 +87,8 @@ returns c = record {
       c.is_word_at-3.ensures c.if-has_parameters.false
       (slot_stops (λ open_now. stops_unless labels labels_lead (is_word_of (codes "WITH")) _ c.args.at c.args.at
       (omega arith) refl (λ t e. e) (sym c.is_word_at-is_with.ensures
-      ∙ with_not c.is_none-4.result c.is_none-5.result c.is_none-6.result c.is_word_at-is_with.result c.is_pair_at.result
+      ∙ with_not c.is_none-4.result c.is_none-5.result c.is_none-6.result c.is_word_at-is_with.result
+      c.is_pair_at.result
       _ c.is_none-4.ensures c.is_none-6.ensures c.if-has_information.false c.if-has_reply.false
       (open_and (clause_tree qualified_name_tree) c.args.clauses.now.information c.is_none-5.result c.is_none-5.ensures
       open_now))) (slot_not labels labels_lead (codes "WITH") _ _ _ refl (λ t e. e) c.is_none-6.ensures

@@ -49,6 +49,7 @@ returns c = record {
       (sym c.is_word_at-2.ensures
       ∙ comes_not word_clause_tree c.args.clauses.now.fixed c.is_none-2.result c.is_word_at-2.result c.is_none-2.ensures
       c.if-has_fixed.false open_now))
-      (slot_not labels labels_lead (codes "DESCRIPTION") _ _ _ refl (λ t e. e) c.is_none-3.ensures c.is_word_at-3.ensures
+      (slot_not labels labels_lead (codes "DESCRIPTION") _ _ _ refl (λ t e. e) c.is_none-3.ensures
+      c.is_word_at-3.ensures
       c.if-has_description.false no_slots_stop)));
 }

@@ -15,7 +15,8 @@ search-preserved-then-is_behind g c =
     subst (λ n. IsSearched entries name c.args.steps.now (middle + 1) c.search.high n) (sym c.visit.ensures)
     (searched_behind entries name c.args.steps.now c.search.low c.search.high c.search.steps middle _ c.requires
     c.search.invariant (omega arith) refl
-    (ap (λ (o : NamedObject). is_gt (name_cmp name o.name)) (sym there) ∙ sym c.is_behind.ensures ∙ c.if-is_behind.true))
+    (ap (λ (o : NamedObject). is_gt (name_cmp name o.name)) (sym there) ∙ sym c.is_behind.ensures
+    ∙ c.if-is_behind.true))
 
 pub search-preserved : goal.search-preserved
 search-preserved g c =
@@ -26,4 +27,5 @@ search-preserved g c =
     subst (λ n. IsSearched entries name c.args.steps.now c.search.low middle n) (sym c.visit.ensures)
     (searched_in_front entries name c.args.steps.now c.search.low c.search.high c.search.steps middle _ c.requires
     c.search.invariant (omega arith) refl
-    (ap (λ (o : NamedObject). is_gt (name_cmp name o.name)) (sym there) ∙ sym c.is_behind.ensures ∙ c.if-is_behind.false))
+    (ap (λ (o : NamedObject). is_gt (name_cmp name o.name)) (sym there) ∙ sym c.is_behind.ensures
+    ∙ c.if-is_behind.false))

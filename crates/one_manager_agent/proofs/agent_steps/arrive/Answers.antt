@@ -11,5 +11,6 @@ returns-clause-stepped c =
     let agent = c.args.agent.now in
     let number = c.args.number in
     ap counted c.in_ok-queue.ensures.queued
-    ∙ (ap (λ invocation. counted (received agent number (option_map_or Queued invocation NoEffect))) c.in_ok-invocation.ensures
+    ∙ (ap (λ invocation. counted (received agent number (option_map_or Queued invocation NoEffect)))
+    c.in_ok-invocation.ensures
     ∙ sym (step_legal agent (Arrived number c.args.apdu.now) c.requires.legal))

@@ -9,7 +9,8 @@ pub returns-clause-stepped : goal.returns-clause-stepped
 returns-clause-stepped c =
     let agent = c.args.agent.now in
     let number = c.args.number in
-    let same : c.in_ok-association.association ≡ bound number (title_in c.args.bind.now) = c.in_ok-association.ensures ∙ ap (bound number) c.in_ok-title.ensures in
+    let same : c.in_ok-association.association ≡ bound number (title_in c.args.bind.now) = c.in_ok-association.ensures
+    ∙ ap (bound number) c.in_ok-title.ensures in
     ap counted c.in_ok-add_association.ensures.added
     ∙ (ap (λ a. counted (record agent { associations = agent.associations ++ a ∷ [] })) same
     ∙ sym (step_legal agent (Opened number c.args.bind.now) c.requires.legal))

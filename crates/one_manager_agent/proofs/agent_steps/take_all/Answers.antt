@@ -14,6 +14,7 @@ returns-then-count-gt0-clause-taken c =
     let left = left_stands (association_of agent number) count c.count_left_of-count.ensures some in
     let stands = stands_from_some agent.associations number left.0 left.1 in
     let taken = ap counted c.take_placed.ensures
-    ∙ (ap (λ xs. counted (record agent { associations = xs })) (taken_wholly agent.associations number count left.0 stands.there left.2 some)
+    ∙ (ap (λ xs. counted (record agent { associations = xs }))
+    (taken_wholly agent.associations number count left.0 stands.there left.2 some)
     ∙ sym (taken_at agent number count left.0 left.1 left.2 some)) in
     rw (ne_eqb count 0 some) taken

@@ -25,7 +25,9 @@ returns-in_ok-reply-in-Asked-clause-carried_out c =
     let same : found ≡ o = same_Some found o (sym is ∙ there) in
     placed ∙ (ap (λ z. record agent {
       associations =
-          changed_association agent.associations c.in-Asked.association (with_replies z m_get (c.in_ok-reply-in-Asked.reply ∷ []));
+          changed_association agent.associations c.in-Asked.association
+          (with_replies z m_get (c.in_ok-reply-in-Asked.reply ∷ []));
     }) same_invoke ∙ carried_get agent o c.in-Asked.association c.in-Asked.invoke c.in-Asked.request moment
-    c.args.time.now c.in_ok-reply-in-Asked.reply (ap (λ (p : Operation). p.work) (sym same) ∙ work) told (search rules)))
+    c.args.time.now c.in_ok-reply-in-Asked.reply (ap (λ (p : Operation). p.work) (sym same) ∙ work) told
+    (search rules)))
     c.place_reply.ensures.placed

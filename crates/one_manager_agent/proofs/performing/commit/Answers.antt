@@ -37,4 +37,5 @@ returns-clause-stepped c =
     let g = granted_stands_at agent c.args.number c.args.time.now c.requires.granted in
     let after : c.carry_out.new.agent ≡ carried_out agent g.o.work g.moment =
     c.in_ok-carry_out.ensures.carried_out g.o g.moment g.is g.told in
-    ap counted c.set_operation_state.ensures ∙ carried_steps agent c.carry_out.new.agent c.args.number c.args.time.now g after
+    ap counted c.set_operation_state.ensures
+    ∙ carried_steps agent c.carry_out.new.agent c.args.number c.args.time.now g after

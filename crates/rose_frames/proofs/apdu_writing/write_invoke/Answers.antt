@@ -8,7 +8,8 @@ use Rattle.rose_frames.proofs.apdu_writing.write_invoke.Goals as goal
 
 pub returns-clause-written : goal.returns-clause-written
 returns-clause-written c =
-    let id = rw (to_z-of_z {w = w64} {z = c.from.result} (search rules), c.from.ensures, to_z-of_z c.ranges.id) at c.in_ok-write_integer_backwards-2.ensures.written in
+    let id = rw (to_z-of_z {w = w64} {z = c.from.result} (search rules), c.from.ensures, to_z-of_z c.ranges.id) at
+    c.in_ok-write_integer_backwards-2.ensures.written in
     let op = rw (to_z-of_z c.ranges.op) at c.in_ok-write_integer_backwards.ensures.written in
     c.in_ok-close_value.ensures.written c.args.into.now.items _ (search rules)
     (before c.args.into.now.items (integer c.args.id) _ id

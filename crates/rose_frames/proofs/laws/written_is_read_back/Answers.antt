@@ -12,4 +12,5 @@ returns-clause-apdu c = written_is_apdu
 
 pub returns-clause-read_back : goal.returns-clause-read_back
 returns-clause-read_back c = λ apdu rest fits.
-    ap (λ xs. tree_at most_depth (xs ++ rest)) (sym (tree_written apdu)) ∙ written_is_read_holds most_depth (apdu_tree apdu) rest fits
+    ap (λ xs. tree_at most_depth (xs ++ rest)) (sym (tree_written apdu))
+    ∙ written_is_read_holds most_depth (apdu_tree apdu) rest fits

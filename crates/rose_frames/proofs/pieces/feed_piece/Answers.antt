@@ -22,13 +22,15 @@ returns-in_err-at-clause-refused c =
 pub returns-in-None-clause-fed : goal.returns-in-None-clause-fed
 returns-in-None-clause-fed c =
     let f = c.frames.invariant in
-    let e = ended c.frames.framer c.feed.new.self c.args.piece.now _ c.frames.at (take_rest c.args.piece.now c.frames.at)
+    let e = ended c.frames.framer c.feed.new.self c.args.piece.now _ c.frames.at
+    (take_rest c.args.piece.now c.frames.at)
     c.in_ok-at.ensures.taken.0 c.in_ok-at.ensures.sound (c.next_frame.ensures.none.0 c.in-None.is) in (
       f.found,
       f.apdus,
       record {
         whole = f.begins.whole
-            ∙ ap (λ xs. flat_map frame f.found ++ xs) (e.all ∙ ap (λ (v : Framing). v.octets) (sym c.in-None.ensures.kept));
+            ∙ ap (λ xs. flat_map frame f.found ++ xs)
+            (e.all ∙ ap (λ (v : Framing). v.octets) (sym c.in-None.ensures.kept));
         each = f.begins.each;
       },
       ap (λ (v : Framing). v.place) c.in-None.ensures.kept
@@ -38,7 +40,8 @@ returns-in-None-clause-fed c =
 pub returns-in-None-clause-stops : goal.returns-in-None-clause-stops
 returns-in-None-clause-stops c =
     let whole = c.next_frame.ensures.none.0 c.in-None.is in
-    let e = ended c.frames.framer c.feed.new.self c.args.piece.now _ c.frames.at (take_rest c.args.piece.now c.frames.at)
+    let e = ended c.frames.framer c.feed.new.self c.args.piece.now _ c.frames.at
+    (take_rest c.args.piece.now c.frames.at)
     c.in_ok-at.ensures.taken.0 c.in_ok-at.ensures.sound whole in
     let kept = c.in-None.ensures.kept in (
       ap (λ (v : Framing). in_hand v.octets) kept ∙ (e.again ∙ ap (λ (v : Framing). v.octets) (sym kept)),
@@ -52,7 +55,8 @@ frames-smaller c =
     c.args.apdus.now.items c.frames.apdus.items c.frames.invariant (take_rest c.args.piece.now c.frames.at)
     c.in_ok-at.ensures.taken.0 c.in_ok-at.ensures.taken.1 in
     let some = frame_some c.feed.new.self c.in-Some.items.items c.in-Some.ensures.found.0 in
-    let empty : length c.next_frame.new.self.octets ≡ 0 = ap (λ (v : Framing). length v.octets) c.in-Some.ensures.behind in
+    let empty : length c.next_frame.new.self.octets ≡ 0 =
+    ap (λ (v : Framing). length v.octets) c.in-Some.ensures.behind in
     omega (arith, f.within, some, empty, c.in_ok-at.ensures.taken.1)
 
 pub frames-preserved : goal.frames-preserved
@@ -62,5 +66,6 @@ frames-preserved c =
     c.args.apdus.now.items c.frames.apdus.items c.frames.invariant rest c.in_ok-at.ensures.taken.0
     c.in_ok-at.ensures.taken.1 in
     handed_on c.args.framer.now c.feed.new.self c.next_frame.new.self c.args.piece.now c.in-Some.items.items _
-    c.args.apdus.now.items c.frames.apdus.items c.push.new.self.items f c.in-Some.ensures.found.0 c.in-Some.ensures.found.1
+    c.args.apdus.now.items c.frames.apdus.items c.push.new.self.items f c.in-Some.ensures.found.0
+    c.in-Some.ensures.found.1
     c.in-Some.ensures.behind (search rules)

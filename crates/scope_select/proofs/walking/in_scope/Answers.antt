@@ -1,4 +1,5 @@
-use Rattle.std.proofs.Common.{◌≡◌, ◌++◌, ◌≤◌, [], true, false, is_some, length, Err, refl, sym, ap, ◌∙◌, inl, inr, arith, rules}
+use Rattle.std.proofs.Common.{◌≡◌, ◌++◌, ◌≤◌, [], true, false, is_some, length, Err, refl, sym, ap, ◌∙◌, inl, inr}
+use Rattle.std.proofs.Common.{arith, rules}
 use Rattle.std.proofs.lemmas.Grind.{common_steps}
 use Rattle.term_model.specs.NamedObjects.{names, object_at}
 use Rattle.scope_select.specs.declared.refusal.ScopeRefusal.TheVariants.{TooMany}
@@ -6,7 +7,8 @@ use Rattle.scope_select.specs.Ranges.{EndsAtBase, IsNext, names_behind}
 use Rattle.scope_select.proofs.BaseLaws.{base_missing}
 use Rattle.scope_select.proofs.BelowLaws.{all_at_base}
 use Rattle.scope_select.proofs.EntryLaws.{entry_there}
-use Rattle.scope_select.proofs.WalkLaws.{all_reached, base_first, base_many, next_from, one_reached, step_fewer, step_many, step_reached, step_shorter, within}
+use Rattle.scope_select.proofs.WalkLaws.{all_reached, base_first, base_many, next_from, one_reached, step_fewer}
+use Rattle.scope_select.proofs.WalkLaws.{step_many, step_reached, step_shorter, within}
 use Rattle.scope_select.proofs.walking.in_scope.Goals as goal
 use Rattle.scope_select.proofs.walking.in_scope.Goals.{then-is_some+in_ok-add_reached, else-is_some}
 
@@ -15,7 +17,8 @@ returns-in_err-add_reached-clause-many g c = λ e.
     let entries = g.M.Ranged.objects c.args.mib.now in
     let refused : c.add_reached.result ≡ Err TooMany = first_of (search rules, grind arith) in
     let many = c.add_reached.ensures.many refused in
-    let some : is_some (object_at entries c.args.base.now) ≡ true = first_of (search rules, grind (arith, common_steps)) in
+    let some : is_some (object_at entries c.args.base.now) ≡ true =
+    first_of (search rules, grind (arith, common_steps)) in
     let there = sym (entry_there c.args.base.now entries) ∙ some in
     let more = base_many c.args.base.now c.args.scope.now (names entries) c.at.ensures.rising there many.0 in
     omega (arith, many.1)
@@ -30,7 +33,8 @@ loop-next-init g c =
           (let some : is_some (object_at entries base) ≡ true = first_of (search rules, grind (arith, common_steps)) in
           let there = sym (entry_there base entries) ∙ some in
           let added : c.if-is_some.reached ≡ one_reached scope 0 base =
-          first_of (search rules, grind (arith, common_steps, w.in_ok-add_reached.ensures.added, c.new.ensures.items)) in
+          first_of (search rules, grind (arith, common_steps, w.in_ok-add_reached.ensures.added, c.new.ensures.items))
+          in
           let few : length c.if-is_some.reached ≤ c.args.limit =
           first_of (search rules, grind (arith, common_steps, w.in_ok-add_reached.ensures.few)) in (
             base_first base scope (names entries) c.at.ensures.rising there
@@ -42,7 +46,8 @@ loop-next-init g c =
       | else-is_some w ↦
           (let none : is_some (object_at entries base) ≡ false = first_of (search rules, grind (arith, common_steps)) in
           let missing = sym (entry_there base entries) ∙ none in
-          let empty : c.if-is_some.reached ≡ [] = first_of (search rules, grind (arith, common_steps, c.new.ensures.items)) in (
+          let empty : c.if-is_some.reached ≡ [] =
+          first_of (search rules, grind (arith, common_steps, c.new.ensures.items)) in (
             base_missing base scope (names entries) c.at.ensures.rising missing
                 ∙ ap (λ ns. ns ++ within base scope (names_behind base (names entries))) (sym empty),
             inl refl,
@@ -56,7 +61,8 @@ returns-in_err-add_reached-2-clause-many g c = λ e.
     let entries = g.M.Ranged.objects c.args.mib.now in
     let refused : c.add_reached-in-Some.result ≡ Err TooMany = first_of (search rules, grind arith) in
     let many = c.add_reached-in-Some.ensures.many refused in
-    let next : IsNext c.args.base.now c.loop-next.here.now (names entries) c.in-Some.next.now c.in-Some.level = c.in-Some.ensures.found in
+    let next : IsNext c.args.base.now c.loop-next.here.now (names entries) c.in-Some.next.now c.in-Some.level =
+    c.in-Some.ensures.found in
     let more =
     step_many c.args.base.now c.loop-next.here.now c.in-Some.next.now c.args.scope.now (names entries)
     c.loop-next.reached c.in-Some.level c.at.ensures.rising next c.loop-next.invariant.0 many.0 in
@@ -70,12 +76,14 @@ loop-next-smaller g c =
 pub loop-next-preserved : goal.loop-next-preserved
 loop-next-preserved g c =
     let entries = g.M.Ranged.objects c.args.mib.now in
-    let added : c.add_reached-in-Some.new.names ≡ c.loop-next.reached ++ one_reached c.args.scope.now c.in-Some.level c.in-Some.next.now =
+    let added : c.add_reached-in-Some.new.names ≡ c.loop-next.reached
+    ++ one_reached c.args.scope.now c.in-Some.level c.in-Some.next.now =
     first_of (search rules, grind (arith, common_steps, c.in_ok-add_reached-2.ensures.added)) in
     let few : length c.add_reached-in-Some.new.names ≤ c.args.limit =
     first_of (search rules, grind (arith, common_steps, c.in_ok-add_reached-2.ensures.few)) in (
       step_reached c.args.base.now c.loop-next.here.now c.in-Some.next.now c.args.scope.now (names entries)
-          c.loop-next.reached c.add_reached-in-Some.new.names c.in-Some.level c.at.ensures.rising c.in-Some.ensures.found
+          c.loop-next.reached c.add_reached-in-Some.new.names c.in-Some.level c.at.ensures.rising
+          c.in-Some.ensures.found
           c.loop-next.invariant.0 added,
       inr (next_from c.args.base.now c.loop-next.here.now c.in-Some.next.now (names entries) c.in-Some.level
           c.loop-next.invariant.1 c.in-Some.ensures.found),
@@ -98,7 +106,8 @@ pub returns-clause-few : goal.returns-clause-few
 returns-clause-few g c =
     let all =
     all_reached c.args.base.now c.loop-next.here.now c.args.scope.now (names (g.M.Ranged.objects c.args.mib.now))
-    c.loop-next.reached c.at.ensures.rising c.loop-next.invariant.1 c.in_default.ensures.found c.loop-next.invariant.0 in
+    c.loop-next.reached c.at.ensures.rising c.loop-next.invariant.1 c.in_default.ensures.found
+    c.loop-next.invariant.0 in
     omega (arith, ap length all, c.loop-next.invariant.2)
 
 pub returns-in_err-add_reached-clause-visits : goal.returns-in_err-add_reached-clause-visits
@@ -129,7 +138,8 @@ returns-then-ends_at_base-clause-names g c =
           (let some : is_some (object_at entries base) ≡ true = first_of (search rules, grind (arith, common_steps)) in
           let there = sym (entry_there base entries) ∙ some in
           let added : c.if-is_some.reached ≡ one_reached scope 0 base =
-          first_of (search rules, grind (arith, common_steps, w.in_ok-add_reached.ensures.added, c.new.ensures.items)) in
+          first_of (search rules, grind (arith, common_steps, w.in_ok-add_reached.ensures.added, c.new.ensures.items))
+          in
           let all =
           all_at_base base scope (names entries) c.if-is_some.reached ends
           (base_first base scope (names entries) c.at.ensures.rising there
@@ -138,7 +148,8 @@ returns-then-ends_at_base-clause-names g c =
       | else-is_some w ↦
           (let none : is_some (object_at entries base) ≡ false = first_of (search rules, grind (arith, common_steps)) in
           let missing = sym (entry_there base entries) ∙ none in
-          let empty : c.if-is_some.reached ≡ [] = first_of (search rules, grind (arith, common_steps, c.new.ensures.items)) in
+          let empty : c.if-is_some.reached ≡ [] =
+          first_of (search rules, grind (arith, common_steps, c.new.ensures.items)) in
           let all =
           all_at_base base scope (names entries) c.if-is_some.reached ends
           (base_missing base scope (names entries) c.at.ensures.rising missing
@@ -157,7 +168,8 @@ returns-then-ends_at_base-clause-few g c =
           (let some : is_some (object_at entries base) ≡ true = first_of (search rules, grind (arith, common_steps)) in
           let there = sym (entry_there base entries) ∙ some in
           let added : c.if-is_some.reached ≡ one_reached scope 0 base =
-          first_of (search rules, grind (arith, common_steps, w.in_ok-add_reached.ensures.added, c.new.ensures.items)) in
+          first_of (search rules, grind (arith, common_steps, w.in_ok-add_reached.ensures.added, c.new.ensures.items))
+          in
           let all =
           all_at_base base scope (names entries) c.if-is_some.reached ends
           (base_first base scope (names entries) c.at.ensures.rising there
@@ -168,7 +180,8 @@ returns-then-ends_at_base-clause-few g c =
       | else-is_some w ↦
           (let none : is_some (object_at entries base) ≡ false = first_of (search rules, grind (arith, common_steps)) in
           let missing = sym (entry_there base entries) ∙ none in
-          let empty : c.if-is_some.reached ≡ [] = first_of (search rules, grind (arith, common_steps, c.new.ensures.items)) in
+          let empty : c.if-is_some.reached ≡ [] =
+          first_of (search rules, grind (arith, common_steps, c.new.ensures.items)) in
           let all =
           all_at_base base scope (names entries) c.if-is_some.reached ends
           (base_missing base scope (names entries) c.at.ensures.rising missing

@@ -1,4 +1,5 @@
-use Rattle.std.proofs.Common.{rules, ◌≡◌, ◌<◌, ◌+◌, Fits, w64, refl, [], ◌∷◌, drop, get_or, None, Some, sym, ap, ◌∙◌, subst, arith}
+use Rattle.std.proofs.Common.{rules, ◌≡◌, ◌<◌, ◌+◌, Fits, w64, refl, [], ◌∷◌, drop, get_or, None, Some, sym, ap, ◌∙◌}
+use Rattle.std.proofs.Common.{subst, arith}
 use Rattle.std.proofs.lemmas.List.{drop_more, get_or_default}
 use Rattle.term_values.specs.PartsView.{parts_listed}
 use Rattle.term_values.specs.SlotsView.{slots_listed}
@@ -8,7 +9,8 @@ use Rattle.term_values.specs.Typed.TypedValue.{Parts, Many}
 use Rattle.term_values.specs.declared.syntax.Part.{Part}
 use Rattle.term_values.specs.declared.value.Slot.TheVariants.{Present}
 use Rattle.value_match.specs.declared.told.MemberOrder.TheVariants.{Before, Alike, After}
-use Rattle.value_match.proofs.KeyLaws.{key_of, list_key, sequence_key, set_key, unordered_key, values_front, values_end, slots_front, slots_end, front_before, front_after, front_alike}
+use Rattle.value_match.proofs.KeyLaws.{key_of, list_key, sequence_key, set_key, unordered_key, values_front, values_end}
+use Rattle.value_match.proofs.KeyLaws.{slots_front, slots_end, front_before, front_after, front_alike}
 use Rattle.value_match.specs.Marks.{mark_as}
 use Rattle.value_match.specs.FirstSizes.{first_size, pick_size}
 use Rattle.value_match.specs.MemberKeys.{component_key, member_key, pick_key}

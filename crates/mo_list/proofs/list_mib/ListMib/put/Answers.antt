@@ -16,7 +16,8 @@ invariant_of-self-2 g c =
     let name = c.args.name in
     let at = c.place_of-at.result in
     let place = subst (λ os. IsPlace os name at) c.entries_of-entries.ensures c.place_of-at.ensures.place in
-    let named = subst (λ os. is_named_at os at name ≡ c.has_name_at-had.result) c.entries_of-entries.ensures (sym c.has_name_at-had.ensures.named) in
+    let named = subst (λ os. is_named_at os at name ≡ c.has_name_at-had.result) c.entries_of-entries.ensures
+    (sym c.has_name_at-had.ensures.named) in
     let entry : NamedObject = record { name = c.args.name; object = c.args.object } in
     subst IsByName (sym (c.in-Ok.ensures.written ∙ changed c.has_name_at-had.result entry objects at place named))
     (names_rise entry objects c.self.invariant)
@@ -27,7 +28,8 @@ returns-clause-stored g c =
     let name = c.args.name in
     let at = c.place_of-at.result in
     let place = subst (λ os. IsPlace os name at) c.entries_of-entries.ensures c.place_of-at.ensures.place in
-    let named = subst (λ os. is_named_at os at name ≡ c.has_name_at-had.result) c.entries_of-entries.ensures (sym c.has_name_at-had.ensures.named) in
+    let named = subst (λ os. is_named_at os at name ≡ c.has_name_at-had.result) c.entries_of-entries.ensures
+    (sym c.has_name_at-had.ensures.named) in
     let entry : NamedObject = record { name = c.args.name; object = c.args.object } in
     c.in-Ok.ensures.written ∙ changed c.has_name_at-had.result entry objects at place named
     ∙ ap (λ os. stored entry os) c.self.view_is
@@ -38,20 +40,23 @@ returns-clause-had g c =
     let name = c.args.name in
     let at = c.place_of-at.result in
     let place = subst (λ os. IsPlace os name at) c.entries_of-entries.ensures c.place_of-at.ensures.place in
-    let named = subst (λ os. is_named_at os at name ≡ c.has_name_at-had.result) c.entries_of-entries.ensures (sym c.has_name_at-had.ensures.named) in
+    let named = subst (λ os. is_named_at os at name ≡ c.has_name_at-had.result) c.entries_of-entries.ensures
+    (sym c.has_name_at-had.ensures.named) in
     is_there c.has_name_at-had.result name objects at c.self.invariant place named
     ∙ ap (λ os. is_some (object_at os name)) c.self.view_is
 
 pub returns-clause-visits : goal.returns-clause-visits
 returns-clause-visits g c =
-    subst (λ objects. IsOneCall objects c.args.steps.now c.has_name_at-had.new.steps) (c.entries_of-entries.ensures ∙ c.self.view_is)
+    subst (λ objects. IsOneCall objects c.args.steps.now c.has_name_at-had.new.steps) (c.entries_of-entries.ensures
+    ∙ c.self.view_is)
     (one_call c.entries_of-entries.result.now c.args.steps.now c.place_of-at.new.steps c.has_name_at-had.new.steps
     c.place_of-at.ensures.rises c.place_of-at.ensures.some c.place_of-at.ensures.few c.has_name_at-had.ensures.rises
     c.has_name_at-had.ensures.few)
 
 pub returns-in-Err-clause-visits : goal.returns-in-Err-clause-visits
 returns-in-Err-clause-visits g c =
-    subst (λ objects. IsOneCall objects c.args.steps.now c.has_name_at-had.new.steps) (c.entries_of-entries.ensures ∙ c.self.view_is)
+    subst (λ objects. IsOneCall objects c.args.steps.now c.has_name_at-had.new.steps) (c.entries_of-entries.ensures
+    ∙ c.self.view_is)
     (one_call c.entries_of-entries.result.now c.args.steps.now c.place_of-at.new.steps c.has_name_at-had.new.steps
     c.place_of-at.ensures.rises c.place_of-at.ensures.some c.place_of-at.ensures.few c.has_name_at-had.ensures.rises
     c.has_name_at-had.ensures.few)

@@ -14,13 +14,16 @@ invariant_of-self g c =
     let name = c.args.name.now in
     let at = c.place_of-at.result in
     let place = subst (λ os. IsPlace os name at) c.entries_of-entries.ensures c.place_of-at.ensures.place in
-    let named = subst (λ os. is_named_at os at name ≡ c.has_name_at-had.result) c.entries_of-entries.ensures (sym c.has_name_at-had.ensures.named) in
-    subst IsByName (sym (c.in_ok-drop_entry.ensures.dropped ∙ removes name objects at c.self.invariant place.front (named ∙ c.if-had.true)))
+    let named = subst (λ os. is_named_at os at name ≡ c.has_name_at-had.result) c.entries_of-entries.ensures
+    (sym c.has_name_at-had.ensures.named) in
+    subst IsByName (sym (c.in_ok-drop_entry.ensures.dropped
+    ∙ removes name objects at c.self.invariant place.front (named ∙ c.if-had.true)))
     (removed_rises name objects c.self.invariant)
 
 pub returns-in_err-drop_entry-clause-visits : goal.returns-in_err-drop_entry-clause-visits
 returns-in_err-drop_entry-clause-visits g c =
-    subst (λ objects. IsOneCall objects c.args.steps.now c.has_name_at-had.new.steps) (c.entries_of-entries.ensures ∙ c.self.view_is)
+    subst (λ objects. IsOneCall objects c.args.steps.now c.has_name_at-had.new.steps) (c.entries_of-entries.ensures
+    ∙ c.self.view_is)
     (one_call c.entries_of-entries.result.now c.args.steps.now c.place_of-at.new.steps c.has_name_at-had.new.steps
     c.place_of-at.ensures.rises c.place_of-at.ensures.some c.place_of-at.ensures.few c.has_name_at-had.ensures.rises
     c.has_name_at-had.ensures.few)
@@ -31,7 +34,8 @@ returns-in_ok-drop_entry-clause-removed g c =
     let name = c.args.name.now in
     let at = c.place_of-at.result in
     let place = subst (λ os. IsPlace os name at) c.entries_of-entries.ensures c.place_of-at.ensures.place in
-    let named = subst (λ os. is_named_at os at name ≡ c.has_name_at-had.result) c.entries_of-entries.ensures (sym c.has_name_at-had.ensures.named) in
+    let named = subst (λ os. is_named_at os at name ≡ c.has_name_at-had.result) c.entries_of-entries.ensures
+    (sym c.has_name_at-had.ensures.named) in
     c.in_ok-drop_entry.ensures.dropped ∙ removes name objects at c.self.invariant place.front (named ∙ c.if-had.true)
     ∙ ap (λ os. removed name os) c.self.view_is
 
@@ -41,13 +45,15 @@ returns-in_ok-drop_entry-clause-had g c =
     let name = c.args.name.now in
     let at = c.place_of-at.result in
     let place = subst (λ os. IsPlace os name at) c.entries_of-entries.ensures c.place_of-at.ensures.place in
-    let named = subst (λ os. is_named_at os at name ≡ c.has_name_at-had.result) c.entries_of-entries.ensures (sym c.has_name_at-had.ensures.named) in
+    let named = subst (λ os. is_named_at os at name ≡ c.has_name_at-had.result) c.entries_of-entries.ensures
+    (sym c.has_name_at-had.ensures.named) in
     is_there c.has_name_at-had.result name objects at c.self.invariant place named
     ∙ ap (λ os. is_some (object_at os name)) c.self.view_is
 
 pub returns-in_ok-drop_entry-clause-visits : goal.returns-in_ok-drop_entry-clause-visits
 returns-in_ok-drop_entry-clause-visits g c =
-    subst (λ objects. IsOneCall objects c.args.steps.now c.has_name_at-had.new.steps) (c.entries_of-entries.ensures ∙ c.self.view_is)
+    subst (λ objects. IsOneCall objects c.args.steps.now c.has_name_at-had.new.steps) (c.entries_of-entries.ensures
+    ∙ c.self.view_is)
     (one_call c.entries_of-entries.result.now c.args.steps.now c.place_of-at.new.steps c.has_name_at-had.new.steps
     c.place_of-at.ensures.rises c.place_of-at.ensures.some c.place_of-at.ensures.few c.has_name_at-had.ensures.rises
     c.has_name_at-had.ensures.few)
@@ -58,7 +64,8 @@ returns-else-had-clause-removed g c =
     let name = c.args.name.now in
     let at = c.place_of-at.result in
     let place = subst (λ os. IsPlace os name at) c.entries_of-entries.ensures c.place_of-at.ensures.place in
-    let named = subst (λ os. is_named_at os at name ≡ c.has_name_at-had.result) c.entries_of-entries.ensures (sym c.has_name_at-had.ensures.named) in
+    let named = subst (λ os. is_named_at os at name ≡ c.has_name_at-had.result) c.entries_of-entries.ensures
+    (sym c.has_name_at-had.ensures.named) in
     sym c.self.view_is ∙ sym (keeps name objects at c.self.invariant place.front place.behind (named ∙ c.if-had.false))
     ∙ ap (λ os. removed name os) c.self.view_is
 
@@ -68,13 +75,15 @@ returns-else-had-clause-had g c =
     let name = c.args.name.now in
     let at = c.place_of-at.result in
     let place = subst (λ os. IsPlace os name at) c.entries_of-entries.ensures c.place_of-at.ensures.place in
-    let named = subst (λ os. is_named_at os at name ≡ c.has_name_at-had.result) c.entries_of-entries.ensures (sym c.has_name_at-had.ensures.named) in
+    let named = subst (λ os. is_named_at os at name ≡ c.has_name_at-had.result) c.entries_of-entries.ensures
+    (sym c.has_name_at-had.ensures.named) in
     is_there c.has_name_at-had.result name objects at c.self.invariant place named
     ∙ ap (λ os. is_some (object_at os name)) c.self.view_is
 
 pub returns-else-had-clause-visits : goal.returns-else-had-clause-visits
 returns-else-had-clause-visits g c =
-    subst (λ objects. IsOneCall objects c.args.steps.now c.has_name_at-had.new.steps) (c.entries_of-entries.ensures ∙ c.self.view_is)
+    subst (λ objects. IsOneCall objects c.args.steps.now c.has_name_at-had.new.steps) (c.entries_of-entries.ensures
+    ∙ c.self.view_is)
     (one_call c.entries_of-entries.result.now c.args.steps.now c.place_of-at.new.steps c.has_name_at-had.new.steps
     c.place_of-at.ensures.rises c.place_of-at.ensures.some c.place_of-at.ensures.few c.has_name_at-had.ensures.rises
     c.has_name_at-had.ensures.few)

@@ -17,7 +17,8 @@ returns-then-has_name_at-clause-found g c =
 
 pub returns-then-has_name_at-clause-visits : goal.returns-then-has_name_at-clause-visits
 returns-then-has_name_at-clause-visits g c =
-    subst (λ objects. IsOneCall objects c.args.steps.now c.has_name_at.new.steps) (c.entries_of-entries.ensures ∙ c.self.view_is)
+    subst (λ objects. IsOneCall objects c.args.steps.now c.has_name_at.new.steps) (c.entries_of-entries.ensures
+    ∙ c.self.view_is)
     (one_call c.entries_of-entries.result.now c.args.steps.now c.place_of-at.new.steps c.has_name_at.new.steps
     c.place_of-at.ensures.rises c.place_of-at.ensures.some c.place_of-at.ensures.few c.has_name_at.ensures.rises
     c.has_name_at.ensures.few)
@@ -33,7 +34,8 @@ returns-clause-found g c =
 
 pub returns-clause-visits : goal.returns-clause-visits
 returns-clause-visits g c =
-    subst (λ objects. IsOneCall objects c.args.steps.now c.has_name_at.new.steps) (c.entries_of-entries.ensures ∙ c.self.view_is)
+    subst (λ objects. IsOneCall objects c.args.steps.now c.has_name_at.new.steps) (c.entries_of-entries.ensures
+    ∙ c.self.view_is)
     (one_call c.entries_of-entries.result.now c.args.steps.now c.place_of-at.new.steps c.has_name_at.new.steps
     c.place_of-at.ensures.rises c.place_of-at.ensures.some c.place_of-at.ensures.few c.has_name_at.ensures.rises
     c.has_name_at.ensures.few)

@@ -16,6 +16,7 @@ invariant_of-result c =
     let schema = c.args.schema in
     let limits = c.args.limits in (
       subst (λ s. IsJournaled s c.new.result.items) (sym c.in_ok-agent.ensures)
-          (subst (λ xs. IsJournaled (start schema limits) xs) (sym c.new.ensures.items) (start_journaled schema limits)),
+          (subst (λ xs. IsJournaled (start schema limits) xs) (sym c.new.ensures.items)
+          (start_journaled schema limits)),
       record { within = omega arith; text_is = c.in_ok-time.ensures.items ∙ first_moment },
     )

@@ -8,8 +8,15 @@ use Rattle.rose_frames.proofs.framer.Framer.is_held.Goals as goal
 pub returns-then-not-is_size : goal.returns-then-not-is_size
 returns-then-not-is_size c =
     let f : Fields c.self.inside.filled c.self.inside.size c.self.inside.apdu.items =
-    record { four = c.self.invariant.0; within = c.self.invariant.1; none_yet = c.self.invariant.2; some = c.self.invariant.3 } in
-    let w = whole_fields c.args.self.now c.self.inside.place c.self.inside.filled c.self.inside.size c.self.inside.apdu.items f
+    record {
+      four = c.self.invariant.0;
+      within = c.self.invariant.1;
+      none_yet = c.self.invariant.2;
+      some =
+          c.self.invariant.3;
+    } in
+    let w = whole_fields c.args.self.now c.self.inside.place c.self.inside.filled c.self.inside.size
+    c.self.inside.apdu.items f
     c.self.view_is (omega arith) in
     let sized : is_size (number c.self.inside.size) ≡ false =
     ap is_size (sym c.size_of-size.ensures) ∙ sym (c.if-not-is_size.ensures) in
@@ -18,8 +25,15 @@ returns-then-not-is_size c =
 pub returns : goal.returns
 returns c =
     let f : Fields c.self.inside.filled c.self.inside.size c.self.inside.apdu.items =
-    record { four = c.self.invariant.0; within = c.self.invariant.1; none_yet = c.self.invariant.2; some = c.self.invariant.3 } in
-    let w = whole_fields c.args.self.now c.self.inside.place c.self.inside.filled c.self.inside.size c.self.inside.apdu.items f
+    record {
+      four = c.self.invariant.0;
+      within = c.self.invariant.1;
+      none_yet = c.self.invariant.2;
+      some =
+          c.self.invariant.3;
+    } in
+    let w = whole_fields c.args.self.now c.self.inside.place c.self.inside.filled c.self.inside.size
+    c.self.inside.apdu.items f
     c.self.view_is (omega arith) in
     let sized : is_size (number c.self.inside.size) ≡ true =
     ap is_size (sym c.size_of-size.ensures) ∙ sym (c.if-not-is_size.ensures) in

@@ -16,9 +16,11 @@ returns-in-Some c =
     sym c.get.ensures.value ∙ ap option_copied c.in-Some.is in
     let items : c.deref.result.now ≡ c.self.inside.items.items = search rules in
     let whole : c.self.inside.items.items ≡ c.args.self.now = search rules in
-    lent c.deref.result.now c.in-Some.place.now c.get-in-Some.result c.get-in-Some.ensures.lookup.0 c.get-in-Some.ensures.lookup.1
+    lent c.deref.result.now c.in-Some.place.now c.get-in-Some.result c.get-in-Some.ensures.lookup.0
+    c.get-in-Some.ensures.lookup.1
     ∙ ap (λ xs. slice_get xs c.in-Some.place.now) items
-    ∙ sym (found_at (λ (of_attribute : AttrRec). of_attribute.id) c.self.inside.items.items c.args.id.now (Some c.in-Some.place.now)
+    ∙ sym (found_at (λ (of_attribute : AttrRec). of_attribute.id) c.self.inside.items.items c.args.id.now
+    (Some c.in-Some.place.now)
     (sym (c.self.invariant c.args.id.now) ∙ there))
     ∙ ap (λ xs. attribute_record xs c.args.id.now) whole
 
