@@ -1,0 +1,7 @@
+//! Types of ASN.1 modules resolved: what names mean, which syntax each type denotes, and the first fault where there
+//! is one (X.680; where X.680 has no such form, X.208; docs/PROFILE.md, section 11).
+#![tactic(auto)]
+
+pub mod refusal;
+
+pub use refusal::{ModuleRefusal, UnsupportedKind};
