@@ -69,11 +69,13 @@ unfolding name_meaning assigned_in first_assignment
 own_example = refl
 
 imported_example : name_meaning both_modules 0 (codes "B") ≡ TypeAt 1 0 (simple 36 (codes "BOOLEAN"))
-unfolding name_meaning assigned_in first_assignment import_of imported_from imported_meaning module_meaning first_module meaning_within
+unfolding name_meaning assigned_in first_assignment import_of imported_from imported_meaning module_meaning
+    first_module meaning_within
 imported_example = refl
 
 standard_example : name_meaning both_modules 0 (codes "AttributeId") ≡ StandardType attribute_id
-unfolding name_meaning assigned_in first_assignment import_of imported_from imported_meaning module_meaning first_module meaning_within
+unfolding name_meaning assigned_in first_assignment import_of imported_from imported_meaning module_meaning
+    first_module meaning_within
 standard_example = refl
 
 -- a module has what it assigns alone: neither A of Net in Other, nor B in Net by Net's name

@@ -16,3 +16,5 @@ pub mod DefaultTexts
 pub mod Occurrences
 pub mod ModuleFaults
 pub mod FirstModuleFault
+pub mod WordViews
+pub mod NotedFaults

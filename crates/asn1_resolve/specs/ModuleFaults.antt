@@ -91,9 +91,9 @@ abbrev pub IsKnownBound : List ModuleTerm → ℕ → TypeTerm → NumberTerm �
 IsKnownBound ms m of (Digits minus token) = Unit {0}
 IsKnownBound ms m of (Called name) = ¬ ((¬ NamesNumber ms m of name) × IsNoValue (name_meaning ms m name.text))
 
--- a type's word that documents may not use (the second case is one that no text has); a syntax of more than 10,000 nodes; a tag number that isn't from 0 to
--- 2^32 - 1; a named number, named bit or bound that is no whole number of 64 bits; a constraint that the type has no
--- place for
+-- a type's word that documents may not use (the second case is one that no text has); a syntax of more than 10,000
+-- nodes; a tag number that isn't from 0 to 2^32 - 1; a named number, named bit or bound that is no whole number of 64
+-- bits; a constraint that the type has no place for
 pub data UnsupportedAt (ms : List ModuleTerm) (document token : ℕ) : UnsupportedKind → Type 0 where
   type_word : {m : ℕ} {name : Token} {limits : List LimitTerm} → Stands ms document m (Reference None name limits) →
       IsOtherType ms m name → name.at ≡ token → UnsupportedAt ms document token TypeWord

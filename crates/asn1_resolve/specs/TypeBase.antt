@@ -31,7 +31,8 @@ pub data HasBase (ms : List ModuleTerm) : ℕ → TypeTerm → Base → Type 0 w
   itself : {m : ℕ} {of : TypeTerm} → is_base of ≡ true → HasBase ms m of (Written m of)
   tagged : {m : ℕ} {tag : TagTerm} {mode : Option Token} {of : TypeTerm} {base : Base} →
       HasBase ms m of base → HasBase ms m (Under tag mode of) base
-  named : {m v i : ℕ} {module_name : Option Token} {name : Token} {limits : List LimitTerm} {of : TypeTerm} {base : Base} →
+  named : {m v i : ℕ} {module_name : Option Token} {name : Token} {limits : List LimitTerm} {of : TypeTerm}
+      {base : Base} →
       reference_meaning ms m module_name name ≡ TypeAt v i of → HasBase ms v of base →
       HasBase ms m (Reference module_name name limits) base
   standard : {m : ℕ} {module_name : Option Token} {name : Token} {limits : List LimitTerm} {syntax : TypeSyntax} →

@@ -1,5 +1,5 @@
--- TypeTags: which tags a value of a type may begin with (X.680, sections 8.4, 28.3 and 31; X.690, section 8.1.2). A type
--- that stands for nothing, or that contains itself, begins with none, and an ANY with each.
+-- TypeTags: which tags a value of a type may begin with (X.680, sections 8.4, 28.3 and 31; X.690, section 8.1.2). A
+-- type that stands for nothing, or that contains itself, begins with none, and an ANY with each.
 use Rattle.std.specs.Prelude.{◌≡◌, ℕ, List, true, Option, None, Some, codes, if◌then◌else◌}
 use Rattle.token_grammar.specs.declared.token.Token.{Token}
 use Rattle.token_grammar.specs.TokenTests.{is_word_of}
@@ -51,7 +51,8 @@ pub data Begins (ms : List ModuleTerm) : ℕ → TypeTerm → Tag → Type 0 whe
       Begins ms m (Alternatives word members limits) tag
   plain : {m : ℕ} {word : Token} {of : PlainTerm} {limits : List LimitTerm} {tag : Tag} →
       PlainBegins word of tag → Begins ms m (Plain word of limits) tag
-  named : {m v i : ℕ} {module_name : Option Token} {name : Token} {limits : List LimitTerm} {of : TypeTerm} {tag : Tag} →
+  named : {m v i : ℕ} {module_name : Option Token} {name : Token} {limits : List LimitTerm} {of : TypeTerm}
+      {tag : Tag} →
       reference_meaning ms m module_name name ≡ TypeAt v i of → ¬ IsCyclic ms v i → Begins ms v of tag →
       Begins ms m (Reference module_name name limits) tag
   standard : {m : ℕ} {module_name : Option Token} {name : Token} {limits : List LimitTerm} {syntax : TypeSyntax}

@@ -2,6 +2,9 @@
 //! is one (X.680; where X.680 has no such form, X.208; docs/PROFILE.md, section 11).
 #![tactic(auto)]
 
+pub mod first_fault;
 pub mod refusal;
+pub mod standard_module;
+pub mod type_words;
 
 pub use refusal::{ModuleRefusal, UnsupportedKind};
