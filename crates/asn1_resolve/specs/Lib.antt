@@ -18,3 +18,4 @@ pub mod ModuleFaults
 pub mod FirstModuleFault
 pub mod WordViews
 pub mod NotedFaults
+pub mod ResolvedTypes

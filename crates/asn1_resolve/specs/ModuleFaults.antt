@@ -1,5 +1,5 @@
 -- ModuleFaults: what is wrong in modules, a sentence for each fault, each true or false by itself of a token of a
--- document (docs/PROFILE.md, section 11).
+-- document, which is told by the octet at which it begins (docs/PROFILE.md, section 11).
 use Rattle.std.specs.Prelude.{◌≡◌, ◌≢◌, ◌<◌, ℕ, ℤ, List, true, false, Option, None, Some, Contains, slice_get}
 use Rattle.token_grammar.specs.declared.token.Token.{Token}
 use Rattle.term_values.specs.declared.tag.Tag.{Tag}

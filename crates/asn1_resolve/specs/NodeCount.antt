@@ -1,6 +1,7 @@
 -- NodeCount: of how many syntaxes the syntax of a type is made: itself, and those of its components, elements,
 -- alternatives and of what is tagged, with names replaced by their types (docs/PROFILE.md, section 11). A name of
--- nothing counts for none, nor does the name of a type that contains itself.
+-- nothing counts for none, nor does the name of a type that contains itself; a tag
+-- that is written counts, whatever stands beneath it.
 use Rattle.std.specs.Prelude.{◌≡◌, ◌+◌, ℕ, List, Option}
 use Rattle.token_grammar.specs.declared.token.Token.{Token}
 use Rattle.term_values.specs.Syntaxes.{TypeSyntax, TypeParts}

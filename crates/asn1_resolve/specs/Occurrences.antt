@@ -42,7 +42,7 @@ pub record ImportsBy (ms : List ModuleTerm) (document m : ℕ) (text : ImportTer
   pub is_in : IsIn ms document m in_module
   pub stands : Contains in_module.imports text
 
--- a number stands as the tag, or as a named number, an item or a named bit, of a type
+-- a number stands as a named number, an item or a named bit of a type
 pub data IsNumberOf (number : NumberTerm) : TypeTerm → Type 0 where
   named_number : {word : Token} {numbers : List NamedNumberTerm} {limits : List LimitTerm} {x : NamedNumberTerm} →
       Contains numbers x → x.number ≡ number → IsNumberOf number (Plain word (IntegerTerm numbers) limits)

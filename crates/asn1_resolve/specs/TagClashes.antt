@@ -1,5 +1,5 @@
 -- TagClashes: tags don't tell the alternatives of a CHOICE apart, the components of a SET, or in a SEQUENCE those of an
--- optional run and the next component (X.680, sections 24.5, 26.3 and 28.3; docs/PROFILE.md, section 11).
+-- optional run and the next component (X.680, sections 25.6, 27.3 and 29.3; docs/PROFILE.md, section 11).
 use Rattle.std.specs.Prelude.{◌≡◌, ◌<◌, ℕ, List, Bool, true, false, codes}
 use Rattle.token_grammar.specs.declared.token.Token.{Token}
 use Rattle.token_grammar.specs.TokenTests.{is_word_of}

@@ -1,5 +1,6 @@
--- TypeTags: which tags a value of a type may begin with (X.680, sections 8.4, 28.3 and 31; X.690, section 8.1.2). A
--- type that stands for nothing, or that contains itself, begins with none, and an ANY with each.
+-- TypeTags: which tags a value of a type may begin with (X.680, sections 8.4, 29.3 and 31; X.690, section 8.1.2). The
+-- name of nothing begins with none, nor does the name of a type that contains itself, and an ANY begins with each. A tag
+-- that is written counts, whatever stands beneath it.
 use Rattle.std.specs.Prelude.{◌≡◌, ℕ, List, true, Option, None, Some, codes, if◌then◌else◌}
 use Rattle.token_grammar.specs.declared.token.Token.{Token}
 use Rattle.token_grammar.specs.TokenTests.{is_word_of}
@@ -59,7 +60,7 @@ pub data Begins (ms : List ModuleTerm) : ℕ → TypeTerm → Tag → Type 0 whe
       {tag : Tag} → reference_meaning ms m module_name name ≡ StandardType syntax → begins syntax tag ≡ true →
       Begins ms m (Reference module_name name limits) tag
 
--- two types share a tag. An ANY shares one with each type that begins with any.
+-- two types share a tag. An ANY shares one with each type that begins with some tag.
 pub record ShareTag (ms : List ModuleTerm) (m : ℕ) (of other : TypeTerm) : Type 0 where
   pub tag : Tag
   pub begins_one : Begins ms m of tag

@@ -14,7 +14,7 @@ use Rattle.asn1_resolve.specs.NameMeaning.{name_meaning}
 use Rattle.asn1_resolve.specs.NameMeaning.Meaning.{ValueAt}
 use Rattle.asn1_resolve.specs.TypeBase.{HasNamedNumber}
 
--- a whole number of 64 bits
+-- a whole number of 64 bits, from -2^63 to 2^63 - 1
 pub record FitsSixtyFour (n : ℤ) : Type 0 where
   pub at_least : neg_ℤ (pos 9223372036854775808) ≤ℤ n
   pub below : n <ℤ pos 9223372036854775808

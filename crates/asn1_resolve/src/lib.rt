@@ -3,6 +3,7 @@
 #![tactic(auto)]
 
 pub mod first_fault;
+pub mod first_words;
 pub mod refusal;
 pub mod standard_module;
 pub mod type_words;
