@@ -1,5 +1,5 @@
--- Further examples of docs/PROFILE.md, section 11, computed: CMIP-1 by its name, named numbers before values, constraints
--- through tags, what is unsupported, an unknown module, the first fault, and a text of DEFAULT.
+-- Further examples of docs/PROFILE.md, section 11, computed: CMIP-1 by its name, named numbers before values,
+-- constraints through tags, what is unsupported, an unknown module, the first fault, and a text of DEFAULT.
 use Rattle.std.specs.Prelude.{◌≡◌, ℤ, pos, [], ◌∷◌, true, false, ◌&&◌, None, Some}
 use Rattle.std.specs.Prelude.{codes, refl}
 use Rattle.std.proofs.Common.{inl, arith}
@@ -27,7 +27,8 @@ use Rattle.asn1_resolve.specs.DefaultTexts.HasDefault.{here, element}
 use Rattle.asn1_resolve.specs.ModuleFaults.{IsOtherType, UnknownModuleAt, UnsupportedAt}
 use Rattle.asn1_resolve.specs.ModuleFaults.UnknownModuleAt.{of_module}
 use Rattle.asn1_resolve.specs.ModuleFaults.UnsupportedAt.{type_word, misplaced}
-use Rattle.asn1_resolve.specs.NameMeaning.{first_assignment, first_module, assigned_in, import_of, imported_from, meaning_within}
+use Rattle.asn1_resolve.specs.NameMeaning.{first_assignment, first_module, assigned_in, import_of, imported_from}
+use Rattle.asn1_resolve.specs.NameMeaning.{meaning_within}
 use Rattle.asn1_resolve.specs.NameMeaning.{module_meaning, reference_meaning}
 use Rattle.asn1_resolve.specs.NameMeaning.Meaning.{StandardType}
 use Rattle.asn1_resolve.specs.NameMeaning.ModuleMeaning.{NoModule}
@@ -123,7 +124,8 @@ defaulted = Structure (word 48 (codes "SEQUENCE"))
     (Member (word 58 (codes "a")) (simple 60 (codes "NULL")) Needed
     (Member (word 66 (codes "b")) (simple 68 (codes "NULL")) (DefaultTerm Bare) NoMembers)) []
 
-default_example : HasDefault (one_type defaulted ∷ []) 0 (Repeated (word 36 (codes "SEQUENCE")) None defaulted) (1 ∷ []) 0 Bare
+default_example : HasDefault (one_type defaulted ∷ []) 0 (Repeated (word 36 (codes "SEQUENCE")) None defaulted)
+    (1 ∷ []) 0 Bare
 default_example = element (here (behind first))
 
 part_example : part_at (SequenceOf (Sequence (APart (codes "a") NullType false None

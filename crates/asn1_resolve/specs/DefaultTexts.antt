@@ -33,8 +33,8 @@ pub data HasDefault (ms : List ModuleTerm) : ℕ → TypeTerm → List ℕ → �
       {path : List ℕ} {text : Tree} → reference_meaning ms m module_name name ≡ TypeAt v i of →
       HasDefault ms v of path w text → HasDefault ms m (Reference module_name name limits) path w text
 
--- Which part of a syntax a path tells: of a SEQUENCE, a SET or a CHOICE the one of its first number, and of this the one
--- of the rest; tags, and lists, take no number.
+-- Which part of a syntax a path tells: of a SEQUENCE, a SET or a CHOICE the one of its first number, and of this the
+-- one of the rest; tags, and lists, take no number.
 abbrev mutual
   pub part_at : TypeSyntax → List ℕ → Option TypeSyntax
   part_at (Tagged tag explicit of) path = part_at of path

@@ -15,7 +15,8 @@ meaning_of ms module_name name = meaning_within ms (module_meaning ms module_nam
 
 -- the syntax that a meaning has: that of the type, or of the value's type
 pub data HasSyntax (ms : List ModuleTerm) : Meaning → TypeSyntax → Type 0 where
-  of_type : {m i : ℕ} {of : TypeTerm} {syntax : TypeSyntax} → Denotes ms m of syntax → HasSyntax ms (TypeAt m i of) syntax
+  of_type : {m i : ℕ} {of : TypeTerm} {syntax : TypeSyntax} → Denotes ms m of syntax →
+      HasSyntax ms (TypeAt m i of) syntax
   of_value : {m i : ℕ} {of : TypeTerm} {number : Option NumberTerm} {text : Tree} {syntax : TypeSyntax} →
       Denotes ms m of syntax → HasSyntax ms (ValueAt m i of number text) syntax
   of_standard : {syntax : TypeSyntax} → HasSyntax ms (StandardType syntax) syntax

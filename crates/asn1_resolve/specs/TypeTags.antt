@@ -1,6 +1,6 @@
 -- TypeTags: which tags a value of a type may begin with (X.680, sections 8.4, 29.3 and 31; X.690, section 8.1.2). The
--- name of nothing begins with none, nor does the name of a type that contains itself, and an ANY begins with each. A tag
--- that is written counts, whatever stands beneath it.
+-- name of nothing begins with none, nor does the name of a type that contains itself, and an ANY begins with each. A
+-- tag that is written counts, whatever stands beneath it.
 use Rattle.std.specs.Prelude.{◌≡◌, ℕ, List, true, Option, None, Some, codes, if◌then◌else◌}
 use Rattle.token_grammar.specs.declared.token.Token.{Token}
 use Rattle.token_grammar.specs.TokenTests.{is_word_of}

@@ -6,6 +6,7 @@ pub mod first_fault;
 pub mod first_words;
 pub mod refusal;
 pub mod standard_module;
+pub mod tag_texts;
 pub mod type_words;
 
 pub use refusal::{ModuleRefusal, UnsupportedKind};

@@ -1,7 +1,8 @@
 //! The module CMIP-1, which is built in: its types and their syntaxes (X.711, section 7.5).
 
 ghost use Rattle.std.specs.Prelude.{◌≡◌, [], ◌∷◌, IfOk, option_map};
-ghost use Rattle.term_values.specs.CmipTypes.{attribute, attribute_value_assertion, identifier, implicit, object_instance, one, rdn_sequence};
+ghost use Rattle.term_values.specs.CmipTypes.{attribute, attribute_value_assertion, identifier, implicit};
+ghost use Rattle.term_values.specs.CmipTypes.{object_instance, one, rdn_sequence};
 ghost use Rattle.term_values.specs.PartsView.{parts_listed};
 ghost use Rattle.term_values.specs.Syntaxes.TypeParts.{NoParts};
 ghost use Rattle.term_values.specs.declared.syntax.SyntaxForm.TheVariants as forms;
