@@ -1,0 +1,21 @@
+-- The definitions that the contracts of this crate cite.
+pub mod TemplateTerms
+pub mod PartTerms
+pub mod MemberViews
+pub mod ClassViews
+pub mod PartViews
+pub mod Mentions
+pub mod DocumentTemplates
+pub mod LabelMeaning
+pub mod TypeMeaning
+pub mod FirstNames
+pub mod ClassMembers
+pub mod AttributeSyntaxes
+pub mod RuleWords
+pub mod References
+pub mod RuleFaults
+pub mod WrongKinds
+pub mod UnknownLabels
+pub mod DoubleNames
+pub mod FirstLabelFault
+pub mod LinkedTables
