@@ -1,1 +1,4 @@
 -- The lemmas of this crate.
+pub mod Texts
+pub mod StandardFacts
+pub mod FurtherFacts
