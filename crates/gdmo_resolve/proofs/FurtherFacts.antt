@@ -1,23 +1,21 @@
--- Further examples of docs/PROFILE.md, section 12, computed: first names, a FIXED group that is added to, a field that is
--- no component, rules, and names of modules.
-use Rattle.std.specs.Prelude.{◌≡◌, ◌≢◌, ◌<◌, ℕ, List, [], ◌∷◌, true, false, None, Some, Option, Contains, codes, refl}
-use Rattle.std.proofs.Common.{inl, inr, arith}
-use Rattle.token_grammar.specs.declared.qualified_name.QualifiedName.{QualifiedName}
-use Rattle.token_grammar.specs.declared.token.Token.{Token}
+-- Further examples of docs/PROFILE.md, section 12, computed: first names, a FIXED group that is added to, a field
+-- that is no component, rules, and names of modules.
+use Rattle.std.specs.Prelude.{◌≡◌, [], ◌∷◌, true, false, None, Some, Contains, codes, refl}
+use Rattle.std.proofs.Common.{inl, arith}
 use Rattle.token_grammar.specs.Form.{Bare}
-use Rattle.asn1_resolve.specs.ModuleTerms.{AssignmentTerm, ModuleTerm, TypeTerm}
-use Rattle.asn1_resolve.specs.ModuleTerms.AssignedTerm.{AssignsType, AssignsValue}
+use Rattle.asn1_resolve.specs.ModuleTerms.{AssignmentTerm}
+use Rattle.asn1_resolve.specs.ModuleTerms.AssignedTerm.{AssignsValue}
 use Rattle.asn1_resolve.specs.ModuleTerms.PlainTerm.{IdentifierTerm as ObjectIdentifierType}
 use Rattle.asn1_resolve.specs.ModuleTerms.TypeTerm.{Plain}
 use Rattle.asn1_resolve.specs.NameMeaning.{module_meaning, first_module, meaning_within, assigned_in, first_assignment}
-use Rattle.asn1_resolve.specs.NameMeaning.Meaning.{TypeAt, ValueAt, Nothing}
+use Rattle.asn1_resolve.specs.NameMeaning.Meaning.{ValueAt, Nothing}
 use Rattle.asn1_resolve.specs.NameMeaning.ModuleMeaning.{NoModule}
 use Rattle.asn1_resolve.specs.TypeBase.HasBase.{itself}
 use Rattle.gdmo_resolve.specs.DocumentTemplates.{templates}
 use Rattle.gdmo_resolve.specs.DoubleNames.{DoubleLabelAt}
 use Rattle.gdmo_resolve.specs.DoubleNames.DoubleLabelAt.{module_name as module_twice}
 use Rattle.gdmo_resolve.specs.DoubleNames.IsModuleAgain.{standard as standard_again}
-use Rattle.gdmo_resolve.specs.ClassMembers.{CanBeNamedBy, CanName, IsNamedBy, HasAttribute, Derives}
+use Rattle.gdmo_resolve.specs.ClassMembers.{CanBeNamedBy}
 use Rattle.gdmo_resolve.specs.ClassMembers.CanName.{subclass}
 use Rattle.gdmo_resolve.specs.ClassMembers.Derives.{directly}
 use Rattle.gdmo_resolve.specs.ClassMembers.IsNamedBy.{by_binding}
@@ -26,14 +24,13 @@ use Rattle.gdmo_resolve.specs.FirstNames.HasArcs.{number, root, defined}
 use Rattle.gdmo_resolve.specs.LabelMeaning.{Leads, Means, first_called, label_meaning, target}
 use Rattle.gdmo_resolve.specs.Mentions.Role.{SubordinateClass, NamingAttribute, Superclass, PackageGroup, RuleClass}
 use Rattle.gdmo_resolve.specs.Mentions.Role.{StepAttribute}
-use Rattle.gdmo_resolve.specs.PartTerms.{ModulePart, Placed, RuleTerm, StepTerm, PartTerms, arcs_at}
+use Rattle.gdmo_resolve.specs.PartTerms.{ModulePart, RuleTerm, PartTerms, arcs_at}
 use Rattle.gdmo_resolve.specs.PartTerms.StepTerm.{AddTo}
-use Rattle.gdmo_resolve.specs.RuleFaults.{NamesNamingAttribute}
 use Rattle.gdmo_resolve.specs.RuleWords.NamesByLabel.{add}
-use Rattle.gdmo_resolve.specs.TemplateTerms.{IdentifierTerm, RowTerms, TemplateTerm}
+use Rattle.gdmo_resolve.specs.TemplateTerms.{RowTerms, TemplateTerm}
 use Rattle.gdmo_resolve.specs.TemplateTerms.BodyTerm.{BindingBody, GroupBody, PackageBody}
 use Rattle.gdmo_resolve.specs.TemplateTerms.LifeTerm.{NoLife}
-use Rattle.gdmo_resolve.specs.TemplateTerms.ReferenceTerm.{ByLabel, InLine}
+use Rattle.gdmo_resolve.specs.TemplateTerms.ReferenceTerm.{ByLabel}
 use Rattle.gdmo_resolve.specs.TemplateTerms.ReferenceTerms.{NoReferences}
 use Rattle.gdmo_resolve.specs.TemplateTerms.RowTerms.{NoRows, Row}
 use Rattle.gdmo_resolve.specs.TemplateTerms.TemplateTerm.{Template}
@@ -42,8 +39,8 @@ use Rattle.gdmo_resolve.specs.TypeMeaning.{qualified_meaning}
 use Rattle.gdmo_resolve.specs.WrongKinds.{WrongKindAt}
 use Rattle.gdmo_resolve.specs.WrongKinds.IsRow.{first}
 use Rattle.gdmo_resolve.specs.WrongKinds.WrongKindAt.{fixed_group, naming_attribute}
-use Rattle.gdmo_resolve.proofs.Texts.{word, digits, brace, arcs_of, named_arcs, qualified, attribute_of, package_of}
-use Rattle.gdmo_resolve.proofs.Texts.{use_of, class_of, one_reference, placed, of_templates}
+use Rattle.gdmo_resolve.proofs.Texts.{word, digits, arcs_of, named_arcs, qualified, attribute_of}
+use Rattle.gdmo_resolve.proofs.Texts.{class_of, one_reference, placed, of_templates}
 
 -- Net has net OBJECT IDENTIFIER ::= {2 999 3 1}; {net 5} is 2.999.3.1.5
 abbrev net_value : AssignmentTerm

@@ -2,3 +2,4 @@
 pub mod Texts
 pub mod StandardFacts
 pub mod FurtherFacts
+pub mod TypeFacts

@@ -1,41 +1,29 @@
--- Examples of docs/PROFILE.md, section 12, computed: a class with a package in line and two attributes, as in a network's
--- document: which templates there are, what their labels mean, and faults.
-use Rattle.std.specs.Prelude.{◌≡◌, ◌≢◌, ◌<◌, ℕ, List, [], ◌∷◌, true, false, None, Some, Option, Contains, codes, refl}
-use Rattle.std.specs.Prelude.{map, flat_map}
-use Rattle.std.proofs.Common.{inl, inr, arith}
+-- Examples of docs/PROFILE.md, section 12, computed: a class with a package in line and two attributes, as in a
+-- network's document: which templates there are, what their labels mean, and faults.
+use Rattle.std.specs.Prelude.{◌≡◌, [], ◌∷◌, None, Some, Contains, codes, refl}
+use Rattle.std.proofs.Common.{arith}
 use Rattle.token_grammar.specs.declared.qualified_name.QualifiedName.{QualifiedName}
-use Rattle.token_grammar.specs.declared.token.Token.{Token}
-use Rattle.token_grammar.specs.Form.{Bare}
-use Rattle.asn1_resolve.specs.ModuleTerms.{AssignmentTerm, ModuleTerm, TypeTerm}
-use Rattle.asn1_resolve.specs.ModuleTerms.AssignedTerm.{AssignsType, AssignsValue}
-use Rattle.asn1_resolve.specs.ModuleTerms.PlainTerm.{IntegerTerm, IdentifierTerm as ObjectIdentifierType}
-use Rattle.asn1_resolve.specs.ModuleTerms.TypeTerm.{Plain}
-use Rattle.asn1_resolve.specs.NameMeaning.{module_meaning, first_module, meaning_within, assigned_in, first_assignment}
-use Rattle.asn1_resolve.specs.NameMeaning.Meaning.{TypeAt, ValueAt, Nothing}
-use Rattle.asn1_resolve.specs.NameMeaning.ModuleMeaning.{NoModule}
-use Rattle.asn1_resolve.specs.TypeBase.HasBase.{itself}
 use Rattle.gdmo_resolve.specs.DocumentTemplates.{templates}
-use Rattle.gdmo_resolve.specs.DoubleNames.{DoubleLabelAt, DoubleIdentifierAt, IsModuleAgain}
+use Rattle.gdmo_resolve.specs.DoubleNames.{DoubleLabelAt, DoubleIdentifierAt}
 use Rattle.gdmo_resolve.specs.DoubleNames.DoubleLabelAt.{template_label as label_twice}
 use Rattle.gdmo_resolve.specs.FirstLabelFault.{IsNoLater}
 use Rattle.gdmo_resolve.specs.FirstLabelFault.LabelFault.{KindWrong, LabelDouble}
 use Rattle.gdmo_resolve.specs.FirstLabelFault.IsNoLater.{at_one_token}
-use Rattle.gdmo_resolve.specs.FirstNames.{DefinesName, HasArcs, IsIdentifier, root_arc}
-use Rattle.gdmo_resolve.specs.FirstNames.HasArcs.{number, root, defined}
+use Rattle.gdmo_resolve.specs.FirstNames.{HasArcs, root_arc}
+use Rattle.gdmo_resolve.specs.FirstNames.HasArcs.{number}
 use Rattle.gdmo_resolve.specs.LabelMeaning.{Leads, first_called, label_meaning, target}
 use Rattle.gdmo_resolve.specs.Mentions.Role.{Superclass, MandatoryPackage, PackageAttribute}
-use Rattle.gdmo_resolve.specs.PartTerms.{ModulePart, Placed, RuleTerm, PartTerms, arcs_at}
+use Rattle.gdmo_resolve.specs.PartTerms.{PartTerms}
 use Rattle.gdmo_resolve.specs.References.Refers.{by_template}
-use Rattle.gdmo_resolve.specs.TemplateTerms.{IdentifierTerm, TemplateTerm}
+use Rattle.gdmo_resolve.specs.TemplateTerms.{TemplateTerm}
 use Rattle.gdmo_resolve.specs.TemplateTerms.ReferenceTerm.{ByLabel, InLine}
 use Rattle.gdmo_resolve.specs.TemplateTerms.ReferenceTerms.{NoReferences}
 use Rattle.gdmo_resolve.specs.TemplateTerms.UseTerms.{NoUses}
-use Rattle.gdmo_resolve.specs.TypeMeaning.{qualified_meaning}
 use Rattle.gdmo_resolve.specs.UnknownLabels.{UnknownLabelAt}
 use Rattle.gdmo_resolve.specs.UnknownLabels.UnknownLabelAt.{template_label}
 use Rattle.gdmo_resolve.specs.WrongKinds.{WrongKindAt}
-use Rattle.gdmo_resolve.specs.WrongKinds.WrongKindAt.{other_kind, unregistered}
-use Rattle.gdmo_resolve.proofs.Texts.{word, digits, brace, arcs_of, named_arcs, qualified, attribute_of, package_of}
+use Rattle.gdmo_resolve.specs.WrongKinds.WrongKindAt.{unregistered}
+use Rattle.gdmo_resolve.proofs.Texts.{word, arcs_of, qualified, attribute_of, package_of}
 use Rattle.gdmo_resolve.proofs.Texts.{use_of, class_of, one_reference, placed, of_templates}
 
 -- element, with elementPackage in line, which has elementId and load; elementId is registered under 2.999.7.1, and
@@ -50,8 +38,8 @@ abbrev load : TemplateTerm
 load = attribute_of (word 5 (codes "load")) id_type None
 
 abbrev element_package : TemplateTerm
-element_package = package_of (word 140 (codes "elementPackage")) None (use_of (ByLabel (word 180 (codes "elementId"))) []
-    (use_of (ByLabel (word 195 (codes "load"))) [] NoUses))
+element_package = package_of (word 140 (codes "elementPackage")) None (use_of (ByLabel (word 180
+    (codes "elementId"))) [] (use_of (ByLabel (word 195 (codes "load"))) [] NoUses))
 
 abbrev element : TemplateTerm
 element = class_of (word 100 (codes "element")) (arcs_of 230 (codes "3") (codes "1")) NoReferences

@@ -1,20 +1,18 @@
 -- Texts: short terms of which the examples are made.
-use Rattle.std.specs.Prelude.{ℕ, List, [], ◌∷◌, true, false, None, Some, Option, codes}
+use Rattle.std.specs.Prelude.{ℕ, List, [], ◌∷◌, None, Some, Option, codes}
 use Rattle.token_grammar.specs.declared.qualified_name.QualifiedName.{QualifiedName}
 use Rattle.token_grammar.specs.declared.token.Token.{Token}
 use Rattle.token_grammar.specs.Kinds.{word_kind, number_kind, sign_kind}
-use Rattle.asn1_resolve.specs.ModuleTerms.{ModuleTerm}
-use Rattle.gdmo_resolve.specs.PartTerms.{ModulePart, Placed, RuleTerm, PartTerms}
-use Rattle.gdmo_resolve.specs.TemplateTerms.{FirstTerm, IdentifierTerm, ReferenceTerm, ReferenceTerms, TemplateTerm}
-use Rattle.gdmo_resolve.specs.TemplateTerms.{StatedTerm, UseTerms}
+use Rattle.gdmo_resolve.specs.PartTerms.{Placed, PartTerms}
+use Rattle.gdmo_resolve.specs.TemplateTerms.{IdentifierTerm, ReferenceTerm, ReferenceTerms, TemplateTerm}
+use Rattle.gdmo_resolve.specs.TemplateTerms.{UseTerms}
 use Rattle.gdmo_resolve.specs.TemplateTerms.FirstTerm.{ArcNumber, ArcName}
-use Rattle.gdmo_resolve.specs.TemplateTerms.ReferenceTerm.{ByLabel, InLine}
 use Rattle.gdmo_resolve.specs.TemplateTerms.ReferenceTerms.{NoReferences, Reference}
 use Rattle.gdmo_resolve.specs.TemplateTerms.TemplateTerm.{Template}
 use Rattle.gdmo_resolve.specs.TemplateTerms.BodyTerm.{ClassBody, PackageBody, AttributeBody}
 use Rattle.gdmo_resolve.specs.TemplateTerms.SyntaxTerm.{OfType}
 use Rattle.gdmo_resolve.specs.TemplateTerms.StatedTerm.{NotStated}
-use Rattle.gdmo_resolve.specs.TemplateTerms.UseTerms.{NoUses, Use}
+use Rattle.gdmo_resolve.specs.TemplateTerms.UseTerms.{Use}
 use Rattle.gdmo_resolve.specs.TemplateTerms.RowTerms.{NoRows}
 
 -- a word, digits, and a brace, at a place
@@ -31,7 +29,7 @@ brace at = record { kind = sign_kind; at = at; text = codes "{" }
 abbrev pub arcs_of : ℕ → List ℕ → List ℕ → IdentifierTerm
 arcs_of at a b = record {
   brace = brace at;
-  first = ArcNumber (digits (at) (codes "2"));
+  first = ArcNumber (digits at (codes "2"));
   others = digits at (codes "999") ∷ digits at a ∷ digits at b ∷ [];
 }
 

@@ -1,7 +1,7 @@
 -- AttributeSyntaxes: which syntax an attribute has: its type's, or that of the attribute that it derives from (X.722,
 -- section 8.7; docs/PROFILE.md, section 12); and when two types are one: the syntaxes are equal, with tags, names of
 -- numbers, of components and bounds, but not the names of types.
-use Rattle.std.specs.Prelude.{◌≡◌, List, [], ◌∷◌, ◌||◌, Bool, true, false, Option, None, Some, if◌then◌else◌, ℕ}
+use Rattle.std.specs.Prelude.{◌≡◌, List, Bool, true, false, Option, None, Some, if◌then◌else◌, ℕ}
 use Rattle.std.specs.List.{list_any}
 use Rattle.token_grammar.specs.declared.qualified_name.QualifiedName.{QualifiedName}
 use Rattle.term_values.specs.Syntaxes.{Named, TypeSyntax, TypeParts}

@@ -1,5 +1,6 @@
--- ClassMembers: which classes derive from which, which attributes the mandatory packages of a class have, and by which
--- attributes its objects can be named (X.720, section 5; X.722, sections 8.3, 8.4 and 8.6; docs/PROFILE.md, section 12).
+-- ClassMembers: which classes derive from which, which attributes the mandatory packages of a class have, and by
+-- which attributes its objects can be named (X.720, section 5; X.722, sections 8.3, 8.4 and 8.6; docs/PROFILE.md,
+-- section 12).
 use Rattle.std.specs.Prelude.{◌≡◌, ◌⊎◌, List, [], ◌∷◌, Bool, true, false, Option, None, Some, Contains}
 use Rattle.gdmo_resolve.specs.DocumentTemplates.{templates}
 use Rattle.gdmo_resolve.specs.LabelMeaning.{Leads, LeadsNowhere, Means}
@@ -34,8 +35,9 @@ pub data HasUnknownAttributes (parts : PartTerms) (class : Placed) : Type 0 wher
       HasUnknownAttributes parts class
   package_of : {base : Placed} → IsOrDerives parts class base → LeadsNowhere parts base MandatoryPackage →
       HasUnknownAttributes parts class
-  attribute_of : {base in_package : Placed} → IsOrDerives parts class base → Leads parts base MandatoryPackage in_package →
-      LeadsNowhere parts in_package PackageAttribute → HasUnknownAttributes parts class
+  attribute_of : {base in_package : Placed} → IsOrDerives parts class base →
+      Leads parts base MandatoryPackage in_package → LeadsNowhere parts in_package PackageAttribute →
+      HasUnknownAttributes parts class
 
 -- AND SUBCLASSES stands behind the subordinate class of a name binding
 abbrev pub names_subclasses : BodyTerm → Bool

@@ -16,7 +16,6 @@ use Rattle.gdmo_classes.specs.declared.creation.CreateModifiers.TheVariants.{Ref
 use Rattle.gdmo_classes.specs.declared.creation.Creation.{Creation}
 use Rattle.gdmo_classes.specs.declared.creation.Deletion.{Deletion}
 use Rattle.gdmo_classes.specs.declared.creation.FurtherModifier.{FurtherModifier}
-use Rattle.gdmo_classes.specs.declared.creation.ModifierRow.{ModifierRow}
 use Rattle.gdmo_classes.specs.declared.member_use.ActionUse.{ActionUse}
 use Rattle.gdmo_classes.specs.declared.member_use.GroupUse.{GroupUse}
 use Rattle.gdmo_classes.specs.declared.member_use.NotificationUse.{NotificationUse}
@@ -40,7 +39,7 @@ use Rattle.gdmo_classes.specs.declared.references.NotificationReference.TheVaria
 use Rattle.gdmo_resolve.specs.MemberViews.{action_term, attribute_reference, behaviour_reference, behaviour_terms}
 use Rattle.gdmo_resolve.specs.MemberViews.{clause_terms, group_term, identifier_term, notification_term}
 use Rattle.gdmo_resolve.specs.MemberViews.{parameter_reference, reference_terms}
-use Rattle.gdmo_resolve.specs.TemplateTerms.{ReferenceTerm, ReferenceTerms, TemplateTerm, BodyTerm, StatedTerm}
+use Rattle.gdmo_resolve.specs.TemplateTerms.{ReferenceTerm, ReferenceTerms, TemplateTerm, StatedTerm}
 use Rattle.gdmo_resolve.specs.TemplateTerms.{UseTerms, RowTerms, LifeTerm}
 use Rattle.gdmo_resolve.specs.TemplateTerms.ReferenceTerm.{ByLabel, InLine}
 use Rattle.gdmo_resolve.specs.TemplateTerms.ReferenceTerms.{NoReferences, Reference}
@@ -126,8 +125,8 @@ abbrev mutual
   class_reference (ClassLabel x) = ByLabel x.label
   class_reference (ClassInLine place document label superclasses packages conditional registration) =
       InLine (Template label (Some (identifier_term registration))
-          (ClassBody (held_terms superclasses) (clause_terms package_reference packages)
-          (clause_terms conditional_reference conditional)))
+      (ClassBody (held_terms superclasses) (clause_terms package_reference packages)
+      (clause_terms conditional_reference conditional)))
 
   pub superclass_terms : {n : _} → Row_of-ClassReference n → ReferenceTerms
   superclass_terms end_of-ClassReference = NoReferences

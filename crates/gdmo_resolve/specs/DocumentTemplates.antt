@@ -1,6 +1,6 @@
 -- DocumentTemplates: the templates of a set of documents, those in line too, each with the number of its document
--- (X.722, section 8.2; docs/PROFILE.md, section 12). A template has its kind, its label, its identifier and the place of
--- its label; in which order the clauses stand has no part here.
+-- (X.722, section 8.2; docs/PROFILE.md, section 12). A template has its kind, its label, its identifier and the place
+-- of its label; in which order the clauses stand has no part here.
 use Rattle.std.specs.Prelude.{List, [], ◌∷◌, ◌++◌, map, flat_map}
 use Rattle.gdmo_resolve.specs.PartTerms.{Placed, PartTerms}
 use Rattle.gdmo_resolve.specs.TemplateTerms.{ReferenceTerm, ReferenceTerms, TemplateTerm, BodyTerm}

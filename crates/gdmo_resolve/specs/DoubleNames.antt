@@ -1,7 +1,7 @@
--- DoubleNames: two templates of one label, two modules of one name, a name that a module assigns twice, a first name to
--- which two modules give unequal values, and two templates of one identifier; each of the token of the later one (X.722,
--- section 8.2; X.680, section 13; docs/PROFILE.md, section 12). CMIP-1 is a module before all documents.
-use Rattle.std.specs.Prelude.{◌≡◌, ◌≢◌, ◌<◌, ℕ, List, true, Option, None, Some, Contains, slice_get}
+-- DoubleNames: two templates of one label, two modules of one name, a name that a module assigns twice, a first name
+-- to which two modules give unequal values, and two templates of one identifier; each of the token of the later one
+-- (X.722, section 8.2; X.680, section 13; docs/PROFILE.md, section 12). CMIP-1 is a module before all documents.
+use Rattle.std.specs.Prelude.{◌≡◌, ◌≢◌, ◌<◌, ℕ, List, true, None, Some, Contains, slice_get}
 use Rattle.token_grammar.specs.declared.token.Token.{Token}
 use Rattle.asn1_resolve.specs.ModuleTerms.{AssignmentTerm, ModuleTerm}
 use Rattle.asn1_resolve.specs.NameMeaning.{is_called}

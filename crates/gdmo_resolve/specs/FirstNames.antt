@@ -1,7 +1,7 @@
 -- FirstNames: what the name means with which an object identifier begins, and which arcs an identifier has (X.660,
--- annex A; X.680, section 32; docs/PROFILE.md, section 12). The names of the three roots have their arcs; any other name
--- is that of an OBJECT IDENTIFIER value, in the first module that assigns it one.
-use Rattle.std.specs.Prelude.{◌≡◌, ◌≢◌, ◌<◌, ◌&&◌, ℕ, List, [], ◌∷◌, ◌++◌, Bool, true, Option, None, Some, Contains}
+-- annex A; X.680, section 32; docs/PROFILE.md, section 12). The names of the three roots have their arcs; any other
+-- name is that of an OBJECT IDENTIFIER value, in the first module that assigns it one.
+use Rattle.std.specs.Prelude.{◌≡◌, ◌≢◌, ◌<◌, ◌&&◌, ℕ, List, ◌∷◌, ◌++◌, Bool, true, Option, None, Some, Contains}
 use Rattle.std.specs.Prelude.{map, codes, if◌then◌else◌}
 use Rattle.std.specs.List.{list_all}
 use Rattle.std.specs.Str.Parse.{digits_value}
@@ -11,14 +11,14 @@ use Rattle.term_values.specs.Oid.{is_oid, is_arc}
 use Rattle.asn1_resolve.specs.ModuleTerms.{LimitTerm, NumberTerm, TypeTerm, ModuleTerm}
 use Rattle.asn1_resolve.specs.ModuleTerms.PlainTerm.{IdentifierTerm as ObjectIdentifierType}
 use Rattle.asn1_resolve.specs.ModuleTerms.TypeTerm.{Plain}
-use Rattle.asn1_resolve.specs.NameMeaning.{Meaning, assigned_in}
-use Rattle.asn1_resolve.specs.NameMeaning.Meaning.{TypeAt, ValueAt, StandardType, Nothing}
+use Rattle.asn1_resolve.specs.NameMeaning.{assigned_in}
+use Rattle.asn1_resolve.specs.NameMeaning.Meaning.{TypeAt, ValueAt}
 use Rattle.asn1_resolve.specs.StandardModule.{is_same_name, standard_type}
 use Rattle.asn1_resolve.specs.TypeBase.{HasBase}
 use Rattle.asn1_resolve.specs.TypeBase.Base.{Written}
 use Rattle.gdmo_resolve.specs.DocumentTemplates.{templates}
 use Rattle.gdmo_resolve.specs.PartTerms.{ModulePart, Placed, PartTerms, module_terms_of, arcs_at, identifier_of}
-use Rattle.gdmo_resolve.specs.TemplateTerms.{FirstTerm, IdentifierTerm}
+use Rattle.gdmo_resolve.specs.TemplateTerms.{IdentifierTerm}
 use Rattle.gdmo_resolve.specs.TemplateTerms.FirstTerm.{ArcNumber, ArcName}
 
 -- X.660, annex A: itu-t, or ccitt, is 0, iso 1, joint-iso-itu-t, or joint-iso-ccitt, 2

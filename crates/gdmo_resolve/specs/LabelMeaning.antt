@@ -1,12 +1,12 @@
--- LabelMeaning: what a label means, and what a reference does (X.722, section 8.2; docs/PROFILE.md, section 12): there
--- is one space of labels over all documents and all kinds; of two templates of one label the first is meant, by the
--- document and then by the place of the label.
+-- LabelMeaning: what a label means, and what a reference does (X.722, section 8.2; docs/PROFILE.md, section 12):
+-- there is one space of labels over all documents and all kinds; of two templates of one label the first is meant, by
+-- the document and then by the place of the label.
 use Rattle.std.specs.Prelude.{◌≡◌, ◌==◌, ◌&&◌, ◌||◌, ℕ, nat_lt, List, [], ◌∷◌, Bool, Option, None, Some, Contains}
 use Rattle.std.specs.Prelude.{if◌then◌else◌}
 use Rattle.token_grammar.specs.declared.token.Token.{Token}
 use Rattle.asn1_resolve.specs.NameMeaning.{is_called}
 use Rattle.gdmo_resolve.specs.DocumentTemplates.{templates}
-use Rattle.gdmo_resolve.specs.Mentions.{Role, Mention, mention, template_mentions, wanted_kind}
+use Rattle.gdmo_resolve.specs.Mentions.{Role, mention, template_mentions, wanted_kind}
 use Rattle.gdmo_resolve.specs.PartTerms.{Placed, PartTerms, label_of, kind_of}
 use Rattle.gdmo_resolve.specs.TemplateTerms.{ReferenceTerm}
 use Rattle.gdmo_resolve.specs.TemplateTerms.ReferenceTerm.{ByLabel, InLine}
@@ -40,7 +40,8 @@ reference_token (ByLabel label) = label
 reference_token (InLine template) = label_of template
 
 -- a reference in a document means a template of the kind that is wanted
-pub record Means (parts : PartTerms) (document : ℕ) (role : Role) (reference : ReferenceTerm) (to : Placed) : Type 0 where
+pub record Means (parts : PartTerms) (document : ℕ) (role : Role) (reference : ReferenceTerm) (to : Placed)
+    : Type 0 where
   pub is_target : target parts document reference ≡ Some to
   pub of_kind : kind_of to.template ≡ wanted_kind role
 

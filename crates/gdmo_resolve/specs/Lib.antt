@@ -3,6 +3,7 @@ pub mod TemplateTerms
 pub mod PartTerms
 pub mod MemberViews
 pub mod ClassViews
+pub mod ArcViews
 pub mod PartViews
 pub mod Mentions
 pub mod DocumentTemplates

@@ -1,6 +1,6 @@
--- LinkedTables: where linked parts tell a template by a number: the place, counted from 0, among the templates of its kind
--- in the order of DocumentTemplates (docs/PROFILE.md, section 12).
-use Rattle.std.specs.Prelude.{◌≡◌, ◌==◌, ℕ, List, [], ◌∷◌, Bool, true, false, Option, Some, slice_get, if◌then◌else◌}
+-- LinkedTables: where linked parts tell a template by a number: the place, counted from 0, among the templates of its
+-- kind in the order of DocumentTemplates (docs/PROFILE.md, section 12).
+use Rattle.std.specs.Prelude.{◌≡◌, ◌==◌, ℕ, List, [], ◌∷◌, Bool, Some, slice_get, if◌then◌else◌}
 use Rattle.gdmo_resolve.specs.DocumentTemplates.{templates}
 use Rattle.gdmo_resolve.specs.LabelMeaning.{Means}
 use Rattle.gdmo_resolve.specs.Mentions.{Role, wanted_kind}

@@ -1,5 +1,5 @@
--- MemberViews: what the texts of attributes, parameters, groups, behaviours, actions and notifications say, as the terms
--- of TemplateTerms (X.722, sections 8.5 and 8.7 to 8.11; docs/PROFILE.md, section 2).
+-- MemberViews: what the texts of attributes, parameters, groups, behaviours, actions and notifications say, as the
+-- terms of TemplateTerms (X.722, sections 8.5 and 8.7 to 8.11; docs/PROFILE.md, section 2).
 use Rattle.std.specs.Prelude.{List, [], ◌∷◌, Option, None, Some, map, option_map, is_some}
 use Rattle.std.specs.declared.alloc.Global.{Global}
 use Rattle.std.specs.declared.vec.Vec.{Vec}
@@ -25,8 +25,6 @@ use Rattle.gdmo_members.specs.declared.behaviour.BehaviourReference.TheVariants.
 use Rattle.gdmo_members.specs.declared.behaviour.BehaviourReference.TheVariants.{Template as BehaviourInLine}
 use Rattle.gdmo_members.specs.declared.behaviour.BehaviourTemplate.{BehaviourTemplate}
 use Rattle.gdmo_members.specs.declared.group.GroupTemplate.{GroupTemplate}
-use Rattle.gdmo_members.specs.declared.member.MemberTemplate.{MemberTemplate}
-use Rattle.gdmo_members.specs.declared.member.MemberTemplate.TheVariants as member
 use Rattle.gdmo_members.specs.declared.notification.Field.{Field as FieldText}
 use Rattle.gdmo_members.specs.declared.notification.Information.{Information}
 use Rattle.gdmo_members.specs.declared.notification.NotificationTemplate.{NotificationTemplate}
@@ -37,7 +35,7 @@ use Rattle.gdmo_members.specs.declared.parameter.ParameterSyntax.{ParameterSynta
 use Rattle.gdmo_members.specs.declared.parameter.ParameterSyntax.TheVariants.{TypeReference as ParameterType, Attribute}
 use Rattle.gdmo_members.specs.declared.parameter.ParameterTemplate.{ParameterTemplate}
 use Rattle.gdmo_resolve.specs.TemplateTerms.{FirstTerm, IdentifierTerm, ReferenceTerm, ReferenceTerms, TemplateTerm}
-use Rattle.gdmo_resolve.specs.TemplateTerms.{BodyTerm, SyntaxTerm, FieldTerms}
+use Rattle.gdmo_resolve.specs.TemplateTerms.{SyntaxTerm, FieldTerms}
 use Rattle.gdmo_resolve.specs.TemplateTerms.FirstTerm.{ArcNumber, ArcName}
 use Rattle.gdmo_resolve.specs.TemplateTerms.ReferenceTerm.{ByLabel, InLine}
 use Rattle.gdmo_resolve.specs.TemplateTerms.ReferenceTerms.{NoReferences, Reference}
@@ -93,8 +91,8 @@ abbrev mutual
   attribute_reference (AttributeLabel x) = ByLabel x.label
   attribute_reference (AttributeInLine place document label syntax rules behaviour parameters registration) =
       InLine (Template label (option_map identifier_term registration)
-          (AttributeBody (attribute_syntax_term syntax) (clause_tokens rules) (behaviour_terms behaviour)
-          (held_terms parameters)))
+      (AttributeBody (attribute_syntax_term syntax) (clause_tokens rules) (behaviour_terms behaviour)
+      (held_terms parameters)))
 
   pub parameter_syntax_term : ParameterSyntax → SyntaxTerm
   parameter_syntax_term (ParameterType name) = OfType name
@@ -104,7 +102,7 @@ abbrev mutual
   parameter_reference (ParameterLabel x) = ByLabel x.label
   parameter_reference (ParameterInLine place document label context syntax behaviour registration) =
       InLine (Template label (option_map identifier_term registration)
-          (ParameterBody (parameter_syntax_term syntax) (behaviour_terms behaviour)))
+      (ParameterBody (parameter_syntax_term syntax) (behaviour_terms behaviour)))
 
   pub row_terms : {n : _} → Row_of-ParameterReference n → ReferenceTerms
   row_terms end_of-ParameterReference = NoReferences

@@ -1,5 +1,5 @@
--- Mentions: which templates a template names, and in which part each stands: what kind is wanted there, and whether it
--- must be registered (X.722, sections 8.3 to 8.11; docs/PROFILE.md, section 12).
+-- Mentions: which templates a template names, and in which part each stands: what kind is wanted there, and whether
+-- it must be registered (X.722, sections 8.3 to 8.11; docs/PROFILE.md, section 12).
 use Rattle.std.specs.Prelude.{List, [], ◌∷◌, ◌++◌, Bool, true, false}
 use Rattle.gdmo_resolve.specs.PartTerms.{body_of}
 use Rattle.gdmo_resolve.specs.TemplateTerms.{TemplateKind, ReferenceTerm, ReferenceTerms, TemplateTerm, BodyTerm}
@@ -81,8 +81,8 @@ wanted_kind NameAttribute = AttributeKind
 wanted_kind GivenAttribute = AttributeKind
 wanted_kind ChosenPackage = PackageKind
 
--- The template must be registered: what is compiled names it by its identifier. DERIVED FROM and a parameter's ATTRIBUTE
--- need none; a step names an attribute of a package, where it is asked already.
+-- The template must be registered: what is compiled names it by its identifier. DERIVED FROM and a parameter's
+-- ATTRIBUTE need none; a step names an attribute of a package, where it is asked already.
 abbrev pub must_be_registered : Role → Bool
 must_be_registered PackageAttribute = true
 must_be_registered AddedAttribute = true
@@ -113,8 +113,9 @@ stated_mentions (ByRule rule) = mention DerivationRule rule ∷ []
 
 abbrev pub use_mentions : UseTerms → List Mention
 use_mentions NoUses = []
-use_mentions (Use attribute default initial permitted required words parameters rest) = mention PackageAttribute attribute
-    ∷ (stated_mentions default ++ (stated_mentions initial ++ (mentions OfParameter parameters ++ use_mentions rest)))
+use_mentions (Use attribute default initial permitted required words parameters rest) =
+    mention PackageAttribute attribute ∷ (stated_mentions default ++ (stated_mentions initial
+    ++ (mentions OfParameter parameters ++ use_mentions rest)))
 
 abbrev pub row_mentions : Role → Role → RowTerms → List Mention
 row_mentions role behind NoRows = []

@@ -1,7 +1,7 @@
 -- PartTerms: what a set of documents says, as the definitions see it: the modules with the identifiers that stand in
 -- them, the templates that don't stand in line, the rules and the instances, each with the number of its document
 -- (docs/PROFILE.md, sections 2, 8 and 9).
-use Rattle.std.specs.Prelude.{ℕ, List, [], ◌∷◌, Bool, Option, None, Some, map, slice_get}
+use Rattle.std.specs.Prelude.{ℕ, List, Bool, Option, None, Some, map, slice_get}
 use Rattle.token_grammar.specs.declared.token.Token.{Token}
 use Rattle.token_grammar.specs.Form.{Tree}
 use Rattle.asn1_resolve.specs.ModuleTerms.{ModuleTerm}

@@ -1,28 +1,18 @@
 -- PartViews: what the parts of documents say, as the terms of PartTerms (docs/PROFILE.md, sections 2, 8 and 9).
 use Rattle.std.specs.Prelude.{ℕ, List, [], ◌∷◌, ◌++◌, Bool, true, false, Option, None, Some, map, flat_map, codes}
-use Rattle.std.specs.Prelude.{is_none, if◌then◌else◌}
+use Rattle.std.specs.Prelude.{if◌then◌else◌}
 use Rattle.std.specs.declared.alloc.Global.{Global}
 use Rattle.std.specs.declared.vec.Vec.{Vec}
 use Rattle.token_grammar.specs.declared.object_identifier.ObjectIdentifier.{ObjectIdentifier}
 use Rattle.token_grammar.specs.declared.token.Token.{Token}
 use Rattle.token_grammar.specs.Form.{Tree}
 use Rattle.token_grammar.specs.TokenTests.{is_word_of}
-use Rattle.asn1_values_syntax.specs.declared.arcs.SureArcs.{SureArcs}
-use Rattle.asn1_values_syntax.specs.declared.arcs.SureArcs.TheVariants.{Number as SureNumber, Named as SureNamed}
-use Rattle.asn1_values_syntax.specs.declared.numbers.SignedNumber.{SignedNumber}
-use Rattle.asn1_values_syntax.specs.declared.value.BracesText.{BracesText, Row_of-ValuePart, end_of-ValuePart}
-use Rattle.asn1_values_syntax.specs.declared.value.BracesText.{more_of-ValuePart}
-use Rattle.asn1_values_syntax.specs.declared.value.BracesText.TheVariants.{Nothing, Parts', Arcs, NamedArcs}
-use Rattle.asn1_values_syntax.specs.declared.value.NamedValue.TheVariants.{Name, Choice'}
-use Rattle.asn1_values_syntax.specs.declared.value.ValuePart.{ValuePart}
-use Rattle.asn1_values_syntax.specs.declared.value.ValuePart.TheVariants.{Named as NamedPart, Unnamed}
+use Rattle.asn1_values_syntax.specs.declared.value.NamedValue.TheVariants.{Name}
 use Rattle.asn1_values_syntax.specs.declared.value.ValueText.{ValueText}
-use Rattle.asn1_values_syntax.specs.declared.value.ValueText.TheVariants.{Literal, Number, Named as NamedText, Braces}
+use Rattle.asn1_values_syntax.specs.declared.value.ValueText.TheVariants.{Named as NamedText}
 use Rattle.asn1_values_syntax.specs.ValueTrees.{value_tree}
 use Rattle.asn1_syntax.specs.declared.module.Assigned.{Assigned}
 use Rattle.asn1_syntax.specs.declared.module.Assigned.TheVariants.{OfType, OfValue}
-use Rattle.asn1_syntax.specs.declared.module.Assignment.{Assignment}
-use Rattle.asn1_syntax.specs.declared.module.ImportedSymbols.{ImportedSymbols}
 use Rattle.asn1_syntax.specs.declared.module.Imports.{Imports}
 use Rattle.asn1_syntax.specs.declared.module.Module.{Module}
 use Rattle.asn1_resolve.specs.TermViews.{module_term}
@@ -44,54 +34,14 @@ use Rattle.gdmo_members.specs.declared.member.MemberTemplate.TheVariants.{Attrib
 use Rattle.gdmo_members.specs.declared.member.MemberTemplate.TheVariants.{Parameter, Behaviour}
 use Rattle.gdmo_resolve.specs.declared.parsed.Parsed.{Parsed}
 use Rattle.gdmo_resolve.specs.ClassViews.{class_term, package_term, binding_term}
-use Rattle.gdmo_resolve.specs.MemberViews.{arc_number, identifier_term, clause_tokens, behaviour_term, attribute_term}
+use Rattle.gdmo_resolve.specs.MemberViews.{identifier_term, clause_tokens, behaviour_term, attribute_term}
 use Rattle.gdmo_resolve.specs.MemberViews.{parameter_term, group_term, action_term, notification_term}
 use Rattle.gdmo_resolve.specs.PartTerms.{ModulePart, Placed, TakenTerm, StepTerm, RuleTerm, PairTerm, InstanceTerm}
 use Rattle.gdmo_resolve.specs.PartTerms.{PartTerms}
 use Rattle.gdmo_resolve.specs.PartTerms.TakenTerm.{TheArgument, OneWord, OtherValue}
 use Rattle.gdmo_resolve.specs.PartTerms.StepTerm.{SetTo, AddTo, EmitOf, ReplyWith}
-use Rattle.gdmo_resolve.specs.TemplateTerms.{FirstTerm, IdentifierTerm, TemplateTerm}
-use Rattle.gdmo_resolve.specs.TemplateTerms.FirstTerm.{ArcNumber, ArcName}
-
--- values in braces that can be read as object identifiers: `{number ..}`, `{name(number) ..}`, `{name}`, `{name number ..}`
-abbrev pub sure_numbers : SureArcs → List Token
-sure_numbers (SureNumber first second others) = first ∷ arc_number second ∷ map arc_number others.items
-sure_numbers (SureNamed first others) = first.number ∷ map arc_number others.items
-
-abbrev pub of_numbers : Token → List Token → Option IdentifierTerm
-of_numbers brace [] = None
-of_numbers brace (x ∷ xs) = Some (record { brace = brace; first = ArcNumber x; others = xs })
-
-abbrev pub of_name : Token → Token → List Token → Option IdentifierTerm
-of_name brace name others = Some (record { brace = brace; first = ArcName name; others = others })
-
-abbrev pub one_number : Token → SignedNumber → Option IdentifierTerm
-one_number brace x = if is_none x.minus then of_numbers brace (x.number ∷ []) else None
-
-abbrev pub name_and_number : Token → Token → SignedNumber → Option IdentifierTerm
-name_and_number brace name x = if is_none x.minus then of_name brace name (x.number ∷ []) else None
-
-abbrev pub part_arcs : Token → ValuePart → Option IdentifierTerm
-part_arcs brace (Unnamed (Number number)) = one_number brace number
-part_arcs brace (Unnamed (NamedText (Name name))) = of_name brace name []
-part_arcs brace (Unnamed _) = None
-part_arcs brace (NamedPart name (Number number)) = name_and_number brace name number
-part_arcs brace (NamedPart name _) = None
-
-abbrev pub row_arcs : {n : _} → Token → Row_of-ValuePart n → Option IdentifierTerm
-row_arcs brace end_of-ValuePart = None
-row_arcs brace (more_of-ValuePart part end_of-ValuePart) = part_arcs brace part
-row_arcs brace (more_of-ValuePart part (more_of-ValuePart other others)) = None
-
-abbrev pub braces_arcs : Token → BracesText → Option IdentifierTerm
-braces_arcs brace Nothing = None
-braces_arcs brace (Parts' shape row) = row_arcs brace row
-braces_arcs brace (Arcs arcs) = of_numbers brace (sure_numbers arcs.value)
-braces_arcs brace (NamedArcs first others) = of_name brace first (sure_numbers others.value)
-
-abbrev pub value_arcs : ValueText → Option IdentifierTerm
-value_arcs (Braces brace content) = braces_arcs brace content
-value_arcs _ = None
+use Rattle.gdmo_resolve.specs.TemplateTerms.{IdentifierTerm}
+use Rattle.gdmo_resolve.specs.ArcViews.{value_arcs}
 
 -- modules
 abbrev pub assigned_arcs : Assigned → Option IdentifierTerm

@@ -1,6 +1,6 @@
--- References: where templates are named in a set of documents: by templates, by rules and by instances (X.722, section 8;
--- docs/PROFILE.md, sections 2, 9 and 12).
-use Rattle.std.specs.Prelude.{◌≡◌, ℕ, List, Option, Contains}
+-- References: where templates are named in a set of documents: by templates, by rules and by instances (X.722,
+-- section 8; docs/PROFILE.md, sections 2, 9 and 12).
+use Rattle.std.specs.Prelude.{ℕ, Option, Contains}
 use Rattle.token_grammar.specs.declared.token.Token.{Token}
 use Rattle.token_grammar.specs.Form.{Tree}
 use Rattle.gdmo_resolve.specs.DocumentTemplates.{templates}

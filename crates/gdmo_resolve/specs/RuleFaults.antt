@@ -1,6 +1,6 @@
--- RuleFaults: what a rule may not say, a definition for each sentence (docs/PROFILE.md, sections 9 and 12). Nothing is
--- said of what depends on a template or a type that is missing.
-use Rattle.std.specs.Prelude.{◌≡◌, ◌<◌, ℕ, List, Option, None, Some, Contains, slice_get}
+-- RuleFaults: what a rule may not say, a definition for each sentence (docs/PROFILE.md, sections 9 and 12). Nothing
+-- is said of what depends on a template or a type that is missing.
+use Rattle.std.specs.Prelude.{◌≡◌, ◌<◌, ℕ, Option, None, Some, slice_get}
 use Rattle.token_grammar.specs.declared.qualified_name.QualifiedName.{QualifiedName}
 use Rattle.token_grammar.specs.declared.token.Token.{Token}
 use Rattle.gdmo_resolve.specs.AttributeSyntaxes.{HasUnknownSyntax, IsOfNamedType, IsWholeNumber}
@@ -8,7 +8,7 @@ use Rattle.term_values.specs.Syntaxes.{TypeSyntax}
 use Rattle.gdmo_resolve.specs.ClassMembers.{HasAttribute, HasUnknownAttributes, CanBeNamedBy}
 use Rattle.gdmo_resolve.specs.LabelMeaning.{Means}
 use Rattle.gdmo_resolve.specs.Mentions.Role.{StepAttribute}
-use Rattle.gdmo_resolve.specs.PartTerms.{Placed, TakenTerm, StepTerm, RuleTerm, PartTerms, module_terms_of, body_of}
+use Rattle.gdmo_resolve.specs.PartTerms.{Placed, StepTerm, RuleTerm, PartTerms, module_terms_of, body_of}
 use Rattle.gdmo_resolve.specs.PartTerms.TakenTerm.{TheArgument, OneWord}
 use Rattle.gdmo_resolve.specs.PartTerms.StepTerm.{SetTo, AddTo, ReplyWith}
 use Rattle.gdmo_resolve.specs.RuleWords.{HasStep, IsOfClass, IsOfAction, IsKnownType, NamesByLabel}

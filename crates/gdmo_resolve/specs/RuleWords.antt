@@ -1,7 +1,7 @@
 -- RuleWords: what the rules of a set of documents are about: their classes, actions and steps, and what a word alone
 -- behind REPLY is (docs/PROFILE.md, sections 9 and 12): an attribute, where the template of its label is one; else a
 -- value, where it is in capitals or the reply has a number of its name; else a label.
-use Rattle.std.specs.Prelude.{◌≡◌, List, true, false, Option, None, Some, Contains}
+use Rattle.std.specs.Prelude.{◌≡◌, true, Option, None, Some, Contains}
 use Rattle.token_grammar.specs.declared.qualified_name.QualifiedName.{QualifiedName}
 use Rattle.token_grammar.specs.declared.token.Token.{Token}
 use Rattle.token_grammar.specs.TokenTests.{is_label}
@@ -12,8 +12,8 @@ use Rattle.gdmo_resolve.specs.LabelMeaning.{Means, label_meaning}
 use Rattle.gdmo_resolve.specs.Mentions.Role.{RuleClass, RuleAction}
 use Rattle.gdmo_resolve.specs.PartTerms.{Placed, TakenTerm, StepTerm, RuleTerm, PartTerms, body_of, kind_of}
 use Rattle.gdmo_resolve.specs.PartTerms.{module_terms_of}
-use Rattle.gdmo_resolve.specs.PartTerms.TakenTerm.{TheArgument, OneWord}
-use Rattle.gdmo_resolve.specs.PartTerms.StepTerm.{SetTo, AddTo, EmitOf, ReplyWith}
+use Rattle.gdmo_resolve.specs.PartTerms.TakenTerm.{OneWord}
+use Rattle.gdmo_resolve.specs.PartTerms.StepTerm.{SetTo, AddTo, ReplyWith}
 use Rattle.gdmo_resolve.specs.TemplateTerms.{BodyTerm}
 use Rattle.gdmo_resolve.specs.TemplateTerms.BodyTerm.{ActionBody}
 use Rattle.gdmo_resolve.specs.TemplateTerms.TemplateKind.{AttributeKind}

@@ -1,6 +1,6 @@
--- TemplateTerms: templates as the definitions see them: what their texts say, without the memory of their lists (X.722,
--- sections 8.3 to 8.11; docs/PROFILE.md, section 2). What the name of a document before a label says is left out: it
--- has no part in what a label means.
+-- TemplateTerms: templates as the definitions see them: what their texts say, without the memory of their lists
+-- (X.722, sections 8.3 to 8.11; docs/PROFILE.md, section 2). What the name of a document before a label says is left
+-- out: it has no part in what a label means.
 use Rattle.std.specs.Prelude.{List, Bool, Option}
 use Rattle.token_grammar.specs.declared.qualified_name.QualifiedName.{QualifiedName}
 use Rattle.token_grammar.specs.declared.token.Token.{Token}

@@ -1,5 +1,6 @@
--- TypeMeaning: what `Module.Type` and `Module.value` mean in a template, and which ones a template names (X.680, section
--- 14; X.722, section 8; docs/PROFILE.md, sections 11 and 12). A module has what it assigns, and not what it imports.
+-- TypeMeaning: what `Module.Type` and `Module.value` mean in a template, and which ones a template names (X.680,
+-- section 14; X.722, section 8; docs/PROFILE.md, sections 11 and 12). A module has what it assigns, and not what it
+-- imports.
 use Rattle.std.specs.Prelude.{◌≡◌, ℕ, List, [], ◌∷◌, ◌++◌, Option, None, Some, Contains}
 use Rattle.token_grammar.specs.declared.qualified_name.QualifiedName.{QualifiedName}
 use Rattle.term_values.specs.Syntaxes.{TypeSyntax}

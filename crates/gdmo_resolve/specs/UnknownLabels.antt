@@ -1,5 +1,5 @@
--- UnknownLabels: references that no template, module, type or value has, each looked up in its own space; of a token of
--- a document (X.722, section 8; docs/PROFILE.md, section 12).
+-- UnknownLabels: references that no template, module, type or value has, each looked up in its own space; of a token
+-- of a document (X.722, section 8; docs/PROFILE.md, section 12).
 use Rattle.std.specs.Prelude.{◌≡◌, ◌≢◌, ◌⊎◌, ℕ, None}
 use Rattle.token_grammar.specs.declared.qualified_name.QualifiedName.{QualifiedName}
 use Rattle.token_grammar.specs.declared.token.Token.{Token}

@@ -1,13 +1,10 @@
--- WrongKinds: references that mean what may not stand there, a definition for each sentence, of a token of a document; the
--- number of a token is the octet at which it begins (X.722, section 8; docs/PROFILE.md, section 12).
+-- WrongKinds: references that mean what may not stand there, a definition for each sentence, of a token of a
+-- document; the number of a token is the octet at which it begins (X.722, section 8; docs/PROFILE.md, section 12).
 use Rattle.std.specs.Prelude.{◌≡◌, ◌≢◌, ℕ, List, Bool, true, false, Option, None, Some, Contains}
 use Rattle.token_grammar.specs.declared.qualified_name.QualifiedName.{QualifiedName}
 use Rattle.token_grammar.specs.declared.token.Token.{Token}
-use Rattle.token_grammar.specs.Form.{Tree}
-use Rattle.term_values.specs.Syntaxes.{TypeSyntax}
-use Rattle.asn1_resolve.specs.ModuleTerms.{NumberTerm, TypeTerm}
 use Rattle.asn1_resolve.specs.NameMeaning.{Meaning}
-use Rattle.asn1_resolve.specs.NameMeaning.Meaning.{TypeAt, ValueAt, StandardType, Nothing}
+use Rattle.asn1_resolve.specs.NameMeaning.Meaning.{TypeAt, ValueAt, StandardType}
 use Rattle.asn1_resolve.specs.NodeCount.{IsNoType}
 use Rattle.gdmo_resolve.specs.AttributeSyntaxes.{HasUnknownSyntax, IsComponentOf}
 use Rattle.gdmo_resolve.specs.DocumentTemplates.{templates}
@@ -20,8 +17,8 @@ use Rattle.gdmo_resolve.specs.PartTerms.{Placed, RuleTerm, PartTerms, module_ter
 use Rattle.gdmo_resolve.specs.References.{Refers}
 use Rattle.gdmo_resolve.specs.RuleFaults.{NamesNamingAttribute, NamesForeignAttribute, AddsToOther, HasOtherType}
 use Rattle.gdmo_resolve.specs.RuleFaults.{IsStatedTwice}
-use Rattle.gdmo_resolve.specs.TemplateTerms.{FirstTerm, IdentifierTerm, ReferenceTerm, ReferenceTerms, BodyTerm}
-use Rattle.gdmo_resolve.specs.TemplateTerms.{UseTerms, RowTerms, FieldTerms}
+use Rattle.gdmo_resolve.specs.TemplateTerms.{IdentifierTerm, ReferenceTerm, ReferenceTerms, BodyTerm}
+use Rattle.gdmo_resolve.specs.TemplateTerms.{RowTerms, FieldTerms}
 use Rattle.gdmo_resolve.specs.TemplateTerms.FirstTerm.{ArcName}
 use Rattle.gdmo_resolve.specs.TemplateTerms.ReferenceTerm.{ByLabel}
 use Rattle.gdmo_resolve.specs.TemplateTerms.ReferenceTerms.{Reference}
