@@ -3,3 +3,4 @@ pub mod Texts
 pub mod StandardFacts
 pub mod FurtherFacts
 pub mod TypeFacts
+pub mod LabelLaws
