@@ -1,6 +1,7 @@
 -- LabelLaws: the template that a label means stands among the templates and has this label, and a label that means
 -- nothing is that of no template.
-use Rattle.std.specs.Prelude.{◌≡◌, ◌<◌, ℕ, zero, suc, Contains, List, [], ◌∷◌, Bool, true, false, Option, None, Some, All, refl, unwrap_or}
+use Rattle.std.specs.Prelude.{◌≡◌, ℕ, zero, suc, Contains, List, [], ◌∷◌, Bool, true, false, Option, None, Some}
+use Rattle.std.specs.Prelude.{All, refl, unwrap_or}
 use Rattle.std.specs.Prelude.{if◌then◌else◌}
 use Rattle.std.proofs.Common.{ap, arith}
 use Rattle.std.proofs.Math.Path.{subst}

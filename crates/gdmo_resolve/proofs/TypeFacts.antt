@@ -1,9 +1,8 @@
 -- Examples of docs/PROFILE.md, section 12, computed: syntaxes of attributes, a field of a notification, first names
 -- with unequal values, an identifier that is none, a label of another kind, and a rule that is stated twice.
-use Rattle.std.specs.Prelude.{◌≡◌, ◌≢◌, ◌<◌, ℕ, List, [], ◌∷◌, true, false, None, Some, Contains, codes, refl}
+use Rattle.std.specs.Prelude.{◌≡◌, ℕ, List, [], ◌∷◌, true, false, None, Some, Contains, codes, refl}
 use Rattle.std.proofs.Common.{arith}
 use Rattle.token_grammar.specs.declared.qualified_name.QualifiedName.{QualifiedName}
-use Rattle.token_grammar.specs.declared.token.Token.{Token}
 use Rattle.token_grammar.specs.Form.{Bare}
 use Rattle.term_values.specs.Syntaxes.TypeSyntax.{Integer, Sequence}
 use Rattle.term_values.specs.Syntaxes.TypeParts.{NoParts, Part as APart}
@@ -13,14 +12,14 @@ use Rattle.asn1_resolve.specs.DenotedSyntax.AreNamed.{no_more as no_names}
 use Rattle.asn1_resolve.specs.DenotedSyntax.Denotes.{plain, sequence}
 use Rattle.asn1_resolve.specs.DenotedSyntax.MembersDenote.{no_members, member}
 use Rattle.asn1_resolve.specs.DenotedSyntax.PlainDenotes.{integer}
-use Rattle.asn1_resolve.specs.ModuleTerms.{AssignmentTerm, ModuleTerm, TypeTerm}
+use Rattle.asn1_resolve.specs.ModuleTerms.{AssignmentTerm, TypeTerm}
 use Rattle.asn1_resolve.specs.ModuleTerms.AssignedTerm.{AssignsType, AssignsValue}
 use Rattle.asn1_resolve.specs.ModuleTerms.MemberTerms.{NoMembers, Member}
 use Rattle.asn1_resolve.specs.ModuleTerms.PlainTerm.{IntegerTerm, IdentifierTerm as ObjectIdentifierType}
 use Rattle.asn1_resolve.specs.ModuleTerms.PresenceTerm.{Needed}
 use Rattle.asn1_resolve.specs.ModuleTerms.TypeTerm.{Plain, Structure}
 use Rattle.asn1_resolve.specs.NameMeaning.{module_meaning, first_module, meaning_within, assigned_in, first_assignment}
-use Rattle.asn1_resolve.specs.NameMeaning.Meaning.{TypeAt, ValueAt}
+use Rattle.asn1_resolve.specs.NameMeaning.Meaning.{TypeAt}
 use Rattle.asn1_resolve.specs.TypeBase.HasBase.{itself}
 use Rattle.gdmo_resolve.specs.AttributeSyntaxes.{AttributeHasSyntax, IsComponentOf, IsWholeNumber}
 use Rattle.gdmo_resolve.specs.AttributeSyntaxes.AttributeHasSyntax.{stated}
@@ -34,11 +33,11 @@ use Rattle.gdmo_resolve.specs.FirstNames.IsKnownFirst.{number as known_number}
 use Rattle.gdmo_resolve.specs.FirstNames.StandsIdentifier.{of_module}
 use Rattle.gdmo_resolve.specs.LabelMeaning.{Means, first_called, label_meaning, target}
 use Rattle.gdmo_resolve.specs.Mentions.Role.{MandatoryPackage, RuleAction, RuleClass}
-use Rattle.gdmo_resolve.specs.PartTerms.{ModulePart, Placed, RuleTerm, PartTerms, arcs_at}
+use Rattle.gdmo_resolve.specs.PartTerms.{ModulePart, RuleTerm, PartTerms, arcs_at}
 use Rattle.gdmo_resolve.specs.References.Refers.{by_template}
 use Rattle.gdmo_resolve.specs.TemplateTerms.{IdentifierTerm, TemplateTerm}
 use Rattle.gdmo_resolve.specs.TemplateTerms.BodyTerm.{ActionBody}
-use Rattle.gdmo_resolve.specs.TemplateTerms.FirstTerm.{ArcNumber, ArcName}
+use Rattle.gdmo_resolve.specs.TemplateTerms.FirstTerm.{ArcNumber}
 use Rattle.gdmo_resolve.specs.TemplateTerms.ReferenceTerm.{ByLabel}
 use Rattle.gdmo_resolve.specs.TemplateTerms.ReferenceTerms.{NoReferences}
 use Rattle.gdmo_resolve.specs.TemplateTerms.TemplateTerm.{Template}
