@@ -4,3 +4,4 @@ pub mod StandardFacts
 pub mod FurtherFacts
 pub mod TypeFacts
 pub mod LabelLaws
+pub mod RuleFacts

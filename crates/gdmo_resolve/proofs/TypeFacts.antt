@@ -49,14 +49,14 @@ use Rattle.gdmo_resolve.proofs.Texts.{word, digits, brace, arcs_of, named_arcs, 
 use Rattle.gdmo_resolve.proofs.Texts.{one_reference, placed, of_templates}
 
 -- Net has Id ::= INTEGER and Info ::= SEQUENCE { load INTEGER }
-abbrev whole_number : ℕ → TypeTerm
+abbrev pub whole_number : ℕ → TypeTerm
 whole_number at = Plain (word at (codes "INTEGER")) (IntegerTerm []) []
 
-abbrev info_type : TypeTerm
+abbrev pub info_type : TypeTerm
 info_type = Structure (word 60 (codes "SEQUENCE")) (Member (word 71 (codes "load")) (whole_number 76) Needed
     NoMembers) []
 
-abbrev net : ModulePart
+abbrev pub net : ModulePart
 net = record {
   text = record {
     document = 1;
@@ -70,19 +70,19 @@ net = record {
   arcs = None ∷ None ∷ [];
 }
 
-abbrev id_type : QualifiedName
+abbrev pub id_type : QualifiedName
 id_type = qualified (word 140 (codes "Net")) (word 144 (codes "Id"))
 
 abbrev info_name : QualifiedName
 info_name = qualified (word 240 (codes "Net")) (word 244 (codes "Info"))
 
-abbrev load : TemplateTerm
+abbrev pub load : TemplateTerm
 load = attribute_of (word 100 (codes "load")) id_type (Some (arcs_of 160 (codes "7") (codes "2")))
 
 abbrev parts : PartTerms
 parts = record { modules = net ∷ []; outermost = placed 1 load ∷ []; rules = []; instances = [] }
 
-id_means : qualified_meaning (net.text ∷ []) id_type ≡ TypeAt 0 0 (whole_number 37)
+pub id_means : qualified_meaning (net.text ∷ []) id_type ≡ TypeAt 0 0 (whole_number 37)
 unfolding qualified_meaning module_meaning first_module meaning_within assigned_in first_assignment
 id_means = refl
 
@@ -171,7 +171,7 @@ wrong_fault = other_kind {label = word 40 (codes "load")} (record {
 abbrev class_a : TemplateTerm
 class_a = class_of (word 0 (codes "a")) (arcs_of 50 (codes "3") (codes "1")) NoReferences NoReferences
 
-abbrev reset : TemplateTerm
+abbrev pub reset : TemplateTerm
 reset = Template (word 60 (codes "reset")) (Some (arcs_of 80 (codes "9") (codes "1"))) (ActionBody NoReferences false
     NoReferences None None)
 

@@ -1,0 +1,78 @@
+-- An example of docs/PROFILE.md, section 12, computed: SET load TO ARGUMENT in a rule of an action that has no information.
+use Rattle.std.specs.Prelude.{◌≡◌, ◌<◌, ℕ, List, [], ◌∷◌, false, Option, None, Some, codes, refl}
+use Rattle.std.proofs.Common.{ap, sym, arith}
+use Rattle.std.proofs.Math.Path.{subst}
+use Rattle.token_grammar.specs.declared.qualified_name.QualifiedName.{QualifiedName}
+use Rattle.asn1_resolve.specs.NodeCount.{IsNoType}
+use Rattle.gdmo_resolve.specs.AttributeSyntaxes.{HasUnknownSyntax}
+use Rattle.gdmo_resolve.specs.AttributeSyntaxes.HasUnknownSyntax.{stated, missing, derived}
+use Rattle.gdmo_resolve.specs.DocumentTemplates.{templates}
+use Rattle.gdmo_resolve.specs.LabelMeaning.{Means, first_called, label_meaning, target}
+use Rattle.gdmo_resolve.specs.Mentions.Role.{RuleAction, StepAttribute}
+use Rattle.gdmo_resolve.specs.PartTerms.{RuleTerm, PartTerms}
+use Rattle.gdmo_resolve.specs.PartTerms.StepTerm.{SetTo}
+use Rattle.gdmo_resolve.specs.PartTerms.TakenTerm.{TheArgument}
+use Rattle.gdmo_resolve.specs.RuleFaults.HasOtherType.{set_argument}
+use Rattle.gdmo_resolve.specs.RuleWords.NamesByLabel.{set}
+use Rattle.gdmo_resolve.specs.TemplateTerms.{SyntaxTerm}
+use Rattle.gdmo_resolve.specs.TemplateTerms.ReferenceTerm.{ByLabel}
+use Rattle.gdmo_resolve.specs.TemplateTerms.SyntaxTerm.{OfType, OfAttribute}
+use Rattle.gdmo_resolve.specs.TypeMeaning.{qualified_meaning}
+use Rattle.gdmo_resolve.specs.WrongKinds.{WrongKindAt}
+use Rattle.gdmo_resolve.specs.WrongKinds.WrongKindAt.{other_type}
+use Rattle.gdmo_resolve.proofs.Texts.{word, placed}
+use Rattle.gdmo_resolve.proofs.TypeFacts.{net, id_type, id_means, load, reset}
+
+abbrev rule : RuleTerm
+rule = record {
+  document = 1;
+  class = word 500 (codes "a");
+  action = word 510 (codes "reset");
+  steps = SetTo (word 520 (codes "load")) (TheArgument (word 530 (codes "ARGUMENT"))) ∷ [];
+}
+
+abbrev ruled : PartTerms
+ruled = record {
+  modules = net ∷ [];
+  outermost = placed 1 load ∷ placed 1 reset ∷ [];
+  rules = rule ∷ [];
+  instances = [];
+}
+
+load_means : label_meaning ruled (codes "load") ≡ Some (placed 1 load)
+unfolding label_meaning first_called templates
+load_means = refl
+
+reset_means : label_meaning ruled (codes "reset") ≡ Some (placed 1 reset)
+unfolding label_meaning first_called templates
+reset_means = refl
+
+step_load : Means ruled 1 StepAttribute (ByLabel (word 520 (codes "load"))) (placed 1 load)
+unfolding target
+step_load = record { is_target = load_means; of_kind = refl }
+
+rule_action : Means ruled 1 RuleAction (ByLabel (word 510 (codes "reset"))) (placed 1 reset)
+unfolding target
+rule_action = record { is_target = reset_means; of_kind = refl }
+
+-- the type of load is there, so its syntax is known
+abbrev stated_type : Option SyntaxTerm → QualifiedName
+stated_type None = id_type
+stated_type (Some (OfType name)) = name
+stated_type (Some (OfAttribute attribute)) = id_type
+
+type_is_there : (name : QualifiedName) → id_type ≡ name → IsNoType (qualified_meaning (net.text ∷ []) name) → ⊥
+type_is_there name same is_none =
+    subst IsNoType id_means (subst (λ x. IsNoType (qualified_meaning (net.text ∷ []) x)) (sym same) is_none)
+
+load_is_known : HasUnknownSyntax ruled (placed 1 load) → ⊥
+load_is_known (stated {name = name} is is_none) = type_is_there name (ap stated_type is) is_none
+load_is_known (missing nowhere) = absurd (omega (arith, nowhere.names.1))
+load_is_known (derived leads unknown) = absurd (omega (arith, leads.names.1))
+
+argument_fault : WrongKindAt ruled 1 530
+argument_fault = other_type {rule = rule} {word = word 530 (codes "ARGUMENT")} (set_argument (record {
+  has = record { stands = (0, omega arith, refl); has = (0, omega arith, refl) };
+  by = set;
+  means = step_load;
+}) rule_action tt load_is_known (λ no. no)) refl refl
