@@ -168,7 +168,7 @@ wrong_fault = other_kind {label = word 40 (codes "load")} (record {
 }) refl
 
 -- ON a ACTION reset .. stands twice, in two documents: the later class is told
-abbrev class_a : TemplateTerm
+abbrev pub class_a : TemplateTerm
 class_a = class_of (word 0 (codes "a")) (arcs_of 50 (codes "3") (codes "1")) NoReferences NoReferences
 
 abbrev pub reset : TemplateTerm
