@@ -1,4 +1,4 @@
-//! The syntaxes of a CMISFilter (X.711, section 7.5; docs/PROFILE.md).
+//! The syntaxes of a CMISFilter (X.711, section 7.5; docs/PROFILE.md, section 13).
 
 ghost use Rattle.std.specs.Prelude.{◌≡◌, IfOk};
 ghost use Rattle.term_values.specs.CmipTypes.{attribute, attribute_id, piece, substrings, filter_item, filter_choice};

@@ -1,4 +1,4 @@
-//! The CMISFilter that a text denotes, by its CHOICE (X.711, section 7.5; docs/PROFILE.md).
+//! The CMISFilter that a text denotes, by its CHOICE (X.711, section 7.5; docs/PROFILE.md, section 13).
 
 ghost use Rattle.std.specs.Prelude.{◌≡◌, IfOk, Some, option_map};
 ghost use Rattle.term_values.specs.CmipTypes.{filter_choice};

@@ -15,7 +15,9 @@ use term_model::{Name, NamedObject, Object, Ranged, StepLedger, Steps};
 /// The name and the object that weren't stored.
 #[derive(Drop)]
 pub struct Back {
+    /// The name under which it was to be put.
     pub name: Name,
+    /// The object itself.
     pub object: Object,
 }
 

@@ -1,5 +1,5 @@
 -- Which filters are valid, and which are true of an object: X.711, section 7.5, type CMISFilter;
--- docs/PROFILE.md, section 10.
+-- docs/PROFILE.md, sections 10 and 13.
 use Rattle.std.specs.Prelude.{◌≡◌, ◌⊎◌, ℕ, List, [], ◌∷◌, Bool, true, false, Option, Some, None, is_some}
 use Rattle.std.specs.Prelude.{◌&&◌, find, option_and_then}
 use Rattle.std.specs.List.{list_all}

@@ -76,7 +76,7 @@ impl<L: StepLedger> Steps<L> {
         Steps { ledger }
     }
 
-    /// Counts one visit of a node. Whoever gives an object out of a map calls it for each node that is looked at.
+    /// Counts one visit of a node. Whoever looks a name up in a map calls it for each probe.
     pub fn visit(&mut self)
         ensures { self.new ≡ self.old + 1 }
     {
