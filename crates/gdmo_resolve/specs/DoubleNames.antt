@@ -1,7 +1,8 @@
 -- DoubleNames: two templates of one label, two modules of one name, a name that a module assigns twice, a first name
 -- to which two modules give unequal values, and two templates of one identifier; each of the token of the later one
 -- (X.722, section 8.2; X.680, section 13; docs/PROFILE.md, section 12). CMIP-1 is a module before all documents.
-use Rattle.std.specs.Prelude.{◌≡◌, ◌≢◌, ◌<◌, ℕ, List, true, None, Some, Contains, slice_get}
+use Rattle.std.specs.Prelude.{◌≡◌, ◌≢◌, ◌<◌, ◌==◌, ◌&&◌, ◌||◌, ℕ, Bool, List, true, None, Some, Contains, nat_lt}
+use Rattle.std.specs.Prelude.{slice_get}
 use Rattle.token_grammar.specs.declared.token.Token.{Token}
 use Rattle.asn1_resolve.specs.ModuleTerms.{AssignmentTerm, ModuleTerm}
 use Rattle.asn1_resolve.specs.NameMeaning.{is_called}
@@ -70,6 +71,13 @@ pub data DoubleLabelAt (parts : PartTerms) (document at : ℕ) : Type 0 where
       IsUnequalAgain parts m i assignment.name.text → x.document ≡ document → assignment.name.at ≡ at →
       DoubleLabelAt parts document at
 
+-- the registration of the one stands before that of the other: by the number of the document, and then by the place of
+-- its brace. A template in line has the later label and the earlier registration.
+abbrev pub stands_earlier : Placed → IdentifierTerm → Placed → IdentifierTerm → Bool
+stands_earlier one first other second =
+    nat_lt one.document other.document
+    || one.document == other.document && nat_lt first.brace.at second.brace.at
+
 -- an earlier template, of any kind, is registered under the same arcs; the token is the brace of the later identifier
 pub record DoubleIdentifierAt (parts : PartTerms) (document at : ℕ) : Type 0 where
   pub later : Placed
@@ -78,7 +86,7 @@ pub record DoubleIdentifierAt (parts : PartTerms) (document at : ℕ) : Type 0 w
   pub first : Placed
   pub first_identifier : IdentifierTerm
   pub first_registers : Registers parts first first_identifier
-  pub before : stands_before first later ≡ true
+  pub before : stands_earlier first first_identifier later identifier ≡ true
   pub arcs : List ℕ
   pub is : IsIdentifier parts identifier arcs
   pub first_is : IsIdentifier parts first_identifier arcs
