@@ -1,4 +1,5 @@
 pub mod Answering
+pub mod Backwards
 pub mod Extending
 pub mod HeaderSteps
 pub mod IdentifierSteps

@@ -1,21 +1,15 @@
--- A list that is not of one, two or three values; a tree that not all octets spell.
+-- A list that is not of one or three values; a tree that not all octets spell.
 use Rattle.std.proofs.Common.{◌≡◌, ℕ, ◌<◌, ◌≤◌, List, [], ◌∷◌, length, drop, length-drop, refl, ap, ◌∙◌, sym, arith}
 use Rattle.std.specs.Prelude.{None, Some, option_and_then}
 use Rattle.term_values.specs.Ber.{most_depth}
 use Rattle.term_values.specs.BerReading.{alone, tree_at, tree_in}
 use Rattle.term_values.specs.Tree.{TreeValue, listed}
-use Rattle.term_model.specs.Parts.{one, two, three}
+use Rattle.term_model.specs.Parts.{one, three}
 
 pub not_one : (xs : List TreeValue) → (length xs ≡ 1 → ⊥) → None ≡ one (listed xs)
 not_one [] other = refl
 not_one (a ∷ []) other = absurd (other refl)
 not_one (a ∷ b ∷ xs) other = refl
-
-pub not_two : (xs : List TreeValue) → (length xs ≡ 2 → ⊥) → None ≡ two (listed xs)
-not_two [] other = refl
-not_two (a ∷ []) other = refl
-not_two (a ∷ b ∷ []) other = absurd (other refl)
-not_two (a ∷ b ∷ c ∷ xs) other = refl
 
 pub not_three : (xs : List TreeValue) → (length xs ≡ 3 → ⊥) → None ≡ three (listed xs)
 not_three [] other = refl

@@ -9,46 +9,20 @@ ghost use Rattle.term_values.specs.Tree.{listed};
 ghost use Rattle.term_model.specs.Bind.{title_in, title_of};
 ghost use Rattle.term_model.specs.GetRequest.{invocation_by, invocation_in, assertion_of, get_of, instance_of, rdn_of};
 ghost use Rattle.term_model.specs.GetRequest.{rdns_of};
-ghost use Rattle.term_model.specs.Parts.{contents_under, inside_under, integer_under, oid_under, one, one_under, three};
-ghost use Rattle.term_model.specs.Parts.{three_under, two, two_under};
+ghost use Rattle.term_model.specs.Parts.{inside_under, integer_under, oid_under, one, one_under, three, three_under};
 ghost use Rattle.term_model.specs.RemoteOperation.{id_of, invoke_of};
 
 use ber_tree::tree_reading::{read_front_tree, read_integer_contents, read_oid_contents};
 use ber_tree::tree_writing::write_tree;
 use op_object::object_reading::{GLOBAL_FORM, LOCAL_DISTINGUISHED_NAME};
+use rose_frames::apdu_reading::INVOKE;
+use rose_frames::parts::{contents_of, inside_of, two_of};
 use std::alloc::{AllocError, Global};
 use term_model::{Head, IdRef, Instance, Invocation, Name, Named, Rdn, Request};
-use term_values::tag::CONTEXT;
-use term_values::{Body, Bytes, Oid, Tag, Tree};
-
-/// The tag of an Invoke APDU.
-pub const INVOKE: Tag = Tag {
-    class: CONTEXT,
-    number: 1,
-};
+use term_values::{Bytes, Oid, Tag, Tree};
 
 /// The operation m-Get.
 pub const M_GET: i64 = 3;
-
-/// The values inside a constructed value of this tag.
-fn inside_of(tree: &Tree, tag: Tag) -> Option<&[Tree]>
-    ensures { option_map listed (option_copied result) ≡ inside_under tag tree.now }
-{
-    match &tree.body {
-        Body::Cons(inside) if tree.tag == tag => Some(inside.items.as_slice()),
-        _ => None,
-    }
-}
-
-/// The contents octets of a primitive value of this tag.
-fn contents_of(tree: &Tree, tag: Tag) -> Option<&[u8]>
-    ensures { option_copied result ≡ contents_under tag tree.now }
-{
-    match &tree.body {
-        Body::Prim(contents) if tree.tag == tag => Some(contents.as_slice()),
-        _ => None,
-    }
-}
 
 /// The value that stands alone in a list.
 fn alone(trees: &[Tree]) -> Option<&Tree>
@@ -56,17 +30,6 @@ fn alone(trees: &[Tree]) -> Option<&Tree>
 {
     if trees.len() == 1 {
         Some(&trees[0])
-    } else {
-        None
-    }
-}
-
-/// The values of a list of two.
-fn pair(trees: &[Tree]) -> Option<(&Tree, &Tree)>
-    ensures { option_map (λ parts. (parts.0.now, parts.1.now)) result ≡ two (listed trees.now) }
-{
-    if trees.len() == 2 {
-        Some((&trees[0], &trees[1]))
     } else {
         None
     }
@@ -88,13 +51,6 @@ fn one_of(tree: &Tree, tag: Tag) -> Option<&Tree>
     ensures { option_copied result ≡ one_under tag tree.now }
 {
     alone(inside_of(tree, tag)?)
-}
-
-/// The two values inside a constructed value of this tag.
-fn two_of(tree: &Tree, tag: Tag) -> Option<(&Tree, &Tree)>
-    ensures { option_map (λ parts. (parts.0.now, parts.1.now)) result ≡ two_under tag tree.now }
-{
-    pair(inside_of(tree, tag)?)
 }
 
 /// The three values inside a constructed value of this tag.

@@ -14,34 +14,18 @@ ghost use Rattle.term_values.specs.Der.{encoded};
 ghost use Rattle.term_values.specs.Octets.{octets};
 ghost use Rattle.term_values.specs.Tag.{universal};
 
-use crate::apdu_reading::{INVOKE, M_GET};
-use ber_tree::tree_writing::{reverse_from, write_backwards, write_header_backwards, write_octets};
+use crate::apdu_reading::M_GET;
+use ber_tree::tree_writing::{reverse_from, write_backwards, write_octets};
 use ber_tree::value_writing::{
     write_integer_backwards, write_oid_backwards, write_value_backwards,
 };
 use op_object::object_reading::{GLOBAL_FORM, write_instance};
+use rose_frames::apdu_reading::{ERROR, INVOKE, RESULT};
+use rose_frames::apdu_writing::{close_frame, close_value};
+use rose_frames::parts::LINKED_ID;
 use std::alloc::{AllocError, Global};
 use term_model::{CmisError, Rdn, Reply};
-use term_values::tag::CONTEXT;
 use term_values::{Oid, Tag};
-
-/// The tag of a Result APDU.
-const RESULT: Tag = Tag {
-    class: CONTEXT,
-    number: 2,
-};
-
-/// The tag of an Error APDU.
-const ERROR: Tag = Tag {
-    class: CONTEXT,
-    number: 3,
-};
-
-/// The tag of a linked id in an Invoke.
-const LINKED_ID: Tag = Tag {
-    class: CONTEXT,
-    number: 0,
-};
 
 /// The operation m-Linked-Reply.
 const M_LINKED_REPLY: i64 = 2;
@@ -63,43 +47,6 @@ pub fn write_frame(apdu: &[u8], into: &mut Vec<u8>) -> Result<(), AllocError>
 {
     write_octets(LENGTH_OCTETS, apdu.len() as u64, false, into)?;
     into.extend_from_slice(apdu)
-}
-
-/// Appends the identifier and length octets of the constructed value whose contents stand behind the place `start`, all
-/// with the last octet first.
-fn close_value(tag: Tag, start: usize, into: &mut Vec<u8>) -> Result<(), AllocError>
-    requires { start ≤ length into.old.items }
-    ensures written { OnOk result ((before contents : List ℕ) → start ≡ length before
-        → into.old.items ≡ before ++ reverse contents → into.new.items ≡ before
-        ++ reverse (encoded true tag contents)) }
-    ensures begun { Extends into.old.items into.new.items }
-{
-    let size = into.as_slice().len() - start;
-    write_header_backwards(true, tag, size, into)?;
-    Ok(())
-}
-
-/// Appends the length of a frame, the last octet first.
-fn write_frame_length(size: usize, into: &mut Vec<u8>) -> Result<(), AllocError>
-    ensures written { OnOk result (into.new.items ≡ into.old.items ++ reverse (octets 4 size)) }
-    ensures begun { Extends into.old.items into.new.items }
-{
-    let start = into.as_slice().len();
-    write_octets(LENGTH_OCTETS, size as u64, false, into)?;
-    reverse_from(start, into);
-    Ok(())
-}
-
-/// Appends the length of the frame whose APDU stands behind the place `start`, all with the last octet first.
-fn close_frame(start: usize, into: &mut Vec<u8>) -> Result<(), AllocError>
-    requires { start ≤ length into.old.items }
-    ensures written { OnOk result ((before apdu : List ℕ) → start ≡ length before
-        → into.old.items ≡ before ++ reverse apdu → into.new.items ≡ before ++ reverse (frame apdu)) }
-    ensures begun { Extends into.old.items into.new.items }
-{
-    let size = into.as_slice().len() - start;
-    write_frame_length(size, into)?;
-    Ok(())
 }
 
 /// Appends the answer to the BIND of an association with this number, the last octet first.

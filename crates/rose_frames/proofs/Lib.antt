@@ -2,7 +2,6 @@ mod ApduDenoted
 mod ApduDenoting
 mod ApduTold
 mod ApduTrees
-mod Backwards
 mod CuttingLaws
 mod FramingLaws
 mod LengthLaws

@@ -2,7 +2,7 @@
 use Rattle.std.proofs.Common.{[], ◌++◌, reverse, refl, ap, ◌∙◌}
 use Rattle.term_model.specs.Bind.{bind_answer}
 use Rattle.term_model.specs.RemoteOperation.{frame}
-use Rattle.op_object.proofs.Backwards.{turned}
+use Rattle.ber_tree.proofs.Backwards.{turned}
 use Rattle.cmip_apdus.proofs.apdu_writing.bind_answer_frame.Goals as goal
 
 pub returns : goal.returns

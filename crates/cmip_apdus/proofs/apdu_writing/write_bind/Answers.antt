@@ -4,7 +4,7 @@ use Rattle.term_values.specs.Der.{encoded}
 use Rattle.term_values.specs.Oid.{oid_contents}
 use Rattle.term_values.specs.Tag.{universal}
 use Rattle.term_model.specs.Bind.{bind}
-use Rattle.op_object.proofs.Backwards.{turned}
+use Rattle.ber_tree.proofs.Backwards.{turned}
 use Rattle.cmip_apdus.proofs.apdu_writing.write_bind.Goals as goal
 
 pub returns : goal.returns

@@ -5,7 +5,7 @@ use Rattle.term_values.specs.Der.{encoded}
 use Rattle.term_values.specs.Tag.{universal}
 use Rattle.term_model.specs.GetRequest.{class_octets, get_apdu, instance_octets}
 use Rattle.term_model.specs.RemoteOperation.{integer}
-use Rattle.op_object.proofs.Backwards.{before, turned}
+use Rattle.ber_tree.proofs.Backwards.{before, turned}
 use Rattle.cmip_apdus.proofs.apdu_writing.write_get.Goals as goal
 
 pub returns : goal.returns

@@ -1,7 +1,7 @@
 -- The parts in a row, the last one first.
 use Rattle.std.proofs.Common.{rules}
 use Rattle.term_model.specs.GetRequest.{class_octets}
-use Rattle.op_object.proofs.Backwards.{before}
+use Rattle.ber_tree.proofs.Backwards.{before}
 use Rattle.cmip_apdus.proofs.apdu_writing.write_get_argument.Goals as goal
 
 pub returns-clause-written : goal.returns-clause-written

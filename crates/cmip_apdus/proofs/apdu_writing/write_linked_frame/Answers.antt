@@ -5,7 +5,7 @@ use Rattle.term_values.specs.Der.{encoded}
 use Rattle.term_values.specs.Octets.{integer_contents}
 use Rattle.term_values.specs.Tag.{context}
 use Rattle.term_model.specs.RemoteOperation.{linked_apdu, integer}
-use Rattle.op_object.proofs.Backwards.{before}
+use Rattle.ber_tree.proofs.Backwards.{before}
 use Rattle.cmip_apdus.proofs.apdu_writing.write_linked_frame.Goals as goal
 
 pub returns-clause-written : goal.returns-clause-written

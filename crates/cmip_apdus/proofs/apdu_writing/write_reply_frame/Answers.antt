@@ -2,7 +2,7 @@
 use Rattle.std.proofs.Common.{rules, ◌≡◌, ◌++◌, reverse}
 use Rattle.std.proofs.Math.Facts.{to_z-of_z}
 use Rattle.term_model.specs.Operation.{reply_frame}
-use Rattle.op_object.proofs.Backwards.{turned_behind}
+use Rattle.ber_tree.proofs.Backwards.{turned_behind}
 use Rattle.cmip_apdus.proofs.apdu_writing.write_reply_frame.Goals as goal
 
 pub returns-in-Ok-clause-written : goal.returns-in-Ok-clause-written

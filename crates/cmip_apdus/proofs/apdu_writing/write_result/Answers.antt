@@ -2,7 +2,7 @@
 use Rattle.std.proofs.Common.{rules}
 use Rattle.std.proofs.Math.Facts.{to_z-of_z}
 use Rattle.term_model.specs.RemoteOperation.{integer}
-use Rattle.op_object.proofs.Backwards.{before}
+use Rattle.ber_tree.proofs.Backwards.{before}
 use Rattle.cmip_apdus.proofs.apdu_writing.write_result.Goals as goal
 
 pub returns-clause-written : goal.returns-clause-written

@@ -1,7 +1,7 @@
 -- The parts in a row, the last one first.
 use Rattle.term_model.specs.GetRequest.{class_octets, instance_octets}
 use Rattle.term_model.specs.ObjectOperation.{time_octets}
-use Rattle.op_object.proofs.Backwards.{before}
+use Rattle.ber_tree.proofs.Backwards.{before}
 use Rattle.op_object.proofs.object_reading.write_result_contents.Goals as goal
 
 pub returns-clause-written : goal.returns-clause-written

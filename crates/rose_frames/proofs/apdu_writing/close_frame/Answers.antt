@@ -1,7 +1,7 @@
 -- The length stands before the APDU.
 use Rattle.std.proofs.Common.{◌++◌, ◌-◌, length, reverse, ap, ◌∙◌}
 use Rattle.term_values.specs.Octets.{octets}
-use Rattle.rose_frames.proofs.Backwards.{before, behind_start}
+use Rattle.ber_tree.proofs.Backwards.{before, behind_start}
 use Rattle.rose_frames.proofs.apdu_writing.close_frame.Goals as goal
 
 pub returns-clause-written : goal.returns-clause-written

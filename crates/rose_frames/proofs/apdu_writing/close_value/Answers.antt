@@ -1,6 +1,6 @@
 -- The header stands before the contents.
 use Rattle.std.proofs.Common.{◌-◌, length, ap, ◌∙◌}
-use Rattle.rose_frames.proofs.Backwards.{behind_start, value_closed}
+use Rattle.ber_tree.proofs.Backwards.{behind_start, value_closed}
 use Rattle.rose_frames.proofs.apdu_writing.close_value.Goals as goal
 
 pub returns-clause-written : goal.returns-clause-written

@@ -3,7 +3,7 @@ use Rattle.std.proofs.Common.{rules, w64}
 use Rattle.std.proofs.Math.Facts.{to_z-of_z}
 use Rattle.term_model.specs.ApduWriting.{linked_octets}
 use Rattle.term_model.specs.RemoteOperation.{integer}
-use Rattle.rose_frames.proofs.Backwards.{before}
+use Rattle.ber_tree.proofs.Backwards.{before}
 use Rattle.rose_frames.proofs.apdu_writing.write_invoke.Goals as goal
 
 pub returns-clause-written : goal.returns-clause-written

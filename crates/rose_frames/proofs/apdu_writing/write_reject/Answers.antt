@@ -3,7 +3,7 @@ use Rattle.std.proofs.Common.{rules, ◌≡◌}
 use Rattle.std.proofs.Math.Facts.{to_z-of_z}
 use Rattle.term_values.specs.Tag.{context}
 use Rattle.term_model.specs.RemoteOperation.{rejected_id}
-use Rattle.rose_frames.proofs.Backwards.{before}
+use Rattle.ber_tree.proofs.Backwards.{before}
 use Rattle.rose_frames.proofs.apdu_writing.write_reject.Goals as goal
 
 pub returns-clause-written : goal.returns-clause-written
