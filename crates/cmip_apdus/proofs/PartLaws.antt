@@ -1,22 +1,15 @@
--- A list that is not of one or three values; a tree that not all octets spell.
+-- A list that is not of one value; a tree that not all octets spell.
 use Rattle.std.proofs.Common.{◌≡◌, ℕ, ◌<◌, ◌≤◌, List, [], ◌∷◌, length, drop, length-drop, refl, ap, ◌∙◌, sym, arith}
 use Rattle.std.specs.Prelude.{None, Some, option_and_then}
 use Rattle.term_values.specs.Ber.{most_depth}
 use Rattle.term_values.specs.BerReading.{alone, tree_at, tree_in}
 use Rattle.term_values.specs.Tree.{TreeValue, listed}
-use Rattle.term_model.specs.Parts.{one, three}
+use Rattle.term_model.specs.Parts.{one}
 
 pub not_one : (xs : List TreeValue) → (length xs ≡ 1 → ⊥) → None ≡ one (listed xs)
 not_one [] other = refl
 not_one (a ∷ []) other = absurd (other refl)
 not_one (a ∷ b ∷ xs) other = refl
-
-pub not_three : (xs : List TreeValue) → (length xs ≡ 3 → ⊥) → None ≡ three (listed xs)
-not_three [] other = refl
-not_three (a ∷ []) other = refl
-not_three (a ∷ b ∷ []) other = refl
-not_three (a ∷ b ∷ c ∷ []) other = absurd (other refl)
-not_three (a ∷ b ∷ c ∷ d ∷ xs) other = refl
 
 not_alone : (tree : TreeValue) (rest : List ℕ) → 0 < length rest → None ≡ alone (tree, rest)
 not_alone tree [] some = absurd (omega arith)

@@ -6,17 +6,17 @@ ghost use Rattle.term_values.specs.BerReading.{tree_in};
 ghost use Rattle.term_values.specs.Der.{written};
 ghost use Rattle.term_values.specs.Oid.{oid_in};
 ghost use Rattle.term_values.specs.Tree.{listed};
+ghost use Rattle.term_model.specs.ApduReading.{invoke_by, invoke_of};
 ghost use Rattle.term_model.specs.Bind.{title_in, title_of};
 ghost use Rattle.term_model.specs.GetRequest.{invocation_by, invocation_in, assertion_of, get_of, instance_of, rdn_of};
 ghost use Rattle.term_model.specs.GetRequest.{rdns_of};
-ghost use Rattle.term_model.specs.Parts.{inside_under, integer_under, oid_under, one, one_under, three, three_under};
-ghost use Rattle.term_model.specs.RemoteOperation.{id_of, invoke_of};
+ghost use Rattle.term_model.specs.Parts.{inside_under, oid_under, one, one_under};
 
-use ber_tree::tree_reading::{read_front_tree, read_integer_contents, read_oid_contents};
+use ber_tree::tree_reading::{read_front_tree, read_oid_contents};
 use ber_tree::tree_writing::write_tree;
 use op_object::object_reading::{GLOBAL_FORM, LOCAL_DISTINGUISHED_NAME};
-use rose_frames::apdu_reading::INVOKE;
 use rose_frames::parts::{contents_of, inside_of, two_of};
+use rose_frames::{Apdu, ApduRefusal, read_apdu};
 use std::alloc::{AllocError, Global};
 use term_model::{Head, IdRef, Instance, Invocation, Name, Named, Rdn, Request};
 use term_values::{Bytes, Oid, Tag, Tree};
@@ -35,29 +35,11 @@ fn alone(trees: &[Tree]) -> Option<&Tree>
     }
 }
 
-/// The values of a list of three.
-fn triple(trees: &[Tree]) -> Option<(&Tree, &Tree, &Tree)>
-    ensures { option_map (λ parts. (parts.0.now, parts.1.now, parts.2.now)) result ≡ three (listed trees.now) }
-{
-    if trees.len() == 3 {
-        Some((&trees[0], &trees[1], &trees[2]))
-    } else {
-        None
-    }
-}
-
 /// The one value inside a constructed value of this tag.
 fn one_of(tree: &Tree, tag: Tag) -> Option<&Tree>
     ensures { option_copied result ≡ one_under tag tree.now }
 {
     alone(inside_of(tree, tag)?)
-}
-
-/// The three values inside a constructed value of this tag.
-fn three_of(tree: &Tree, tag: Tag) -> Option<(&Tree, &Tree, &Tree)>
-    ensures { option_map (λ parts. (parts.0.now, parts.1.now, parts.2.now)) result ≡ three_under tag tree.now }
-{
-    triple(inside_of(tree, tag)?)
 }
 
 /// The tree that all of the octets spell.
@@ -216,33 +198,40 @@ fn get_of(alloc: Global, argument: &Tree) -> Result<Option<Request>, AllocError>
     }
 }
 
-/// An INTEGER.
-fn integer_of(tree: &Tree) -> Option<i64>
-    ensures { result ≡ integer_under Tag.INTEGER tree.now }
+/// The m-Get with this invoke id and this argument.
+fn get_invoked(alloc: Global, id: i32, argument: &Tree) -> Result<Option<Invocation>, AllocError>
+    ensures { IfOk result (λ invocation. invocation
+        ≡ option_map (λ request. record { id = id; request = request }) (get_of argument.now)) }
 {
-    read_integer_contents(contents_of(tree, Tag::INTEGER)?)
-}
-
-/// An invoke id, which has at most 32 bits.
-fn id_of(tree: &Tree) -> Option<i32>
-    ensures { result ≡ id_of tree.now }
-{
-    i32::try_from(integer_of(tree)?).ok()
-}
-
-/// The invocation that an invoke is; none where it is none of m-Get in the form of X.711.
-fn invoked(alloc: Global, apdu: &Tree) -> Result<Option<Invocation>, AllocError>
-    ensures { IfOk result (λ invocation. invocation ≡ option_and_then invocation_by (invoke_of apdu.now)) }
-{
-    match three_of(apdu, INVOKE) {
+    match get_of(alloc, argument)? {
         None => Ok(None),
-        Some((id, operation, argument)) => match (id_of(id), integer_of(operation)) {
-            (Some(id), Some(M_GET)) => match get_of(alloc, argument)? {
-                None => Ok(None),
-                Some(request) => Ok(Some(Invocation { id, request })),
-            },
-            _ => Ok(None),
-        },
+        Some(request) => Ok(Some(Invocation { id, request })),
+    }
+}
+
+/// The invocation that an APDU is; none where it is no invoke of m-Get, or has a linked id.
+fn invocation_of(alloc: Global, apdu: &Apdu) -> Result<Option<Invocation>, AllocError>
+    ensures { IfOk result (λ invocation. invocation ≡ option_and_then invocation_by (invoke_by apdu.now)) }
+{
+    match apdu {
+        Apdu::Invoke {
+            id,
+            linked: None,
+            op: M_GET,
+            argument: Some(argument),
+        } => get_invoked(alloc, *id, argument),
+        _ => Ok(None),
+    }
+}
+
+/// The invocation that a tree is; none where it is none of m-Get in the form of X.711.
+fn invoked(alloc: Global, tree: &Tree) -> Result<Option<Invocation>, AllocError>
+    ensures { IfOk result (λ invocation. invocation ≡ option_and_then invocation_by (invoke_of tree.now)) }
+{
+    match read_apdu(alloc, tree) {
+        Ok(apdu) => invocation_of(alloc, &apdu),
+        Err(ApduRefusal::Unrecognised | ApduRefusal::MistypedApdu) => Ok(None),
+        Err(ApduRefusal::Memory) => Err(AllocError),
     }
 }
 

@@ -3,6 +3,7 @@ pub mod FindingLaws
 pub mod FrameLaws
 pub mod HistoryLaws
 mod InheritanceFacts
+pub mod InvokeLaws
 mod ObeyingFacts
 mod MapFacts
 pub mod MapLaws

@@ -16,13 +16,13 @@ use Rattle.term_model.specs.declared.request.Named.TheVariants as named
 use Rattle.term_model.specs.declared.request.Request.TheVariants.{Get}
 use Rattle.term_model.specs.AgentLimits.{shipped}
 use Rattle.term_model.specs.AgentState.{start}
+use Rattle.term_model.specs.ApduReading.{id_under}
 use Rattle.term_model.specs.Arriving.{arriving}
 use Rattle.term_model.specs.Arriving.Arriving.{NoEffect, Queued}
 use Rattle.term_model.specs.Bind.{accepted, bad_bind, bind, bind_answer, title_in}
 use Rattle.term_model.specs.GetRequest.{get_apdu, instance_octets, invocation_in}
-use Rattle.term_model.specs.Parts.{contents_under, inside_under, integer_under, oid_under, one_under, three_under}
-use Rattle.term_model.specs.Parts.{two_under}
-use Rattle.term_model.specs.RemoteOperation.{empty_result_apdu, error_apdu, frame, id_of, linked_apdu, reject_apdu}
+use Rattle.term_model.specs.Parts.{contents_under, inside_under, integer_under, oid_under, one_under, two_under}
+use Rattle.term_model.specs.RemoteOperation.{empty_result_apdu, error_apdu, frame, linked_apdu, reject_apdu}
 use Rattle.term_model.specs.RemoteOperation.{result_apdu}
 use Rattle.term_model.proofs.ExampleNetwork.{element_oid, id_oid, network}
 
@@ -52,9 +52,6 @@ two_example = refl
 not_one : one_under (universal 16) pair ≡ None
 not_one = refl
 
-not_three : three_under (universal 16) pair ≡ None
-not_three = refl
-
 integer_example : integer_under (universal 2) five ≡ Some (pos 5)
 unfolding integer_in
 integer_example = refl
@@ -64,11 +61,11 @@ unfolding oid_in subidentifier
 oid_example = refl
 
 -- an invoke id has at most 32 bits: 2^31 - 1, and one more
-greatest_id : id_of (Primitive (universal 2) (0x7F ∷ 0xFF ∷ 0xFF ∷ 0xFF ∷ [])) ≡ Some (pos 2147483647)
+greatest_id : id_under (universal 2) (Primitive (universal 2) (0x7F ∷ 0xFF ∷ 0xFF ∷ 0xFF ∷ [])) ≡ Some (pos 2147483647)
 unfolding integer_in
 greatest_id = refl
 
-id_too_great : id_of (Primitive (universal 2) (0 ∷ 0x80 ∷ 0 ∷ 0 ∷ 0 ∷ [])) ≡ None
+id_too_great : id_under (universal 2) (Primitive (universal 2) (0 ∷ 0x80 ∷ 0 ∷ 0 ∷ 0 ∷ [])) ≡ None
 unfolding integer_in
 id_too_great = refl
 

@@ -19,8 +19,9 @@ use Rattle.term_model.specs.declared.request.Instance.{Instance}
 use Rattle.term_model.specs.declared.request.Named.TheVariants as named
 use Rattle.term_model.specs.declared.request.Request.{Request}
 use Rattle.term_model.specs.declared.request.Request.TheVariants.{Get}
+use Rattle.term_model.specs.ApduReading.{invoke_of}
 use Rattle.term_model.specs.Parts.{inside_under, oid_under, one_under, two_under}
-use Rattle.term_model.specs.RemoteOperation.{Invoke, invoke_of, invoke_tag, integer}
+use Rattle.term_model.specs.RemoteOperation.{Invoke, invoke_tag, integer}
 
 -- the number of the operation m-Get
 abbrev pub m_get : ℤ

@@ -23,7 +23,7 @@ oid_under tag tree = option_and_then oid_in (contents_under tag tree)
 abbrev pub integer_under : Tag → TreeValue → Option ℤ
 integer_under tag tree = option_and_then integer_in (contents_under tag tree)
 
--- exactly one value, two values or three
+-- exactly one value, or two values
 abbrev pub one : TreeValues → Option TreeValue
 one (Then first Nothing) = Some first
 one _ = None
@@ -32,15 +32,8 @@ abbrev pub two : TreeValues → Option (TreeValue × TreeValue)
 two (Then first (Then second Nothing)) = Some (first, second)
 two _ = None
 
-abbrev pub three : TreeValues → Option (TreeValue × TreeValue × TreeValue)
-three (Then first (Then second (Then third Nothing))) = Some (first, second, third)
-three _ = None
-
 abbrev pub one_under : Tag → TreeValue → Option TreeValue
 one_under tag tree = option_and_then one (inside_under tag tree)
 
 abbrev pub two_under : Tag → TreeValue → Option (TreeValue × TreeValue)
 two_under tag tree = option_and_then two (inside_under tag tree)
-
-abbrev pub three_under : Tag → TreeValue → Option (TreeValue × TreeValue × TreeValue)
-three_under tag tree = option_and_then three (inside_under tag tree)

@@ -1,9 +1,8 @@
 -- Remote operations in frames: X.229, section 9. A frame is four octets of length and an APDU.
-use Rattle.std.specs.Prelude.{ℕ, ℤ, pos, negsuc, List, [], ◌++◌, Bool, true, false, ◌^◌, nat_lt, length, if◌then◌else◌}
-use Rattle.std.specs.Prelude.{Option, None, Some, option_and_then}
+use Rattle.std.specs.Prelude.{ℕ, ℤ, pos, negsuc, List, [], ◌++◌, Bool, true, false, ◌^◌, nat_lt, length}
+use Rattle.std.specs.Prelude.{Option, None, Some}
 use Rattle.term_values.specs.declared.tag.Tag.{Tag}
 use Rattle.term_values.specs.Der.{encoded}
-use Rattle.term_model.specs.Parts.{integer_under, three_under}
 use Rattle.term_values.specs.Octets.{octets, integer_contents}
 use Rattle.term_values.specs.Tag.{context, universal}
 use Rattle.term_values.specs.Tree.{TreeValue}
@@ -68,7 +67,7 @@ reject_apdu invoke kind problem =
 abbrev pub error_apdu : ℤ → ℤ → List ℕ → List ℕ
 error_apdu invoke error parameter = encoded true error_tag (integer invoke ++ (integer error ++ parameter))
 
--- ROIV: the invoke id, the operation and its argument
+-- what an APDU invokes: the invoke id, the operation and its argument
 pub record Invoke : Type 0 where
   pub id : ℤ
   pub operation : ℤ
@@ -77,17 +76,3 @@ pub record Invoke : Type 0 where
 abbrev pub is_within_32_bits : ℤ → Bool
 is_within_32_bits (pos n) = nat_lt n (2 ^ 31)
 is_within_32_bits (negsuc n) = nat_lt n (2 ^ 31)
-
--- an invoke id, which has at most 32 bits
-abbrev pub id_of : TreeValue → Option ℤ
-id_of tree = option_and_then (λ n. if is_within_32_bits n then Some n else None) (integer_under (universal 2) tree)
-
--- what an APDU invokes, without a linked id and with an argument
-abbrev pub invoke_parts : TreeValue × TreeValue × TreeValue → Option Invoke
-invoke_parts parts =
-    option_and_then (λ id.
-    option_and_then (λ operation. Some (record { id = id; operation = operation; argument = parts.2 }))
-    (integer_under (universal 2) parts.1)) (id_of parts.0)
-
-abbrev pub invoke_of : TreeValue → Option Invoke
-invoke_of tree = option_and_then invoke_parts (three_under invoke_tag tree)
