@@ -1,26 +1,10 @@
 //! From a line to its answers.
 
+use crate::row_names::{add_name, identifier, name_of};
+use crate::row_scopes::answer_scope;
 use mo_list::ListMib;
 use std::alloc::{AllocError, Global};
-use term_model::{Attrs, Name, Object, Oids, Ranged, Rdn, StepLedger, Steps};
-use term_values::{Bytes, Oid};
-
-/// The identifier 2.999 and one further arc.
-fn identifier(alloc: Global, arc: u8) -> Result<Oid, AllocError> {
-    match Oid::from_arcs(vec![in alloc; 2, 999, u32::from(arc)]?) {
-        Some(oid) => Ok(oid),
-        None => Err(AllocError),
-    }
-}
-
-/// The name of a number: one part, whose value is the INTEGER.
-fn name_of(alloc: Global, number: u8) -> Result<Name, AllocError> {
-    let attribute = identifier(alloc, 1)?;
-    let value = Bytes::from_slice(alloc, &[2, 1, number])?;
-    Ok(Name {
-        parts: vec![in alloc; Rdn { attribute, value }]?,
-    })
-}
+use term_model::{Attrs, Name, Object, Oids, Ranged, StepLedger, Steps};
 
 /// An object that is told by the last arc of its class.
 fn object_of(alloc: Global, mark: u8) -> Result<Object, AllocError> {
@@ -36,23 +20,14 @@ fn object_of(alloc: Global, mark: u8) -> Result<Object, AllocError> {
     })
 }
 
-/// The mark of an object.
-fn mark_of(object: &Object) -> u32 {
-    match object.class.arcs().last() {
+/// Adds the mark of an object.
+fn add_mark(alloc: Global, out: &mut String, object: &Object) -> Result<(), AllocError> {
+    let mark = match object.class.arcs().last() {
         Some(arc) => *arc,
         None => 0,
-    }
-}
-
-/// The number of a name.
-fn number_of(name: &Name) -> u8 {
-    match name.parts.last() {
-        Some(rdn) => match rdn.value.items.last() {
-            Some(octet) => *octet,
-            None => 0,
-        },
-        None => 0,
-    }
+    };
+    let digits = format!(in alloc; "{}", mark)?;
+    out.push_str(digits.as_str())
 }
 
 /// What is printed for an answer of `put` or `take_out`.
@@ -60,66 +35,92 @@ fn shown(had: bool) -> &'static str {
     if had { "there" } else { "not there" }
 }
 
-/// The answer to `at`: the object's mark.
+/// Adds the answer to `put`.
+fn answer_put<L: StepLedger>(
+    alloc: Global,
+    out: &mut String,
+    map: &mut ListMib<L>,
+    mark: u8,
+    name: Name,
+    steps: &mut Steps<L>,
+) -> Result<(), AllocError> {
+    match map.put(alloc, name, object_of(alloc, mark)?, steps) {
+        Ok(had) => out.push_str(shown(had)),
+        Err(_) => Err(AllocError),
+    }
+}
+
+/// Adds the answer to `at`: the object's mark.
 fn answer_at<L: StepLedger>(
     alloc: Global,
+    out: &mut String,
     map: &ListMib<L>,
-    number: u8,
+    name: &Name,
     steps: &mut Steps<L>,
-) -> Result<String, AllocError> {
-    match map.at(&name_of(alloc, number)?, steps) {
-        Some(object) => format!(in alloc; "{}", mark_of(object)),
-        None => String::from_str(alloc, "none"),
+) -> Result<(), AllocError> {
+    match map.at(name, steps) {
+        Some(object) => add_mark(alloc, out, object),
+        None => out.push_str("none"),
     }
 }
 
-/// The answer to `after`: the name's number and the object's mark.
+/// Adds the answer to `after`: the name and the object's mark.
 fn answer_after<L: StepLedger>(
     alloc: Global,
+    out: &mut String,
     map: &ListMib<L>,
-    number: u8,
+    name: &Name,
     steps: &mut Steps<L>,
-) -> Result<String, AllocError> {
-    match map.after(&name_of(alloc, number)?, steps) {
-        Some((name, object)) => format!(in alloc; "{}:{}", number_of(name), mark_of(object)),
-        None => String::from_str(alloc, "none"),
+) -> Result<(), AllocError> {
+    match map.after(name, steps) {
+        Some((next, object)) => {
+            add_name(alloc, out, next)?;
+            out.push_str(":")?;
+            add_mark(alloc, out, object)
+        }
+        None => out.push_str("none"),
     }
 }
 
-/// The answer to a call: `put`, `take`, `at` and `after` with the number of a name, and `len`. The object that is put
-/// is marked by its place in the line.
+/// Adds the answer to a call with a name: `put`, `take`, `at` or `after`.
+fn answer_named<L: StepLedger>(
+    alloc: Global,
+    out: &mut String,
+    map: &mut ListMib<L>,
+    mark: u8,
+    call: &str,
+    name: Name,
+    steps: &mut Steps<L>,
+) -> Result<(), AllocError> {
+    match call {
+        "put" => answer_put(alloc, out, map, mark, name, steps),
+        "take" => out.push_str(shown(map.take_out(alloc, &name, steps)?)),
+        "at" => answer_at(alloc, out, map, &name, steps),
+        _ => answer_after(alloc, out, map, &name, steps),
+    }
+}
+
+/// Adds the answer to a call: `put`, `take`, `at` and `after` with a name, `len`, and the names in a scope. The object
+/// that is put is marked by its place in the line.
 fn answer_call<L: StepLedger>(
     alloc: Global,
+    out: &mut String,
     map: &mut ListMib<L>,
     mark: u8,
     word: &str,
     steps: &mut Steps<L>,
-) -> Result<String, AllocError> {
-    if word == "len" {
-        return format!(in alloc; "{}", map.len());
-    }
-    let (call, digits) = word.split_once(':').unwrap_or((word, ""));
-    let number = match digits.parse::<u8>() {
-        Ok(number) => number,
-        Err(_) => return String::from_str(alloc, "no number"),
-    };
+) -> Result<(), AllocError> {
+    let (call, words) = word.split_once(':').unwrap_or((word, ""));
     match call {
-        "put" => match map.put(
-            alloc,
-            name_of(alloc, number)?,
-            object_of(alloc, mark)?,
-            steps,
-        ) {
-            Ok(had) => String::from_str(alloc, shown(had)),
-            Err(_) => Err(AllocError),
-        },
-        "take" => {
-            let had = map.take_out(alloc, &name_of(alloc, number)?, steps)?;
-            String::from_str(alloc, shown(had))
+        "len" => {
+            let digits = format!(in alloc; "{}", map.len())?;
+            out.push_str(digits.as_str())
         }
-        "at" => answer_at(alloc, map, number, steps),
-        "after" => answer_after(alloc, map, number, steps),
-        _ => String::from_str(alloc, "no such call"),
+        "put" | "take" | "at" | "after" => match name_of(alloc, words)? {
+            None => out.push_str("no such name"),
+            Some(name) => answer_named(alloc, out, map, mark, call, name, steps),
+        },
+        _ => answer_scope(alloc, out, map, call, words, steps),
     }
 }
 
@@ -140,8 +141,7 @@ fn answer_row<L: StepLedger>(
         } else if word == "other" {
             std::mem::swap(&mut map, &mut second);
         } else {
-            let answer = answer_call(alloc, &mut map, mark, word, steps)?;
-            out.push_str(answer.as_str())?;
+            answer_call(alloc, &mut out, &mut map, mark, word, steps)?;
             out.push_str(";")?;
         }
     }

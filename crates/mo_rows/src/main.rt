@@ -5,6 +5,8 @@
 ghost use Rattle.std.specs.Prelude.{◌≡◌, ◌<◌};
 
 mod answering;
+mod row_names;
+mod row_scopes;
 
 use answering::answer_line;
 use std::io;
