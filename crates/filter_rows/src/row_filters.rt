@@ -6,65 +6,91 @@ use std::alloc::{AllocError, Global};
 use std::boxed::Box;
 use term_model::{Filter, FilterForm, Filters};
 
-/// The last filters of a list, as many as the digits say, or none where there are fewer.
-fn taken(
-    alloc: Global,
+/// Takes the last of the filters, as many as the digits say; false where there are fewer.
+fn take_last(
+    taken: &mut Vec<Filter>,
     filters: &mut Vec<Filter>,
     digits: &str,
-) -> Result<Option<Filters>, AllocError> {
-    let mut items = Vec::new(alloc);
+) -> Result<bool, AllocError> {
     let count = match digits.parse::<u8>() {
         Ok(count) => count,
-        Err(_) => return Ok(None),
+        Err(_) => return Ok(false),
     };
     for _ in 0..count {
         match filters.pop() {
-            Some(filter) => items.push(filter)?,
-            None => return Ok(None),
+            Some(filter) => taken.push(filter)?,
+            None => return Ok(false),
         }
     }
-    items.as_mut_slice().reverse();
-    Ok(Some(Filters { items }))
+    taken.as_mut_slice().reverse();
+    Ok(true)
 }
 
-/// The form of the filter that the word stands for, or none.
-fn form_of(
+/// Joins the last filters.
+fn join(
     alloc: Global,
     filters: &mut Vec<Filter>,
-    word: &str,
-) -> Result<Option<FilterForm>, AllocError> {
-    if let Some(digits) = word.strip_prefix("and:") {
-        return match taken(alloc, filters, digits)? {
-            Some(joined) => Ok(Some(FilterForm::And(joined))),
-            None => Ok(None),
-        };
-    }
-    if let Some(digits) = word.strip_prefix("or:") {
-        return match taken(alloc, filters, digits)? {
-            Some(joined) => Ok(Some(FilterForm::Or(joined))),
-            None => Ok(None),
-        };
-    }
-    if word == "not" {
-        return match filters.pop() {
-            Some(filter) => Ok(Some(FilterForm::Not(Box::new(alloc, filter)?))),
-            None => Ok(None),
-        };
-    }
-    match item_of(alloc, word)? {
-        Some(item) => Ok(Some(FilterForm::Item(item))),
-        None => Ok(None),
+    digits: &str,
+    are_all: bool,
+) -> Result<bool, AllocError> {
+    let mut items = Vec::new(alloc);
+    let enough = take_last(&mut items, filters, digits)?;
+    let joined = Filters { items };
+    let form = if are_all {
+        FilterForm::And(joined)
+    } else {
+        FilterForm::Or(joined)
+    };
+    filters.push(Filter { form })?;
+    Ok(enough)
+}
+
+/// Turns the last filter round.
+fn turn(alloc: Global, filters: &mut Vec<Filter>) -> Result<bool, AllocError> {
+    match filters.pop() {
+        Some(filter) => {
+            let form = FilterForm::Not(Box::new(alloc, filter)?);
+            filters.push(Filter { form })?;
+            Ok(true)
+        }
+        None => Ok(false),
     }
 }
 
-/// The filter that the words say, or none.
-pub fn filter_of(alloc: Global, line: &str) -> Result<Option<Filter>, AllocError> {
-    let mut filters = Vec::new(alloc);
+/// Puts an item behind the filters.
+fn add_item(alloc: Global, filters: &mut Vec<Filter>, word: &str) -> Result<bool, AllocError> {
+    match item_of(alloc, word)? {
+        Some(item) => {
+            let form = FilterForm::Item(item);
+            filters.push(Filter { form })?;
+            Ok(true)
+        }
+        None => Ok(false),
+    }
+}
+
+/// Reads one word; false where it is none of a filter.
+fn read_word(alloc: Global, filters: &mut Vec<Filter>, word: &str) -> Result<bool, AllocError> {
+    if word == "not" {
+        return turn(alloc, filters);
+    }
+    match word.split_once(':') {
+        Some(("and", digits)) => join(alloc, filters, digits, true),
+        Some(("or", digits)) => join(alloc, filters, digits, false),
+        _ => add_item(alloc, filters, word),
+    }
+}
+
+/// Reads the words of a filter, which is the last of the filters then; false where a word is none of a filter.
+pub fn read_filters(
+    alloc: Global,
+    filters: &mut Vec<Filter>,
+    line: &str,
+) -> Result<bool, AllocError> {
     for word in line.split(' ') {
-        match form_of(alloc, &mut filters, word)? {
-            Some(form) => filters.push(Filter { form })?,
-            None => return Ok(None),
+        if !read_word(alloc, filters, word)? {
+            return Ok(false);
         }
     }
-    Ok(filters.pop())
+    Ok(true)
 }

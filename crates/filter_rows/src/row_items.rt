@@ -1,9 +1,8 @@
 //! The items that rows name: `present:NAME`, `KIND:NAME:VALUE` and `pieces:PIECE,..` with `NAME/KIND/TEXT` for each
 //! piece.
 
-use crate::row_object::{
-    GROUP, LABEL, LOAD, ODD, PLAIN, PORTS, SPARE, UNKNOWN, identifier, set_value,
-};
+use crate::row_object::{identifier, set_value};
+use crate::row_set::{GROUP, LABEL, LOAD, ODD, PLAIN, PORTS, SPARE, UNKNOWN};
 use std::alloc::{AllocError, Global};
 use std::boxed::Box;
 use term_model::{Given, IdRef, Item, Piece, Pieces};
@@ -18,21 +17,31 @@ enum Read {
     Nothing,
 }
 
-/// The identifier of a name, and what its values are read as; a name that is none of those of the table is the local
-/// number 2.
+/// The last arc of the identifier of a name, and what its values are read as; nothing where the name is none of those
+/// of the table.
+fn known(name: &str) -> Option<(u32, Read)> {
+    match name {
+        "load" => Some((LOAD, Read::Whole)),
+        "spare" => Some((SPARE, Read::Whole)),
+        "label" => Some((LABEL, Read::Text)),
+        "ports" => Some((PORTS, Read::Numbers)),
+        "plain" => Some((PLAIN, Read::Whole)),
+        "odd" => Some((ODD, Read::Whole)),
+        "group" => Some((GROUP, Read::Nothing)),
+        "unknown" => Some((UNKNOWN, Read::Nothing)),
+        _ => None,
+    }
+}
+
+/// The identifier of a name, and what its values are read as; a name that isn't known is the local number 1 or 2.
 fn named(alloc: Global, name: &str) -> Result<(IdRef, Read), AllocError> {
-    Ok(match name {
-        "load" => (IdRef::Global(identifier(alloc, LOAD)?), Read::Whole),
-        "spare" => (IdRef::Global(identifier(alloc, SPARE)?), Read::Whole),
-        "label" => (IdRef::Global(identifier(alloc, LABEL)?), Read::Text),
-        "ports" => (IdRef::Global(identifier(alloc, PORTS)?), Read::Numbers),
-        "plain" => (IdRef::Global(identifier(alloc, PLAIN)?), Read::Whole),
-        "odd" => (IdRef::Global(identifier(alloc, ODD)?), Read::Whole),
-        "group" => (IdRef::Global(identifier(alloc, GROUP)?), Read::Nothing),
-        "unknown" => (IdRef::Global(identifier(alloc, UNKNOWN)?), Read::Nothing),
-        "local1" => (IdRef::Local(1), Read::Nothing),
-        _ => (IdRef::Local(2), Read::Nothing),
-    })
+    match known(name) {
+        Some((number, read)) => Ok((IdRef::Global(identifier(alloc, number)?), read)),
+        None => {
+            let number = if name == "local1" { 1 } else { 2 };
+            Ok((IdRef::Local(number), Read::Nothing))
+        }
+    }
 }
 
 /// The numbers between full stops.
@@ -89,49 +98,75 @@ fn piece(alloc: Global, text: &str) -> Result<Piece, AllocError> {
     })
 }
 
-/// The value of pieces, each under its kind.
-fn value_of_pieces(alloc: Global, pieces: &[Piece]) -> Result<Option<Value>, AllocError> {
-    let mut items = Vec::new(alloc);
+/// Adds the values of pieces, each under its kind; false where one has none.
+fn add_values(
+    alloc: Global,
+    values: &mut Vec<Value>,
+    pieces: &[Piece],
+) -> Result<bool, AllocError> {
     for piece in pieces {
         match &piece.given.value {
-            None => return Ok(None),
+            None => return Ok(false),
             Some(value) => {
                 let picked = Box::new(alloc, value.copy(alloc)?)?;
-                items.push(Value {
+                values.push(Value {
                     form: ValueForm::Pick(u32::from(piece.kind), picked),
                 })?;
             }
         }
     }
-    Ok(Some(Value {
-        form: ValueForm::Many(Values { items }),
-    }))
+    Ok(true)
+}
+
+/// The value of pieces.
+fn value_of_pieces(alloc: Global, pieces: &[Piece]) -> Result<Option<Value>, AllocError> {
+    let mut items = Vec::new(alloc);
+    if add_values(alloc, &mut items, pieces)? {
+        Ok(Some(Value {
+            form: ValueForm::Many(Values { items }),
+        }))
+    } else {
+        Ok(None)
+    }
+}
+
+/// Adds the pieces of a text.
+fn add_pieces(alloc: Global, pieces: &mut Vec<Piece>, text: &str) -> Result<(), AllocError> {
+    if !text.is_empty() {
+        for word in text.split(',') {
+            pieces.push(piece(alloc, word)?)?;
+        }
+    }
+    Ok(())
 }
 
 fn pieces(alloc: Global, text: &str) -> Result<Item, AllocError> {
     let mut items = Vec::new(alloc);
-    if !text.is_empty() {
-        for word in text.split(',') {
-            items.push(piece(alloc, word)?)?;
-        }
-    }
+    add_pieces(alloc, &mut items, text)?;
     let value = value_of_pieces(alloc, items.as_slice())?;
     Ok(Item::Substrings(Pieces { items }, value))
+}
+
+/// The item of a kind with an assertion, or none where the kind is of no such item.
+fn asserted(kind: &str, given: Given) -> Option<Item> {
+    match kind {
+        "equal" => Some(Item::Equality(given)),
+        "greater" => Some(Item::GreaterOrEqual(given)),
+        "less" => Some(Item::LessOrEqual(given)),
+        "subset" => Some(Item::SubsetOf(given)),
+        "superset" => Some(Item::SupersetOf(given)),
+        "meets" => Some(Item::Meets(given)),
+        _ => None,
+    }
 }
 
 /// The item of a word, or none where the word is of no item.
 pub fn item_of(alloc: Global, word: &str) -> Result<Option<Item>, AllocError> {
     let (kind, behind) = word.split_once(':').unwrap_or((word, ""));
     let (name, text) = behind.split_once(':').unwrap_or((behind, ""));
-    Ok(Some(match kind {
-        "equal" => Item::Equality(given(alloc, name, text)?),
-        "pieces" => pieces(alloc, behind)?,
-        "greater" => Item::GreaterOrEqual(given(alloc, name, text)?),
-        "less" => Item::LessOrEqual(given(alloc, name, text)?),
-        "present" => Item::Present(named(alloc, name)?.0),
-        "subset" => Item::SubsetOf(given(alloc, name, text)?),
-        "superset" => Item::SupersetOf(given(alloc, name, text)?),
-        "meets" => Item::Meets(given(alloc, name, text)?),
-        _ => return Ok(None),
-    }))
+    match kind {
+        "pieces" => Ok(Some(pieces(alloc, behind)?)),
+        "present" => Ok(Some(Item::Present(named(alloc, name)?.0))),
+        _ => Ok(asserted(kind, given(alloc, name, text)?)),
+    }
 }

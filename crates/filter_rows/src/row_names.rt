@@ -1,0 +1,54 @@
+//! The names that rows have: `root`, or the numbers of the parts with full stops between them.
+
+use crate::row_object::identifier;
+use std::alloc::{AllocError, Global};
+use term_model::{Name, Rdn};
+use term_values::Bytes;
+
+/// The attribute that names objects.
+const NAMING: u32 = 9;
+
+/// The part of a number: its value is the INTEGER.
+fn part_of(alloc: Global, number: u8) -> Result<Rdn, AllocError> {
+    let attribute = identifier(alloc, NAMING)?;
+    let value = Bytes::from_slice(alloc, &[2, 1, number])?;
+    Ok(Rdn { attribute, value })
+}
+
+/// The name that a text spells, or none.
+pub fn name_of(alloc: Global, text: &str) -> Result<Option<Name>, AllocError> {
+    let mut parts = Vec::new(alloc);
+    if text == "root" {
+        return Ok(Some(Name { parts }));
+    }
+    for word in text.split('.') {
+        match word.parse::<u8>() {
+            Ok(number) => parts.push(part_of(alloc, number)?)?,
+            Err(_) => return Ok(None),
+        }
+    }
+    Ok(Some(Name { parts }))
+}
+
+/// The number of a part.
+fn number_of(part: &Rdn) -> u8 {
+    match part.value.items.last() {
+        Some(octet) => *octet,
+        None => 0,
+    }
+}
+
+/// Adds the text of a name.
+pub fn add_name(alloc: Global, out: &mut String, name: &Name) -> Result<(), AllocError> {
+    if name.parts.is_empty() {
+        return out.push_str("root");
+    }
+    for (i, part) in name.parts.iter().enumerate() {
+        if i > 0 {
+            out.push_str(".")?;
+        }
+        let number = format!(in alloc; "{}", number_of(part))?;
+        out.push_str(number.as_str())?;
+    }
+    Ok(())
+}
