@@ -1,13 +1,14 @@
 -- Names behind another one, in the order of names; docs/PROFILE.md, section 4.
 use Rattle.std.specs.Prelude.{false, suc, ◌≡◌, ◌≤◌, ◌+◌, ◌*◌, is_some, length, ℕ, Bool, List, MatchOption, None, Option}
-use Rattle.std.specs.Prelude.{Some, filter, find}
-use Rattle.std.specs.Ordering.{is_lt}
+use Rattle.std.specs.Prelude.{Some, filter, find, int_le, pos, true}
+use Rattle.std.specs.Ordering.{int_eq, is_lt}
 use Rattle.term_model.specs.declared.name.Rdn.{Rdn}
 use Rattle.term_model.specs.declared.objects.NamedObject.{NamedObject}
 use Rattle.term_model.specs.declared.scope.Scope.{Scope}
+use Rattle.term_model.specs.declared.scope.Scope.TheVariants.{Plain, Level, Upto}
 use Rattle.term_model.specs.NamedObjects.{names}
 use Rattle.term_model.specs.NameOrder.{name_cmp}
-use Rattle.term_model.specs.Scope.{has_level, level_below}
+use Rattle.term_model.specs.Scope.{base_object, has_level, level_below}
 
 -- the second name stands behind the first
 abbrev pub follows : List Rdn → List Rdn → Bool
@@ -47,3 +48,15 @@ IsOneWay objects base before after =
 -- the scope reaches no level below the base
 abbrev pub EndsAtBase : Scope → Type 0
 EndsAtBase scope = (level : ℕ) → has_level scope (suc level) ≡ false
+
+-- the scope is baseObject, or the last level that it names is the base's own or above it
+abbrev pub ends_at_base : Scope → Bool
+ends_at_base (Plain number) = int_eq number base_object
+ends_at_base (Level number) = int_le number (pos 0)
+ends_at_base (Upto number) = int_le number (pos 0)
+
+-- the visits before and after one look for the base alone, of at most 128 in a map of up to 100,000 objects, where the
+-- scope ends there
+abbrev pub IsBaseAlone : List NamedObject → Scope → ℕ → ℕ → Type 0
+IsBaseAlone objects scope before after =
+    ends_at_base scope ≡ true → length objects ≤ 100000 → after ≤ before + 128

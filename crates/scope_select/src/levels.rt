@@ -2,7 +2,7 @@
 
 ghost use Rattle.std.specs.Prelude.{◌≡◌, IsTrue};
 ghost use Rattle.term_model.specs.Scope.{has_level, level_below};
-ghost use Rattle.scope_select.specs.Ranges.{EndsAtBase};
+ghost use Rattle.scope_select.specs.Ranges.{EndsAtBase, ends_at_base};
 
 use term_model::scope::{BASE_OBJECT, FIRST_LEVEL_ONLY, WHOLE_SUBTREE};
 use term_model::{Rdn, Scope};
@@ -42,7 +42,8 @@ pub fn has_level(scope: &Scope, level: usize) -> bool
 
 /// Whether it is known that the scope reaches no level below its base.
 pub fn ends_at_base(scope: &Scope) -> bool
-    ensures { IsTrue result → EndsAtBase scope.now }
+    ensures told { result ≡ ends_at_base scope.now }
+    ensures ends { IsTrue result → EndsAtBase scope.now }
 {
     match scope {
         Scope::Plain(number) => *number == BASE_OBJECT,

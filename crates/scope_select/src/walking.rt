@@ -4,7 +4,7 @@ ghost use Rattle.std.specs.Prelude.{◌≡◌, ◌++◌, ◌∷◌, ◌<◌, ◌
 ghost use Rattle.term_model.specs.NamedObjects.{names};
 ghost use Rattle.term_model.specs.Scope.{has_level, names_in_scope};
 ghost use Rattle.term_model.specs.StepCounts.{IsOneCall};
-ghost use Rattle.scope_select.specs.Ranges.{IsLast, IsNext, IsOneWay};
+ghost use Rattle.scope_select.specs.Ranges.{IsBaseAlone, IsLast, IsNext, IsOneWay};
 
 use crate::levels::{ends_at_base, has_level, level_below};
 use crate::refusal::ScopeRefusal;
@@ -77,6 +77,7 @@ pub fn in_scope<L: StepLedger, M: Ranged<L>>(
 
     // whatever the rest of the map has
     ensures visits { IsOneWay (M.objects mib.now) base.now steps.old steps.new }
+    ensures alone { IsBaseAlone (M.objects mib.now) scope.now steps.old steps.new }
 {
     let mut reached = Names {
         items: Vec::new(alloc),

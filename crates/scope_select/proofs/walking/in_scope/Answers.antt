@@ -188,3 +188,13 @@ returns-then-ends_at_base-clause-few g c =
           ∙ ap (λ ns. ns ++ within base scope (names_behind base (names entries))) (sym empty)) in
           omega (arith, ap length all, ap length empty))
     ]
+
+pub returns-in_err-add_reached-clause-alone : goal.returns-in_err-add_reached-clause-alone
+returns-in_err-add_reached-clause-alone g c = λ ends small.
+    let visited = c.at.ensures.visits.few small in
+    omega arith
+
+pub returns-then-ends_at_base-clause-alone : goal.returns-then-ends_at_base-clause-alone
+returns-then-ends_at_base-clause-alone g c = λ ends small.
+    let visited = c.at.ensures.visits.few small in
+    omega arith
