@@ -2,11 +2,24 @@
 //! is one (X.680; where X.680 has no such form, X.208; docs/PROFILE.md, section 11).
 #![tactic(auto)]
 
+mod building;
+mod chains;
+mod cycles;
 pub mod first_fault;
 pub mod first_words;
+mod judging;
+pub mod name_tables;
+mod numbers;
+mod ranges;
 pub mod refusal;
 pub mod standard_module;
+mod tag_runs;
+mod tag_sets;
 pub mod tag_texts;
+mod type_walk;
 pub mod type_words;
+pub mod types;
 
+pub use name_tables::Meaning;
 pub use refusal::{ModuleRefusal, UnsupportedKind};
+pub use types::{Types, resolve_modules};

@@ -21,7 +21,7 @@ use term_values::{Names, Part, Parts, Ranges, Syntax, SyntaxForm, Tag};
 const CONTEXT: u8 = 2;
 
 /// A type of CMIP-1.
-#[derive(Clone, Copy)]
+#[derive(Clone, Copy, PartialEq, Eq)]
 pub enum StandardType {
     /// ObjectClass.
     ObjectClass,
@@ -86,6 +86,18 @@ pub fn standard_nodes(standard: StandardType) -> usize
         StandardType::RdnSequence => 5,
         StandardType::Attribute => 7,
         StandardType::Filter => 1,
+    }
+}
+
+/// The context tags with which it begins; those of no list begin with SEQUENCE.
+pub fn standard_tags(standard: StandardType) -> &'static [u32] {
+    match standard {
+        StandardType::ObjectClass | StandardType::AttributeId => &[0, 1],
+        StandardType::ActionTypeId => &[2, 3],
+        StandardType::EventTypeId => &[6, 7],
+        StandardType::ObjectInstance => &[2, 3, 4],
+        StandardType::RdnSequence | StandardType::Attribute => &[],
+        StandardType::Filter => &[8, 9, 10, 11],
     }
 }
 
