@@ -65,8 +65,8 @@ impl<'a> Types<'a> {
 }
 
 /// Resolves modules: what their names mean, and which syntaxes their types denote; or the first fault, by document, by
-/// token and in the order of [`ModuleRefusal`]. `Memory` comes where there is no memory for the tables. The modules stay
-/// as they are (X.680, sections 13 to 17; docs/PROFILE.md, section 11).
+/// token and in the order of [`ModuleRefusal`]. `Memory` comes where there is no memory for the tables. The modules
+/// stay as they are (X.680, sections 13 to 17; docs/PROFILE.md, section 11).
 pub fn resolve_modules<'a>(
     alloc: Global,
     modules: &'a [Module],

@@ -279,8 +279,8 @@ fn is_apdu_tag(tag: Tag) -> bool
 }
 
 /// The APDU that a tree is (X.229, section 9): `Unrecognised` exactly where its tag isn't that of a constructed
-/// context-specific value with a number from 1 to 4; else `MistypedApdu` where a field is missing, wrong, too many or past
-/// its range; `Memory` where there is none for a copy of what the APDU holds.
+/// context-specific value with a number from 1 to 4; else `MistypedApdu` where a field is missing, wrong, too many or
+/// past its range; `Memory` where there is none for a copy of what the APDU holds.
 pub fn read_apdu(alloc: Global, tree: &Tree) -> Result<Apdu, ApduRefusal>
     ensures denotes { IfOk result (λ apdu. apdu_of tree.now ≡ Some apdu) }
     ensures unrecognised { (result ≡ Err Unrecognised) ↔ (is_recognised tree.now ≡ false) }

@@ -9,8 +9,8 @@ pub fn reading_is_denoting()
     ensures denoted { ApduIsRead }
 {}
 
-/// What is written for a sound APDU spells its tree, and where that has at most 32 constructed values inside one another
-/// and lengths below 2^32 it is read back as it, whatever follows. Does nothing.
+/// What is written for a sound APDU spells its tree, and where that has at most 32 constructed values inside one
+/// another and lengths below 2^32 it is read back as it, whatever follows. Does nothing.
 pub fn written_is_read_back()
     ensures apdu { WrittenIsApdu }
     ensures read_back { WrittenIsReadBack }

@@ -56,9 +56,9 @@ fn next_below<'a, L: StepLedger, M: Ranged<L>>(
     }
 }
 
-/// The names in scope by the order of names: X.711, type Scope. `TooMany` comes exactly where more than `limit` names are
-/// in scope, `Memory` where there is none for the names. The base need not be there; each look into the map is counted on
-/// `steps`, also before a refusal.
+/// The names in scope by the order of names: X.711, type Scope. `TooMany` comes exactly where more than `limit` names
+/// are in scope, `Memory` where there is none for the names. The base need not be there; each look into the map is
+/// counted on `steps`, also before a refusal.
 pub fn in_scope<L: StepLedger, M: Ranged<L>>(
     alloc: Global,
     mib: &M,
