@@ -15,19 +15,25 @@ fn part_of(alloc: Global, number: u8) -> Result<Rdn, AllocError> {
     Ok(Rdn { attribute, value })
 }
 
-/// The name that a text spells, or none.
-pub fn name_of(alloc: Global, text: &str) -> Result<Option<Name>, AllocError> {
-    let mut parts = Vec::new(alloc);
-    if text == "root" {
-        return Ok(Some(Name { parts }));
-    }
+/// Adds the parts of a text; false where one is no number.
+fn read_parts(alloc: Global, parts: &mut Vec<Rdn>, text: &str) -> Result<bool, AllocError> {
     for word in text.split('.') {
         match word.parse::<u8>() {
             Ok(number) => parts.push(part_of(alloc, number)?)?,
-            Err(_) => return Ok(None),
+            Err(_) => return Ok(false),
         }
     }
-    Ok(Some(Name { parts }))
+    Ok(true)
+}
+
+/// The name that a text spells, or none.
+pub fn name_of(alloc: Global, text: &str) -> Result<Option<Name>, AllocError> {
+    let mut parts = Vec::new(alloc);
+    if text == "root" || read_parts(alloc, &mut parts, text)? {
+        Ok(Some(Name { parts }))
+    } else {
+        Ok(None)
+    }
 }
 
 /// The number of a part.
@@ -36,6 +42,11 @@ fn number_of(part: &Rdn) -> u8 {
         Some(octet) => *octet,
         None => 0,
     }
+}
+
+fn add_number(alloc: Global, out: &mut String, part: &Rdn) -> Result<(), AllocError> {
+    let digits = format!(in alloc; "{}", number_of(part))?;
+    out.push_str(digits.as_str())
 }
 
 /// Adds the text of a name.
@@ -47,8 +58,7 @@ pub fn add_name(alloc: Global, out: &mut String, name: &Name) -> Result<(), Allo
         if i > 0 {
             out.push_str(".")?;
         }
-        let number = format!(in alloc; "{}", number_of(part))?;
-        out.push_str(number.as_str())?;
+        add_number(alloc, out, part)?;
     }
     Ok(())
 }

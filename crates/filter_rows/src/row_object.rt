@@ -45,12 +45,25 @@ fn add_label(alloc: Global, attributes: &mut Vec<Attribute>) -> Result<(), Alloc
     add(alloc, attributes, LABEL, Value { form })
 }
 
+fn add_ports(alloc: Global, attributes: &mut Vec<Attribute>) -> Result<(), AllocError> {
+    add(alloc, attributes, PORTS, set_value(alloc, &[1, 2])?)
+}
+
+fn add_whole(
+    alloc: Global,
+    attributes: &mut Vec<Attribute>,
+    number: u32,
+    value: i64,
+) -> Result<(), AllocError> {
+    add(alloc, attributes, number, Value::integer(value))
+}
+
 fn add_all(alloc: Global, attributes: &mut Vec<Attribute>) -> Result<(), AllocError> {
-    add(alloc, attributes, LOAD, Value::integer(7))?;
+    add_whole(alloc, attributes, LOAD, 7)?;
     add_label(alloc, attributes)?;
-    add(alloc, attributes, PORTS, set_value(alloc, &[1, 2])?)?;
-    add(alloc, attributes, PLAIN, Value::integer(7))?;
-    add(alloc, attributes, ODD, Value::integer(7))
+    add_ports(alloc, attributes)?;
+    add_whole(alloc, attributes, PLAIN, 7)?;
+    add_whole(alloc, attributes, ODD, 7)
 }
 
 fn object_of(alloc: Global, items: Vec<Attribute>) -> Result<Object, AllocError> {
@@ -74,6 +87,6 @@ pub fn example_object(alloc: Global) -> Result<Object, AllocError> {
 /// This load alone.
 pub fn object_with(alloc: Global, load: i64) -> Result<Object, AllocError> {
     let mut items = Vec::new(alloc);
-    add(alloc, &mut items, LOAD, Value::integer(load))?;
+    add_whole(alloc, &mut items, LOAD, load)?;
     object_of(alloc, items)
 }

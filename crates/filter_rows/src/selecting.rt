@@ -103,6 +103,23 @@ fn add_true<L: StepLedger>(
     out.push_str(if before { "" } else { "no name" })
 }
 
+/// Adds those of the names in scope of whose objects the filter is true.
+fn add_reached<L: StepLedger>(
+    alloc: Global,
+    out: &mut String,
+    set: &Set,
+    map: &ListMib<L>,
+    base: &Name,
+    scope: &Scope,
+    filter: &Filter,
+    steps: &mut Steps<L>,
+) -> Result<(), AllocError> {
+    match in_scope(alloc, map, base, scope, LIMIT, steps) {
+        Ok(names) => add_true(alloc, out, set, map, &names, filter, steps),
+        Err(_) => Err(AllocError),
+    }
+}
+
 /// Adds the names that the scope and the filter select in a map.
 fn add_selected<L: StepLedger>(
     alloc: Global,
@@ -119,10 +136,7 @@ fn add_selected<L: StepLedger>(
         None => out.push_str("no such scope"),
         Some(scope) => match name_of(alloc, text)? {
             None => out.push_str("no such name"),
-            Some(base) => match in_scope(alloc, map, &base, &scope, LIMIT, steps) {
-                Ok(names) => add_true(alloc, out, set, map, &names, filter, steps),
-                Err(_) => Err(AllocError),
-            },
+            Some(base) => add_reached(alloc, out, set, map, &base, &scope, filter, steps),
         },
     }
 }
