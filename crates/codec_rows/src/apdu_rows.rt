@@ -30,10 +30,12 @@ fn title_row(alloc: Global, text: &str, out: &mut String) -> Result<(), RowFault
 /// Appends the id of an m-Get, its class, its instance as it is given back, and the name of that.
 fn show_get(found: &Invocation, out: &mut String) -> Result<(), AllocError> {
     let Request::Get { head } = &found.request;
-    let IdRef::Global(class) = &head.class;
     let Named::Object(name) = &head.base.named;
     write!(out, "{}; ", found.id)?;
-    show_oid(class, out)?;
+    match &head.class {
+        IdRef::Global(class) => show_oid(class, out)?,
+        IdRef::Local(number) => write!(out, "{number}")?,
+    }
     out.push_str("; ")?;
     show_octets(head.base.raw.as_slice(), out)?;
     out.push_str("; ")?;
