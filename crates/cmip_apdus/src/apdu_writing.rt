@@ -2,7 +2,7 @@
 //! first, so that the length of each part is known when its header is written.
 #![tactic(auto, using(ber_tree::proofs::Extending::extending))]
 
-ghost use Rattle.std.specs.Prelude.{◌≡◌, ◌++◌, ◌+◌, ◌^◌, ◌<◌, ◌≤◌, ℕ, List, length, false, pos, true, IfOk, OnErr};
+ghost use Rattle.std.specs.Prelude.{◌≡◌, ◌++◌, ◌+◌, ◌^◌, ◌<◌, false, pos, true, IfOk, OnErr};
 ghost use Rattle.std.specs.Prelude.{OnOk, reverse};
 ghost use Rattle.ber_tree.specs.Writing.{Extends};
 ghost use Rattle.term_model.specs.Bind.{bind, bind_answer};
@@ -11,7 +11,6 @@ ghost use Rattle.term_model.specs.Operation.{own_after, own_behind, reply_frame,
 ghost use Rattle.term_model.specs.RemoteOperation.{empty_result_apdu, error_apdu, frame, integer, linked_apdu};
 ghost use Rattle.term_model.specs.RemoteOperation.{result_apdu};
 ghost use Rattle.term_values.specs.Der.{encoded};
-ghost use Rattle.term_values.specs.Octets.{octets};
 ghost use Rattle.term_values.specs.Tag.{universal};
 
 use crate::apdu_reading::M_GET;

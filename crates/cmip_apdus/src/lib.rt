@@ -3,3 +3,4 @@
 
 pub mod apdu_reading;
 pub mod apdu_writing;
+pub mod laws;

@@ -28,7 +28,7 @@ use Rattle.rose_frames.specs.ApduLaws.{result_tree, whole_tree}
 use Rattle.rose_frames.proofs.ApduTold.{IsTreeOf}
 use Rattle.rose_frames.proofs.ApduDenoting.{DenotesId, DenotesNumber, allowed_id, parts_of}
 
-abbrev slots_back : TypedValue → TypedSlots
+abbrev pub slots_back : TypedValue → TypedSlots
 slots_back (Parts slots) = slots
 slots_back _ = NoSlots
 
@@ -309,7 +309,7 @@ error_is tree id error parameter a =
     )
 
 -- the alternative of a CHOICE
-picked_back : (parts : TypeParts) (x : TreeValue) (k : ℕ) (v : TypedValue) → Denotes (Choice parts) x (Pick k v) →
+pub picked_back : (parts : TypeParts) (x : TreeValue) (k : ℕ) (v : TypedValue) → Denotes (Choice parts) x (Pick k v) →
     PickDenotes parts k x v
 picked_back parts x k v d =
     subst (λ (p : ℕ × TypedValue). PickDenotes parts p.0 x p.1) (sym (ap pick_back d.3)) d.2

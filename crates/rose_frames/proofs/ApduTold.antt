@@ -133,7 +133,7 @@ invoke_told (Then x xs) apdu h e =
     subst (IsTreeOf (Constructed (context 1) (Then x xs))) (sym o.is) (whole, (n.1, l.within, o.fits))
 
 -- a value of two inside a SEQUENCE
-pair_told : (tag : Tag) (x : TreeValue) (parts : TreeValue × TreeValue) → two_under tag x ≡ Some parts →
+pub pair_told : (tag : Tag) (x : TreeValue) (parts : TreeValue × TreeValue) → two_under tag x ≡ Some parts →
     x ≡ Constructed tag (Then parts.0 (Then parts.1 Nothing))
 pair_told tag (Primitive own contents) parts e = absurd (none-some _ e)
 pair_told tag (Constructed own inside) parts e =

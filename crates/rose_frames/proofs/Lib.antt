@@ -1,6 +1,7 @@
-mod ApduDenoted
-mod ApduDenoting
-mod ApduTold
+pub mod ApduDenoted
+pub mod ApduDenoting
+pub mod ApduStatements
+pub mod ApduTold
 mod ApduTrees
 mod CuttingLaws
 mod FramingLaws

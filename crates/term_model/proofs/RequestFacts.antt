@@ -1,5 +1,6 @@
 -- Examples of what managers and the agent send, computed: X.229, section 9; X.711, section 7.4; docs/PROFILE.md,
 -- section 4.
+use Rattle.std.proofs.Common.{inl, inr}
 use Rattle.std.specs.Prelude.{◌≡◌, ℕ, pos, true, List, [], ◌∷◌, None, Some, refl}
 use Rattle.term_values.specs.BerReading.{front_of, identifier_of, length_at}
 use Rattle.term_values.specs.Der.{identifier_octets, length_octets}
@@ -19,8 +20,8 @@ use Rattle.term_model.specs.AgentState.{start}
 use Rattle.term_model.specs.ApduReading.{id_under}
 use Rattle.term_model.specs.Arriving.{arriving}
 use Rattle.term_model.specs.Arriving.Arriving.{NoEffect, Queued}
-use Rattle.term_model.specs.Bind.{accepted, bad_bind, bind, bind_answer, title_in}
-use Rattle.term_model.specs.GetRequest.{get_apdu, instance_octets, invocation_in}
+use Rattle.term_model.specs.Bind.{IsBind, accepted, bad_bind, bind, bind_answer, title_in}
+use Rattle.term_model.specs.GetRequest.{IsGet, get_apdu, get_request, instance_octets, invocation_in}
 use Rattle.term_model.specs.Parts.{contents_under, inside_under, integer_under, oid_under, one_under, two_under}
 use Rattle.term_model.specs.RemoteOperation.{empty_result_apdu, error_apdu, frame, linked_apdu, reject_apdu}
 use Rattle.term_model.specs.RemoteOperation.{result_apdu}
@@ -85,6 +86,11 @@ no_title : title_in (0x30 ∷ 0x00 ∷ []) ≡ None
 unfolding oid_in subidentifier identifier_of length_at front_of
 no_title = refl
 
+-- SEQUENCE { OBJECT IDENTIFIER 2.999.3.1 } is the BIND of that title
+bind_denoted : IsBind (Constructed (universal 16) (Then class Nothing)) element_oid
+unfolding subidentifier
+bind_denoted = (class ∷ [], _, refl, inl ((element_oid, (refl, refl, refl), refl), (refl, refl)), refl)
+
 answer_example : bind_answer accepted 1 ≡ 0x30 ∷ 0x06 ∷ 0x0A ∷ 0x01 ∷ 0x00 ∷ 0x02 ∷ 0x01 ∷ 0x01 ∷ []
 unfolding identifier_octets length_octets integer_contents
 answer_example = refl
@@ -116,6 +122,31 @@ read_example : invocation_in get_root ≡ Some root_invocation
 unfolding oid_in subidentifier integer_in integer_contents identifier_octets length_octets identifier_of length_at
     front_of
 read_example = refl
+
+-- and its argument as a tree
+abbrev global_class : TreeValue
+global_class = Primitive (context 0) (0x88 ∷ 0x37 ∷ 3 ∷ 1 ∷ [])
+
+abbrev root : TreeValue
+root = Constructed (context 4) Nothing
+
+get_denoted : IsGet (Constructed (universal 16) (Then global_class (Then root Nothing))) (get_request element_oid [])
+unfolding subidentifier
+get_denoted = (
+  element_oid,
+  [],
+  (
+    global_class ∷ (root ∷ []),
+    _,
+    refl,
+    inl (
+      (0, _, (element_oid, (refl, refl, refl), refl), refl),
+      inl ((2, _, ([], [], refl, tt, refl, refl), refl), inr (inr (inr (inr (inr (refl, refl)))))),
+    ),
+    refl,
+  ),
+  refl,
+)
 
 -- the instance elementId = 5, an RDNSequence of one part
 instance_example : instance_octets (record { attribute = id_oid; value = 0x02 ∷ 0x01 ∷ 0x05 ∷ [] } ∷ [])

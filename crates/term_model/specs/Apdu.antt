@@ -11,6 +11,7 @@ use Rattle.term_values.specs.Tree.TreeValues.{Nothing, Then}
 use Rattle.term_values.specs.Typed.{TypedValue, TypedSlots}
 use Rattle.term_values.specs.Typed.TypedValue.{Int, Null, Parts, Pick, Raw}
 use Rattle.term_values.specs.Typed.TypedSlots.{NoSlots, Filled, Empty}
+use Rattle.term_model.specs.RemoteOperation.{Invoke}
 use Rattle.term_model.specs.declared.apdu.Apdu.{Apdu}
 use Rattle.term_model.specs.declared.apdu.Apdu.TheVariants as apdus
 
@@ -82,3 +83,7 @@ HasAny (apdus.Reject id class problem) tree = Unit {0}
 pub record IsApdu (tree : TreeValue) (apdu : Apdu) : Type 0 where
   pub denotes : Denotes (apdu_syntax apdu) tree (apdu_value apdu)
   pub any : HasAny apdu tree
+
+-- the tree is an Invoke of this operation, with this argument and without a linked id
+abbrev pub IsInvoke : TreeValue → Invoke → Type 0
+IsInvoke tree called = IsApdu tree (apdus.Invoke called.id None called.operation (Some called.argument))

@@ -3,17 +3,25 @@
 -- docs/PROFILE.md, section 4.
 use Rattle.std.specs.Prelude.{ℕ, pos, List, ◌++◌, true, false, Option, option_and_then}
 use Rattle.term_values.specs.BerReading.{tree_in}
+use Rattle.term_values.specs.Denotes.{Denotes}
 use Rattle.term_values.specs.Der.{encoded}
 use Rattle.term_values.specs.Octets.{integer_contents}
 use Rattle.term_values.specs.Oid.{oid_contents}
+use Rattle.term_values.specs.PduSyntaxes.{bind as bind_syntax}
 use Rattle.term_values.specs.Tag.{universal}
 use Rattle.term_values.specs.Tree.{TreeValue}
+use Rattle.term_values.specs.Typed.TypedSlots.{Filled, NoSlots}
+use Rattle.term_values.specs.Typed.TypedValue.{Identifier, Parts}
 use Rattle.term_model.specs.Parts.{oid_under, one_under}
 use Rattle.term_model.specs.RemoteOperation.{integer}
 
 -- the written BIND of a manager with this title
 abbrev pub bind : List ℕ → List ℕ
 bind title = encoded true (universal 16) (encoded false (universal 6) (oid_contents title))
+
+-- the tree is the BIND of a manager with this title
+abbrev pub IsBind : TreeValue → List ℕ → Type 0
+IsBind tree title = Denotes bind_syntax tree (Parts (Filled (Identifier title) NoSlots))
 
 -- the title in a BIND
 abbrev pub title_of : TreeValue → Option (List ℕ)

@@ -1,16 +1,21 @@
 -- The argument of m-Get, SEQUENCE { ObjectClass, ObjectInstance }, with the class in globalForm [0] and the instance in
--- localDistinguishedName [4]: X.711, section 7.4.
+-- localDistinguishedName [4]: X.711, section 7.4. The relation is IsGet, the function that reads get_of.
 use Rattle.std.specs.Prelude.{ℕ, ℤ, pos, List, [], ◌∷◌, ◌++◌, true, false, if◌then◌else◌}
-use Rattle.std.specs.Prelude.{Option, None, Some, option_and_then, flat_map}
+use Rattle.std.specs.Prelude.{◌≡◌, Option, None, Some, option_and_then, flat_map, map}
 use Rattle.std.specs.Option.{option_map}
 use Rattle.std.specs.Ordering.{int_eq}
 use Rattle.term_values.specs.declared.tag.Tag.{Tag}
 use Rattle.term_values.specs.BerReading.{tree_in}
+use Rattle.term_values.specs.Denotes.{Denotes}
 use Rattle.term_values.specs.Der.{encoded, written}
 use Rattle.term_values.specs.Oid.{oid_contents}
+use Rattle.term_values.specs.PduSyntaxes.{get_argument}
 use Rattle.term_values.specs.Tag.{context, universal}
 use Rattle.term_values.specs.Tree.{TreeValue, TreeValues}
 use Rattle.term_values.specs.Tree.TreeValues.{Nothing, Then}
+use Rattle.term_values.specs.Typed.{TypedValue, listed}
+use Rattle.term_values.specs.Typed.TypedSlots.{NoSlots, Filled, Empty}
+use Rattle.term_values.specs.Typed.TypedValue.{Identifier, Many, Parts, Pick, Raw}
 use Rattle.term_model.specs.declared.name.Rdn.{Rdn}
 use Rattle.term_model.specs.declared.request.Invocation.{Invocation}
 use Rattle.term_model.specs.declared.request.IdRef.{IdRef}
@@ -97,3 +102,30 @@ abbrev pub get_apdu : ℤ → List ℕ → List Rdn → List ℕ
 get_apdu id class name =
     encoded true invoke_tag
     (integer id ++ (integer m_get ++ encoded true (universal 16) (class_octets class ++ instance_octets name)))
+
+-- the value of the argument with this class and this name, and with nothing else: the class is in globalForm, the
+-- instance in localDistinguishedName, and each part of the name is one assertion
+abbrev pub assertion_value : Rdn → TypedValue
+assertion_value rdn = Parts (Filled (Identifier rdn.attribute) (Filled (Raw rdn.value) NoSlots))
+
+abbrev pub rdn_value : Rdn → TypedValue
+rdn_value rdn = Many (listed (assertion_value rdn ∷ []))
+
+abbrev pub name_value : List Rdn → TypedValue
+name_value name = Many (listed (map rdn_value name))
+
+abbrev pub get_value : List ℕ → List Rdn → TypedValue
+get_value class name =
+    Parts (Filled (Pick 0 (Identifier class)) (Filled (Pick 2 (name_value name))
+    (Empty (Empty (Empty (Empty (Empty NoSlots)))))))
+
+-- the Get of an object of this class with this name, whose instance is given back as it is written
+abbrev pub get_request : List ℕ → List Rdn → Request
+get_request class name =
+    Get (record { class = Global class; base = record { raw = instance_octets name; named = named.Object name } })
+
+-- the tree is the argument of this Get
+abbrev pub IsGet : TreeValue → Request → Type 0
+IsGet tree request =
+    (class : List ℕ) × (name : List Rdn) × Denotes get_argument tree (get_value class name)
+    × (request ≡ get_request class name)
