@@ -1,5 +1,5 @@
--- Which tree is which APDU of remote operations: X.229, section 9; docs/PROFILE.md, section 4. The syntaxes are in PduSyntaxes.
--- The function that reads is in ApduReading, what is written in ApduWriting.
+-- Which tree is which APDU of remote operations: X.229, section 9; docs/PROFILE.md, section 4. The syntaxes are in
+-- PduSyntaxes. The function that reads is in ApduReading, what is written in ApduWriting.
 use Rattle.std.specs.Prelude.{◌≡◌, ℕ, ℤ, List, [], ◌∷◌, Option, None, Some}
 use Rattle.term_values.specs.Denotes.{Denotes}
 use Rattle.term_values.specs.Der.{written}
