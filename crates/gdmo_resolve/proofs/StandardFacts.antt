@@ -99,7 +99,8 @@ unregistered_fault = unregistered (record {
   unregistered = refl;
 }) refl
 
--- document 1 has a twice: of a class and, in a clause before its own, of an attribute; the class stands first
+-- the first document has the label a twice: of a class and, in a clause before its own, of an attribute; the class
+-- stands first
 abbrev first_a : TemplateTerm
 first_a = class_of (word 0 (codes "a")) (arcs_of 30 (codes "3") (codes "1")) (one_reference (ByLabel (word 20
     (codes "b")))) NoReferences
