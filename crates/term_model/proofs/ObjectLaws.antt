@@ -23,7 +23,8 @@ use Rattle.term_model.specs.Step.{performed, received, step}
 
 pub exec_objects : (schema : Set) (objects : List NamedObject) (request : Request) (moment : ℕ)
     → (exec schema objects request moment).objects ≡ objects
-exec_objects schema objects (Get head) moment = refl
+exec_objects schema objects (Get head ids) moment = refl
+exec_objects schema objects _ moment = refl
 
 work_objects : (agent : AgentState) (number : ℕ) (w : Work) (moment : ℕ)
     → (performed agent number w moment).objects ≡ agent.objects

@@ -1,10 +1,10 @@
 -- Examples of what a Get reads and answers, and of journals, computed: X.711, section 7.4; docs/PROFILE.md, sections
 -- 4, 5
 -- and 7.
-use Rattle.std.specs.Prelude.{◌≡◌, ℕ, pos, true, false, List, [], ◌∷◌, ◌++◌, length, None, Some, codes, refl}
+use Rattle.std.specs.Prelude.{◌≡◌, ℕ, pos, true, false, List, [], ◌∷◌, ◌++◌, length, codes, refl}
 use Rattle.term_values.specs.BerReading.{front_of, identifier_of, length_at}
 use Rattle.term_values.specs.Der.{identifier_octets, length_octets}
-use Rattle.term_values.specs.Octets.{integer_contents, integer_in}
+use Rattle.term_values.specs.Octets.{integer_contents}
 use Rattle.term_values.specs.Oid.{oid_in, subidentifier}
 use Rattle.term_model.specs.declared.entry.Entry.{Entry}
 use Rattle.term_model.specs.declared.entry.Entry.TheVariants as entry
@@ -14,13 +14,13 @@ use Rattle.term_model.specs.declared.reply.Reply.TheVariants as reply
 use Rattle.term_model.specs.declared.request.IdRef.TheVariants.{Global}
 use Rattle.term_model.specs.declared.request.Instance.{Instance}
 use Rattle.term_model.specs.declared.request.Named.TheVariants as named
-use Rattle.term_model.specs.declared.request.Request.TheVariants.{Get}
 use Rattle.term_model.specs.AgentLimits.{shipped}
-use Rattle.term_model.specs.AgentState.{start}
+use Rattle.term_model.specs.GetRequest.{get_alone}
 use Rattle.term_model.specs.History.{came, is_legal_journal, out, replay, taken}
 use Rattle.term_values.specs.Moment.{moment_text, date_from, date_in_year}
 use Rattle.term_model.specs.ObjectOperation.{attribute_octets, is_readable, object_octets, readable, value_octets}
-use Rattle.term_model.specs.Operation.{exec, no_such_object_instance, own_after, own_behind, replied, reply_frame}
+use Rattle.term_model.specs.SentApdus.{sent_reply}
+use Rattle.term_model.specs.Operation.{exec, no_such_object_instance, own_after, own_behind, replied}
 use Rattle.term_model.specs.Step.{step}
 use Rattle.term_model.proofs.ExampleNetwork.{element, element_oid, id_oid, id_value, load_oid, load_value, network}
 
@@ -63,7 +63,7 @@ root_result =
     ++ (0xA6 ∷ 0x16 ∷ 0x30 ∷ 0x09 ∷ 0x80 ∷ 0x04 ∷ 0x88 ∷ 0x37 ∷ 0x07 ∷ 0x01 ∷ 0x02 ∷ 0x01 ∷ 0x01 ∷ 0x30 ∷ 0x09 ∷ 0x80 ∷
     0x04 ∷ 0x88 ∷ 0x37 ∷ 0x07 ∷ 0x02 ∷ 0x02 ∷ 0x01 ∷ 0x07 ∷ []))
 
-root_example : exec network objects (Get (record { class = Global element_oid; base = root_instance })) 0
+root_example : exec network objects (get_alone (Global element_oid) root_instance) 0
     ≡ record { objects = objects; replies = reply.Single root_result ∷ []; events = [] }
 unfolding subidentifier identifier_octets length_octets integer_contents moment_text date_from date_in_year
 root_example = refl
@@ -75,37 +75,37 @@ five_instance = record {
   named = named.Object (record { attribute = id_oid; value = 0x02 ∷ 0x01 ∷ 0x05 ∷ [] } ∷ []);
 }
 
-five_example : exec network objects (Get (record { class = Global element_oid; base = five_instance })) 0
+five_example : exec network objects (get_alone (Global element_oid) five_instance) 0
     ≡ record { objects = objects; replies = reply.Error (no_such_object_instance five_instance) ∷ []; events = [] }
 unfolding moment_text
 five_example = refl
 
 -- own invoke ids count from 1 and begin anew behind 2,147,483,647; a linked reply takes the next one
-own_example : own_after 1 ≡ 2
+own_example : own_after (pos 1) ≡ pos 2
 own_example = refl
 
-own_again : own_after 2147483647 ≡ 1
+own_again : own_after (pos 2147483647) ≡ pos 1
 own_again = refl
 
-own_of_linked : own_behind 5 (reply.Linked 1 []) ≡ 6
+own_of_linked : own_behind (pos 5) (reply.Linked 1 []) ≡ pos 6
 own_of_linked = refl
 
-own_of_empty : own_behind 5 reply.Empty ≡ 5
+own_of_empty : own_behind (pos 5) reply.Empty ≡ pos 5
 own_of_empty = refl
 
-empty_frame : reply_frame (pos 1) (pos 3) 5 reply.Empty ≡ 0 ∷ 0 ∷ 0 ∷ 5 ∷ 0xA2 ∷ 0x03 ∷ 0x02 ∷ 0x01 ∷ 0x01 ∷ []
-unfolding identifier_octets length_octets integer_contents
+empty_frame : sent_reply (pos 1) (pos 3) (pos 5) reply.Empty ≡ 0 ∷ 0 ∷ 0 ∷ 5 ∷ 0xA2 ∷ 0x03 ∷ 0x02 ∷ 0x01 ∷ 0x01 ∷ []
+unfolding sent_reply identifier_octets length_octets integer_contents
 empty_frame = refl
 
 -- a linked reply and an empty one in their order
-replied_example : replied (pos 1) (pos 3) 5 (reply.Linked 1 [] ∷ reply.Empty ∷ [])
+replied_example : replied (pos 1) (pos 3) (pos 5) (reply.Linked 1 [] ∷ reply.Empty ∷ [])
     ≡ record {
       octets =
           0 ∷ 0 ∷ 0 ∷ 13 ∷ 0xA1 ∷ 0x0B ∷ 0x02 ∷ 0x01 ∷ 0x05 ∷ 0x80 ∷ 0x01 ∷ 0x01 ∷ 0x02 ∷ 0x01 ∷ 0x02 ∷ 0xA1 ∷ 0x00 ∷
           0 ∷ 0 ∷ 0 ∷ 5 ∷ 0xA2 ∷ 0x03 ∷ 0x02 ∷ 0x01 ∷ 0x01 ∷ [];
-      own = 6;
+      own = pos 6;
     }
-unfolding identifier_octets length_octets integer_contents
+unfolding sent_reply identifier_octets length_octets integer_contents
 replied_example = refl
 
 -- a manager binds with octets that are no BIND, its answer of 12 octets is taken, and it is closed

@@ -14,14 +14,13 @@ use Rattle.term_model.specs.declared.request.IdRef.TheVariants.{Global}
 use Rattle.term_model.specs.declared.request.Instance.{Instance}
 use Rattle.term_model.specs.declared.request.Invocation.{Invocation}
 use Rattle.term_model.specs.declared.request.Named.TheVariants as named
-use Rattle.term_model.specs.declared.request.Request.TheVariants.{Get}
 use Rattle.term_model.specs.AgentLimits.{shipped}
 use Rattle.term_model.specs.AgentState.{start}
 use Rattle.term_model.specs.ApduReading.{id_under}
 use Rattle.term_model.specs.Arriving.{arriving}
 use Rattle.term_model.specs.Arriving.Arriving.{NoEffect, Queued}
 use Rattle.term_model.specs.Bind.{IsBind, accepted, bad_bind, bind, bind_answer, title_in}
-use Rattle.term_model.specs.GetRequest.{IsGet, get_apdu, get_request, instance_octets, invocation_in}
+use Rattle.term_model.specs.GetRequest.{IsGet, get_alone, get_apdu, get_request, instance_octets, invocation_in}
 use Rattle.term_model.specs.Parts.{contents_under, inside_under, integer_under, oid_under, one_under, two_under}
 use Rattle.term_model.specs.RemoteOperation.{empty_result_apdu, error_apdu, frame, linked_apdu, reject_apdu}
 use Rattle.term_model.specs.RemoteOperation.{result_apdu}
@@ -115,7 +114,7 @@ root_instance = record { raw = 0xA4 ∷ 0x00 ∷ []; named = named.Object [] }
 abbrev root_invocation : Invocation
 root_invocation = record {
   id = pos 1;
-  request = Get (record { class = Global element_oid; base = root_instance });
+  request = get_alone (Global element_oid) root_instance;
 }
 
 read_example : invocation_in get_root ≡ Some root_invocation

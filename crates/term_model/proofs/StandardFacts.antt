@@ -1,6 +1,6 @@
 -- Worked runs, computed from the definitions alone: a Get of the root, and a Get of an object that is not there. Then
 -- which entries the program can hold, at the bounds.
-use Rattle.std.specs.Prelude.{◌≡◌, ℕ, zero, suc, ◌<◌, List, [], ◌∷◌, None, codes, refl}
+use Rattle.std.specs.Prelude.{◌≡◌, ℕ, zero, suc, pos, ◌<◌, List, [], ◌∷◌, ◌++◌, None, codes, refl}
 use Rattle.std.specs.Fmt.{digits}
 use Rattle.std.proofs.Common.{arith, subst}
 use Rattle.std.proofs.lemmas.Bool.{false≢true}
@@ -22,6 +22,7 @@ use Rattle.term_values.specs.Moment.{moment_text, date_from, date_in_year}
 use Rattle.term_model.specs.Played.{ScriptLine, played, run_text}
 use Rattle.term_model.specs.Played.ScriptLine.{Open, Send}
 use Rattle.term_model.specs.Settled.{IsDone, IsSettled}
+use Rattle.term_model.specs.SentApdus.{sent_reply}
 use Rattle.term_model.specs.Step.{step}
 use Rattle.term_model.specs.Texts.{line}
 use Rattle.term_model.specs.TextLaws.{IsEntry}
@@ -39,8 +40,11 @@ get_root =
     ∷ 0xA4 ∷ 0x00 ∷ []
 
 run_of_the_root : run_text network shipped (Open bind_octets ∷ Send 1 get_root ∷ []) ≡
-    codes "opened 1 3006060488370B01\ntaken 1 12\narrived 1 A1100201010201033008800488370301A400\ngranted 1 0\ncommitted 1\ntaken 1 65\nfinished 1\nclosed 1 end\n--\nout 1 0000000830060A01000201010000003DA23B02010130360201033031800488370301A400850F31393730303130313030303030305AA61630098004883707010201013009800488370702020107\nobjects 1\n"
-unfolding digits encode_with subidentifier oid_in integer_contents integer_in identifier_octets length_octets
+    codes "opened 1 3006060488370B01\ntaken 1 12\narrived 1 A1100201010201033008800488370301A400\n"
+    ++ (codes "granted 1 0\ncommitted 1\ntaken 1 65\nfinished 1\nclosed 1 end\n--\n"
+    ++ (codes "out 1 0000000830060A01000201010000003DA23B02010130360201033031800488370301A40085"
+    ++ (codes "0F31393730303130313030303030305AA61630098004883707010201013009800488370702020107\nobjects 1\n")))
+unfolding sent_reply digits encode_with subidentifier oid_in integer_contents integer_in identifier_octets length_octets
     identifier_of length_at front_of moment_text date_from date_in_year played step
 run_of_the_root = refl
 
@@ -51,8 +55,12 @@ get_five =
     ∷ 0x0D ∷ 0x31 ∷ 0x0B ∷ 0x30 ∷ 0x09 ∷ 0x06 ∷ 0x04 ∷ 0x88 ∷ 0x37 ∷ 0x07 ∷ 0x01 ∷ 0x02 ∷ 0x01 ∷ 0x05 ∷ []
 
 run_of_five : run_text network shipped (Open bind_octets ∷ Send 1 get_five ∷ []) ≡
-    codes "opened 1 3006060488370B01\ntaken 1 12\narrived 1 A11D0201010201033015800488370301A40D310B3009060488370701020105\ngranted 1 0\ncommitted 1\ntaken 1 27\nfinished 1\nclosed 1 end\n--\nout 1 0000000830060A010002010100000017A315020101020101A40D310B3009060488370701020105\nobjects 1\n"
-unfolding digits encode_with subidentifier oid_in integer_contents integer_in identifier_octets length_octets
+    codes "opened 1 3006060488370B01\ntaken 1 12\n"
+    ++ (codes "arrived 1 A11D0201010201033015800488370301A40D310B3009060488370701020105\ngranted 1 0\n"
+    ++ (codes "committed 1\ntaken 1 27\nfinished 1\nclosed 1 end\n--\n"
+    ++ (codes "out 1 0000000830060A010002010100000017A315020101020101A40D310B3009060488370701020105\n"
+    ++ (codes "objects 1\n"))))
+unfolding sent_reply digits encode_with subidentifier oid_in integer_contents integer_in identifier_octets length_octets
     identifier_of length_at front_of moment_text date_from date_in_year played step
 run_of_five = refl
 
@@ -73,14 +81,14 @@ frames_of_third = refl
 -- an association for which two octets were placed
 abbrev one_association : AssociationState → ℕ → AgentState
 one_association state taken = record (start network shipped) {
-  associations = record { title = None; state = state; next_own = 1; placed = 1 ∷ 2 ∷ []; taken = taken } ∷ [];
+  associations = record { title = None; state = state; next_own = pos 1; placed = 1 ∷ 2 ∷ []; taken = taken } ∷ [];
 }
 
 -- nothing is left to do once it is closed and both were taken
 settled_once_closed : IsSettled (one_association (Closed why.End) 2)
 settled_once_closed number a found =
     let alone = numbered_alone
-    (record { title = None; state = Closed why.End; next_own = 1; placed = 1 ∷ 2 ∷ []; taken = 2 })
+    (record { title = None; state = Closed why.End; next_own = pos 1; placed = 1 ∷ 2 ∷ []; taken = 2 })
     number a found in
     subst (λ (x : Association). IsDone (one_association (Closed why.End) 2) number x) alone.1
     (record { closed = refl; taken = refl; idle = refl })

@@ -24,6 +24,11 @@ use Rattle.term_model.specs.declared.request.Instance.{Instance}
 use Rattle.term_model.specs.declared.request.Named.TheVariants as named
 use Rattle.term_model.specs.declared.request.Request.{Request}
 use Rattle.term_model.specs.declared.request.Request.TheVariants.{Get}
+use Rattle.term_model.specs.declared.filter.Asked.TheVariants.{Good}
+use Rattle.term_model.specs.declared.request.Head.{Head}
+use Rattle.term_model.specs.declared.scope.Scope.TheVariants.{Plain}
+use Rattle.term_model.specs.FilterTrees.FilterTree.{And}
+use Rattle.term_model.specs.FilterTrees.FilterTrees.{Nothing as no_filters}
 use Rattle.term_model.specs.ApduReading.{invoke_of}
 use Rattle.term_model.specs.Parts.{inside_under, oid_under, one_under, two_under}
 use Rattle.term_model.specs.RemoteOperation.{Invoke, invoke_tag, integer}
@@ -65,9 +70,23 @@ instance_of tree =
     option_map (λ rdns. record { raw = written tree; named = named.Object rdns })
     (option_and_then rdns_of (inside_under local_distinguished_name tree))
 
+-- the defaults of X.711: best effort, baseObject, and the empty `and`, which each object passes
+abbrev pub head_alone : IdRef → Instance → Head
+head_alone class base = record {
+  class = class;
+  base = base;
+  sync = pos 0;
+  scope = Plain (pos 0);
+  filter = Good (And no_filters);
+}
+
+-- the m-Get of a base object alone, for all its attributes
+abbrev pub get_alone : IdRef → Instance → Request
+get_alone class base = Get (head_alone class base) None
+
 abbrev pub get_parts : TreeValue × TreeValue → Option Request
 get_parts parts =
-    option_and_then (λ class. option_map (λ base. Get (record { class = class; base = base })) (instance_of parts.1))
+    option_and_then (λ class. option_map (get_alone class) (instance_of parts.1))
     (class_of parts.0)
 
 abbrev pub get_of : TreeValue → Option Request
@@ -122,7 +141,7 @@ get_value class name =
 -- the Get of an object of this class with this name, whose instance is given back as it is written
 abbrev pub get_request : List ℕ → List Rdn → Request
 get_request class name =
-    Get (record { class = Global class; base = record { raw = instance_octets name; named = named.Object name } })
+    get_alone (Global class) (record { raw = instance_octets name; named = named.Object name })
 
 -- the tree is the argument of this Get
 abbrev pub IsGet : TreeValue → Request → Type 0

@@ -1,5 +1,5 @@
 -- Whole operations on the objects of the system: X.711, section 7.
-use Rattle.std.specs.Prelude.{ℕ, ℤ, pos, List, [], ◌∷◌, ◌++◌, ◌+◌, Option, None, Some, nat_lt, length, if◌then◌else◌}
+use Rattle.std.specs.Prelude.{ℕ, ℤ, pos, negsuc, List, [], ◌∷◌, ◌++◌, ◌+◌, Option, None, Some, nat_lt, if◌then◌else◌}
 use Rattle.term_model.specs.declared.event.Event.{Event}
 use Rattle.term_model.specs.declared.name.Rdn.{Rdn}
 use Rattle.term_model.specs.declared.object.Object.{Object}
@@ -11,19 +11,13 @@ use Rattle.term_model.specs.declared.request.Instance.{Instance}
 use Rattle.term_model.specs.declared.request.Named.{Named}
 use Rattle.term_model.specs.declared.request.Named.TheVariants as named
 use Rattle.term_model.specs.declared.request.Request.{Request}
-use Rattle.term_model.specs.declared.request.Request.TheVariants.{Get}
+use Rattle.term_model.specs.declared.request.Request.TheVariants as request
 use Rattle.term_model.specs.declared.schema.Set.{Set}
 use Rattle.term_model.specs.GetRequest.{m_get}
 use Rattle.term_values.specs.Moment.{moment_text}
 use Rattle.term_model.specs.NamedObjects.{object_at}
 use Rattle.term_model.specs.ObjectOperation.{get_one}
-use Rattle.term_model.specs.RemoteOperation.{frame, result_apdu, empty_result_apdu, linked_apdu, error_apdu}
-
-abbrev pub named_object : Named → List Rdn
-named_object (named.Object name) = name
-
-abbrev pub name_of : Instance → List Rdn
-name_of instance = named_object instance.named
+use Rattle.term_model.specs.SentApdus.{sent_reply}
 
 -- the number of the error noSuchObjectInstance
 abbrev pub no_such_object : ℤ
@@ -33,63 +27,74 @@ no_such_object = pos 1
 abbrev pub no_such_object_instance : Instance → CmisError
 no_such_object_instance instance = record { code = no_such_object; parameter = Some instance.raw }
 
+-- the number of the error invalidObjectInstance
+abbrev pub invalid_object : ℤ
+invalid_object = pos 17
+
+-- invalidObjectInstance, with the instance as it came: X.711, section 7.5
+abbrev pub invalid_object_instance : Instance → CmisError
+invalid_object_instance instance = record { code = invalid_object; parameter = Some instance.raw }
+
 -- what an operation leaves, answers and reports
 pub record Outcome : Type 0 where
   pub objects : List NamedObject
   pub replies : List Reply
   pub events : List Event
 
-abbrev pub get_reply : Set → Instance → List ℕ → Option Object → Reply
-get_reply schema base time (Some object) = reply.Single (get_one schema (name_of base) object time)
-get_reply schema base time None = reply.Error (no_such_object_instance base)
+-- what a Get of an object is answered, where one is there
+abbrev pub found_reply : Set → Instance → List Rdn → List ℕ → Option Object → Reply
+found_reply schema base name time (Some object) = reply.Single (get_one schema name object time)
+found_reply schema base name time None = reply.Error (no_such_object_instance base)
 
--- the operation, granted at a moment
+-- what a Get of a base object is answered, by what its instance names
+abbrev pub named_reply : Set → List NamedObject → Instance → List ℕ → Named → Reply
+named_reply schema objects base time named.NonSpecific = reply.Error (invalid_object_instance base)
+named_reply schema objects base time named.Nothing = reply.Error (no_such_object_instance base)
+named_reply schema objects base time (named.Object name) =
+    found_reply schema base name time (object_at objects name)
+
+abbrev pub get_reply : Set → List NamedObject → Instance → List ℕ → Reply
+get_reply schema objects base time = named_reply schema objects base time base.named
+
+-- the operation, granted at a moment; so far that of a Get of the base object alone, for all its attributes
 abbrev pub exec : Set → List NamedObject → Request → ℕ → Outcome
-exec schema objects (Get head) moment = record {
+exec schema objects (request.Get head ids) moment = record {
   objects = objects;
-  replies = get_reply schema head.base (moment_text moment) (object_at objects (name_of head.base)) ∷ [];
+  replies = get_reply schema objects head.base (moment_text moment) ∷ [];
   events = [];
 }
+exec schema objects _ moment = record { objects = objects; replies = []; events = [] }
 
+-- the number of the operation: X.711, section 7
 abbrev pub operation_number : Request → ℤ
-operation_number (Get head) = m_get
-
--- the most octets of a parameter in an Error frame; a longer one is left out
-abbrev pub most_parameter : ℕ
-most_parameter = 32768
-
-abbrev pub sent_parameter : Option (List ℕ) → List ℕ
-sent_parameter None = []
-sent_parameter (Some parameter) = if nat_lt most_parameter (length parameter) then [] else parameter
+operation_number (request.Get head ids) = m_get
+operation_number (request.Set head changes confirmed) = if confirmed then pos 5 else pos 4
+operation_number (request.Act head action argument confirmed) = if confirmed then pos 7 else pos 6
+operation_number (request.Create class place reference given) = pos 8
+operation_number (request.Delete head) = pos 9
+operation_number (request.Report class at kind time info confirmed) = if confirmed then pos 1 else pos 0
 
 -- the greatest of the agent's own invoke ids, and the one that follows an own invoke id: they count from 1 and begin
 -- anew behind the greatest one
 abbrev pub last_own : ℕ
 last_own = 2147483647
 
-abbrev pub own_after : ℕ → ℕ
-own_after own = if nat_lt own last_own then own + 1 else 1
+abbrev pub own_after : ℤ → ℤ
+own_after (pos own) = if nat_lt own last_own then pos (own + 1) else pos 1
+own_after (negsuc n) = pos 1
 
--- the frame of a reply to an invoke; a linked reply takes the agent's next own invoke id
-abbrev pub reply_frame : ℤ → ℤ → ℕ → Reply → List ℕ
-reply_frame invoke operation own (reply.Single result) = frame (result_apdu invoke operation result)
-reply_frame invoke operation own (reply.Linked number contents) = frame (linked_apdu (pos own) invoke number contents)
-reply_frame invoke operation own reply.Empty = frame (empty_result_apdu invoke)
-reply_frame invoke operation own (reply.Error error) =
-    frame (error_apdu invoke error.code (sent_parameter error.parameter))
-
--- the next own invoke id behind a reply
-abbrev pub own_behind : ℕ → Reply → ℕ
+-- the next own invoke id behind a reply: a linked reply takes one
+abbrev pub own_behind : ℤ → Reply → ℤ
 own_behind own (reply.Linked number contents) = own_after own
 own_behind own _ = own
 
 -- the frames of replies to an invoke, in their order, and the next own invoke id behind them
 pub record Replied : Type 0 where
   pub octets : List ℕ
-  pub own : ℕ
+  pub own : ℤ
 
-abbrev pub replied : ℤ → ℤ → ℕ → List Reply → Replied
+abbrev pub replied : ℤ → ℤ → ℤ → List Reply → Replied
 replied invoke operation own [] = record { octets = []; own = own }
 replied invoke operation own (first ∷ others) =
     let behind = replied invoke operation (own_behind own first) others in
-    record { octets = reply_frame invoke operation own first ++ behind.octets; own = behind.own }
+    record { octets = sent_reply invoke operation own first ++ behind.octets; own = behind.own }

@@ -26,6 +26,7 @@ use Rattle.term_model.specs.Arriving.Arriving.{Rejected, Cancels, NoEffect, Queu
 use Rattle.term_model.specs.Bind.{title_in, bind_answer, accepted, bad_bind}
 use Rattle.term_model.specs.declared.reply.Reply.{Reply}
 use Rattle.term_model.specs.declared.request.Invocation.{Invocation}
+use Rattle.term_model.specs.declared.request.Request.{Request}
 use Rattle.term_model.specs.declared.request.Request.TheVariants.{Get}
 use Rattle.term_model.specs.Operation.{exec, operation_number, replied}
 use Rattle.term_model.specs.RemoteOperation.{empty_result_apdu, error_apdu, frame, integer, reject_apdu}
@@ -73,14 +74,14 @@ abbrev pub bound : ℕ → Option (List ℕ) → Association
 bound number (Some title) = record {
   title = Some title;
   state = association.Live;
-  next_own = 1;
+  next_own = pos 1;
   placed = frame (bind_answer accepted number);
   taken = 0;
 }
 bound number None = record {
   title = None;
   state = association.Finished;
-  next_own = 1;
+  next_own = pos 1;
   placed = frame (bind_answer bad_bind number);
   taken = 0;
 }
@@ -160,8 +161,12 @@ is_asked_as number invoke (work.Append log own) = false
 abbrev pub is_outstanding_as : ℕ → ℤ → Operation → Bool
 is_outstanding_as number invoke o = is_asked_as number invoke o.work && is_outstanding number o
 
+abbrev pub is_get_request : Request → Bool
+is_get_request (Get head ids) = true
+is_get_request _ = false
+
 abbrev pub is_get : Work → Bool
-is_get (work.Asked association_ invoke (Get head)) = true
+is_get (work.Asked association_ invoke request) = is_get_request request
 is_get (work.Append log own) = false
 
 -- what a cancel-get places where it cancels an invoke: the Get's error, and then its own result

@@ -31,7 +31,7 @@ pub struct Association {
     /// How far it has come.
     pub state: AssociationState,
     /// The invoke id of the agent's own next invoke, from 1 to 2,147,483,647.
-    pub next_own: u32,
+    pub next_own: i32,
     /// All bytes that were placed for it.
     pub placed: Bytes,
     /// How many of these were taken to be sent.
@@ -104,9 +104,14 @@ pub struct Operations {
 
 impl Model for Operations {
     ghost use Rattle.std.specs.Prelude.{List};
+    ghost use Rattle.std.specs.Coded.{codes};
+    ghost use Rattle.term_values.specs.Typed.{value_code};
+    ghost use Rattle.term_model.specs.contracts.filter.Filter as filter;
     ghost use Rattle.term_model.specs.declared.agent_state.Operation.{Operation};
 
     ghost Value = { List Operation };
+
+    ghost coded = { Prim.hlevel (codes, value_code, filter.the_row.coded) };
 
     ghost view = { λ list. list.items.items };
 }

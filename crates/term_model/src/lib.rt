@@ -15,6 +15,7 @@ pub mod laws;
 pub mod limits;
 pub mod name;
 pub mod name_binding;
+pub mod numbers;
 pub mod object;
 pub mod objects;
 pub mod packages;
@@ -22,6 +23,7 @@ pub(crate) mod places;
 pub mod ranged;
 pub mod reply;
 pub mod request;
+pub mod results;
 pub mod rule;
 pub mod schema;
 pub mod scope;
@@ -49,7 +51,10 @@ pub use packages::{
 };
 pub use ranged::Ranged;
 pub use reply::{CmisError, Reply};
-pub use request::{Head, IdRef, Instance, Invocation, Named, Request};
+pub use request::{
+    Change, Changes, Givens, Head, IdRef, Ids, Instance, Invocation, Named, Place, Request,
+};
+pub use results::{ActionReply, AttributeValue, FailureReason, GetInfoStatus, SetInfoStatus};
 pub use rule::{RuleRec, RuleRecs, RuleStep, RuleSteps};
 pub use schema::{AttrRec, ClassRec, GroupRec, GroupRecs, InstRec, InstRecs, Set, SystemName};
 pub use scope::{Names, Scope};

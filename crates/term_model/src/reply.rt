@@ -5,6 +5,9 @@ use term_values::Bytes;
 /// noSuchObjectInstance: X.711, section 7.5.
 pub const NO_SUCH_OBJECT_INSTANCE: i64 = 1;
 
+/// invalidObjectInstance: X.711, section 7.5.
+pub const INVALID_OBJECT_INSTANCE: i64 = 17;
+
 /// An error of CMIP.
 #[derive(Drop)]
 pub struct CmisError {
