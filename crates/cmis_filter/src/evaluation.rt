@@ -75,9 +75,9 @@ fn any_truth(
     Ok(any)
 }
 
-/// Whether the filter is true of the object: X.711, type CMISFilter. `InvalidFilter` comes exactly where an item anywhere
-/// in the filter is invalid, also beside what settles its truth. Takes no memory. An item on an attribute that the object hasn't, that is
-/// unknown, a group or named in local form is false.
+/// Whether the filter is true of the object: X.711, type CMISFilter. `InvalidFilter` comes exactly where an item
+/// anywhere in the filter is invalid, also beside what settles its truth. Takes no memory. An item on an attribute that
+/// the object hasn't, that is unknown, a group or named in local form is false.
 pub fn holds(set: &Set, object: &Object, filter: &Filter) -> Result<bool, InvalidFilter>
     // the truth, and the test that computes it
     ensures truth { IfOk result (λ holds. IsTrue holds ↔ IsTrueOf set.now.attributes object.now.attrs filter.now) }

@@ -28,7 +28,7 @@ fn is_same_ref(id: &IdRef, other: &IdRef) -> bool
 }
 
 /// Whether each piece names this attribute.
-fn all_name(pieces: &[Piece], id: &IdRef) -> bool
+pub fn all_name(pieces: &[Piece], id: &IdRef) -> bool
     ensures { result ≡ list_all (λ (piece : Piece). is_same_ref piece.given.id id.now) pieces.now }
 {
     for piece in pieces {

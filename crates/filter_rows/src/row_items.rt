@@ -2,7 +2,9 @@
 //! piece.
 
 use crate::row_object::{identifier, set_value};
-use crate::row_set::{GROUP, LABEL, LOAD, ODD, PLAIN, PORTS, SPARE, UNKNOWN};
+use crate::row_set::{
+    ELEMENT_ID, GROUP, LABEL, LINKS, LOAD, ODD, PLAIN, PORTS, REMARK, SPARE, UNKNOWN,
+};
 use std::alloc::{AllocError, Global};
 use std::boxed::Box;
 use term_model::{Given, IdRef, Item, Piece, Pieces};
@@ -21,10 +23,13 @@ enum Read {
 /// of the table.
 fn known(name: &str) -> Option<(u32, Read)> {
     match name {
+        "elementId" => Some((ELEMENT_ID, Read::Whole)),
         "load" => Some((LOAD, Read::Whole)),
         "spare" => Some((SPARE, Read::Whole)),
         "label" => Some((LABEL, Read::Text)),
+        "remark" => Some((REMARK, Read::Text)),
         "ports" => Some((PORTS, Read::Numbers)),
+        "links" => Some((LINKS, Read::Numbers)),
         "plain" => Some((PLAIN, Read::Whole)),
         "odd" => Some((ODD, Read::Whole)),
         "group" => Some((GROUP, Read::Nothing)),

@@ -1,16 +1,17 @@
-//! The names that rows have: `root`, or the numbers of the parts with full stops between them.
+//! The names that rows have: `root`, or the numbers of the parts, each an elementId, with full stops between them.
 
 use crate::row_object::identifier;
+use crate::row_set::ELEMENT_ID;
 use std::alloc::{AllocError, Global};
 use term_model::{Name, Rdn};
 use term_values::Bytes;
 
-/// The attribute that names objects.
-const NAMING: u32 = 9;
+/// The number that names the root.
+const ROOT: u8 = 1;
 
 /// The part of a number: its value is the INTEGER.
 fn part_of(alloc: Global, number: u8) -> Result<Rdn, AllocError> {
-    let attribute = identifier(alloc, NAMING)?;
+    let attribute = identifier(alloc, ELEMENT_ID)?;
     let value = Bytes::from_slice(alloc, &[2, 1, number])?;
     Ok(Rdn { attribute, value })
 }
@@ -41,6 +42,14 @@ fn number_of(part: &Rdn) -> u8 {
     match part.value.items.last() {
         Some(octet) => *octet,
         None => 0,
+    }
+}
+
+/// The elementId of the object with this name.
+pub fn element_id_of(name: &Name) -> u8 {
+    match name.parts.last() {
+        Some(part) => number_of(part),
+        None => ROOT,
     }
 }
 

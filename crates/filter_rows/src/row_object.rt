@@ -1,20 +1,35 @@
 //! The objects that have values of the attributes.
 
-use crate::row_set::{LABEL, LOAD, ODD, PLAIN, PORTS};
+use crate::row_set::{ELEMENT_ID, LABEL, LOAD, ODD, PLAIN, PORTS};
 use std::alloc::{AllocError, Global};
 use term_model::{Attribute, Attrs, Object, Oids};
 use term_values::{Bytes, Oid, Value, ValueForm, Values};
 
-/// The identifier {2 999 number}.
-pub fn identifier(alloc: Global, number: u32) -> Result<Oid, AllocError> {
+/// What the identifiers of attributes have before their last arc.
+const ATTRIBUTES: u32 = 7;
+
+/// What the identifiers of classes have before their last arc.
+const CLASSES: u32 = 3;
+
+/// The number of the class element.
+const ELEMENT: u32 = 1;
+
+/// The identifier {2 999 kind number}.
+fn identifier_of(alloc: Global, kind: u32, number: u32) -> Result<Oid, AllocError> {
     let mut arcs = Vec::new(alloc);
     arcs.push(2)?;
     arcs.push(999)?;
+    arcs.push(kind)?;
     arcs.push(number)?;
     match Oid::from_arcs(arcs) {
         Some(oid) => Ok(oid),
         None => Err(AllocError),
     }
+}
+
+/// The identifier {2 999 7 number} of an attribute.
+pub fn identifier(alloc: Global, number: u32) -> Result<Oid, AllocError> {
+    identifier_of(alloc, ATTRIBUTES, number)
 }
 
 /// The set of these numbers.
@@ -58,8 +73,19 @@ fn add_whole(
     add(alloc, attributes, number, Value::integer(value))
 }
 
+/// Adds the attributes of an element.
+fn add_element(
+    alloc: Global,
+    attributes: &mut Vec<Attribute>,
+    element_id: i64,
+    load: i64,
+) -> Result<(), AllocError> {
+    add_whole(alloc, attributes, ELEMENT_ID, element_id)?;
+    add_whole(alloc, attributes, LOAD, load)
+}
+
 fn add_all(alloc: Global, attributes: &mut Vec<Attribute>) -> Result<(), AllocError> {
-    add_whole(alloc, attributes, LOAD, 7)?;
+    add_element(alloc, attributes, 1, 7)?;
     add_label(alloc, attributes)?;
     add_ports(alloc, attributes)?;
     add_whole(alloc, attributes, PLAIN, 7)?;
@@ -68,7 +94,7 @@ fn add_all(alloc: Global, attributes: &mut Vec<Attribute>) -> Result<(), AllocEr
 
 fn object_of(alloc: Global, items: Vec<Attribute>) -> Result<Object, AllocError> {
     Ok(Object {
-        class: identifier(alloc, 0)?,
+        class: identifier_of(alloc, CLASSES, ELEMENT)?,
         binding: None,
         chosen: Oids {
             items: Vec::new(alloc),
@@ -77,16 +103,16 @@ fn object_of(alloc: Global, items: Vec<Attribute>) -> Result<Object, AllocError>
     })
 }
 
-/// load 7, label "port 5", ports {1, 2}, plain 7 and odd 7; spare isn't there.
+/// elementId 1, load 7, label "port 5", ports {1, 2}, plain 7 and odd 7; spare, remark and links aren't there.
 pub fn example_object(alloc: Global) -> Result<Object, AllocError> {
     let mut items = Vec::new(alloc);
     add_all(alloc, &mut items)?;
     object_of(alloc, items)
 }
 
-/// This load alone.
-pub fn object_with(alloc: Global, load: i64) -> Result<Object, AllocError> {
+/// An element with this elementId and this load.
+pub fn element_with(alloc: Global, element_id: i64, load: i64) -> Result<Object, AllocError> {
     let mut items = Vec::new(alloc);
-    add_whole(alloc, &mut items, LOAD, load)?;
+    add_element(alloc, &mut items, element_id, load)?;
     object_of(alloc, items)
 }

@@ -9,28 +9,34 @@ use term_model::{
 };
 use term_values::{Bytes, Charset, Ranges, Rules, Syntax, SyntaxForm};
 
-/// load and spare: INTEGER with EQUALITY and ORDERING.
-pub const LOAD: u32 = 1;
+/// elementId, load and spare: INTEGER with EQUALITY and ORDERING.
+pub const ELEMENT_ID: u32 = 1;
 
-pub const SPARE: u32 = 2;
+pub const LOAD: u32 = 2;
 
-/// label: IA5String with EQUALITY, ORDERING and SUBSTRINGS.
-pub const LABEL: u32 = 3;
+pub const SPARE: u32 = 3;
 
-/// ports: SET OF INTEGER with EQUALITY, SET-COMPARISON and SET-INTERSECTION.
-pub const PORTS: u32 = 4;
+/// label and remark: IA5String with EQUALITY, ORDERING and SUBSTRINGS.
+pub const LABEL: u32 = 4;
+
+pub const REMARK: u32 = 5;
+
+/// ports and links: SET OF INTEGER with EQUALITY, SET-COMPARISON and SET-INTERSECTION.
+pub const PORTS: u32 = 6;
+
+pub const LINKS: u32 = 7;
 
 /// plain: INTEGER without a rule.
-pub const PLAIN: u32 = 5;
+pub const PLAIN: u32 = 8;
 
 /// odd: INTEGER with each rule, though three of them aren't for whole numbers.
-pub const ODD: u32 = 6;
+pub const ODD: u32 = 9;
 
 /// An attribute group.
-pub const GROUP: u32 = 7;
+pub const GROUP: u32 = 10;
 
 /// What no record has.
-pub const UNKNOWN: u32 = 8;
+pub const UNKNOWN: u32 = 11;
 
 fn set_of_whole(alloc: Global) -> Result<Syntax, AllocError> {
     Ok(Syntax {
@@ -91,18 +97,20 @@ fn add_whole(
     add(alloc, records, number, Syntax::integer(alloc), rules)
 }
 
-fn add_label(alloc: Global, records: &mut AttrRecs) -> Result<(), AllocError> {
+/// Adds the record of an attribute of texts.
+fn add_text(alloc: Global, records: &mut AttrRecs, number: u32) -> Result<(), AllocError> {
     let mut rules = ordered();
     rules.substrings = true;
-    add(alloc, records, LABEL, text(alloc), rules)
+    add(alloc, records, number, text(alloc), rules)
 }
 
-fn add_ports(alloc: Global, records: &mut AttrRecs) -> Result<(), AllocError> {
+/// Adds the record of an attribute of sets.
+fn add_set(alloc: Global, records: &mut AttrRecs, number: u32) -> Result<(), AllocError> {
     let mut rules = no_rules();
     rules.equality = true;
     rules.comparison = true;
     rules.intersection = true;
-    add(alloc, records, PORTS, set_of_whole(alloc)?, rules)
+    add(alloc, records, number, set_of_whole(alloc)?, rules)
 }
 
 fn all_rules() -> Rules {
@@ -113,11 +121,22 @@ fn all_rules() -> Rules {
     rules
 }
 
-fn add_records(alloc: Global, records: &mut AttrRecs) -> Result<(), AllocError> {
+fn add_ordered(alloc: Global, records: &mut AttrRecs) -> Result<(), AllocError> {
+    add_whole(alloc, records, ELEMENT_ID, ordered())?;
     add_whole(alloc, records, LOAD, ordered())?;
-    add_whole(alloc, records, SPARE, ordered())?;
-    add_label(alloc, records)?;
-    add_ports(alloc, records)?;
+    add_whole(alloc, records, SPARE, ordered())
+}
+
+fn add_texts_and_sets(alloc: Global, records: &mut AttrRecs) -> Result<(), AllocError> {
+    add_text(alloc, records, LABEL)?;
+    add_text(alloc, records, REMARK)?;
+    add_set(alloc, records, PORTS)?;
+    add_set(alloc, records, LINKS)
+}
+
+fn add_records(alloc: Global, records: &mut AttrRecs) -> Result<(), AllocError> {
+    add_ordered(alloc, records)?;
+    add_texts_and_sets(alloc, records)?;
     add_whole(alloc, records, PLAIN, no_rules())?;
     add_whole(alloc, records, ODD, all_rules())
 }

@@ -2,8 +2,8 @@
 //! two objects, and the kinds of scope `plain` for baseObject 0, firstLevelOnly 1 and wholeSubtree 2, `level` for
 //! individualLevels and `upto` for baseToNthLevel.
 
-use crate::row_names::{add_name, name_of};
-use crate::row_object::object_with;
+use crate::row_names::{add_name, element_id_of, name_of};
+use crate::row_object::element_with;
 use cmis_filter::holds;
 use mo_list::ListMib;
 use scope_select::in_scope;
@@ -26,7 +26,7 @@ fn scope_of(kind: &str, digits: &str) -> Option<Scope> {
     }
 }
 
-/// Puts an object with this load into the map.
+/// Puts an element with this load into the map.
 fn put_object<L: StepLedger>(
     alloc: Global,
     map: &mut ListMib<L>,
@@ -34,7 +34,8 @@ fn put_object<L: StepLedger>(
     load: i64,
     steps: &mut Steps<L>,
 ) -> Result<(), AllocError> {
-    match map.put(alloc, name, object_with(alloc, load)?, steps) {
+    let object = element_with(alloc, i64::from(element_id_of(&name)), load)?;
+    match map.put(alloc, name, object, steps) {
         Ok(_) => Ok(()),
         Err(_) => Err(AllocError),
     }

@@ -1,6 +1,6 @@
 //! From a line to its answers.
 
-use crate::row_names::{add_name, identifier, name_of};
+use crate::row_names::{add_name, class_of, name_of};
 use crate::row_scopes::answer_scope;
 use mo_list::ListMib;
 use std::alloc::{AllocError, Global};
@@ -9,7 +9,7 @@ use term_model::{Attrs, Name, Object, Oids, Ranged, StepLedger, Steps};
 /// An object that is told by the last arc of its class.
 fn object_of(alloc: Global, mark: u8) -> Result<Object, AllocError> {
     Ok(Object {
-        class: identifier(alloc, mark)?,
+        class: class_of(alloc, mark)?,
         binding: None,
         chosen: Oids {
             items: Vec::new(alloc),

@@ -1,20 +1,34 @@
-//! The names that rows have: `root`, or the numbers of the parts with full stops between them.
+//! The names that rows have: `root`, or the numbers of the parts, each an elementId, with full stops between them.
 
 use std::alloc::{AllocError, Global};
 use term_model::{Name, Names, Rdn};
 use term_values::{Bytes, Oid};
 
-/// The identifier 2.999 and one further arc.
-pub fn identifier(alloc: Global, arc: u8) -> Result<Oid, AllocError> {
-    match Oid::from_arcs(vec![in alloc; 2, 999, u32::from(arc)]?) {
+/// What the identifiers of classes have before their last arc.
+const CLASSES: u32 = 3;
+
+/// What the identifiers of attributes have before their last arc.
+const ATTRIBUTES: u32 = 7;
+
+/// The last arc of elementId, which names objects.
+const ELEMENT_ID: u32 = 1;
+
+/// The identifier {2 999 kind number}.
+fn identifier_of(alloc: Global, kind: u32, number: u32) -> Result<Oid, AllocError> {
+    match Oid::from_arcs(vec![in alloc; 2, 999, kind, number]?) {
         Some(oid) => Ok(oid),
         None => Err(AllocError),
     }
 }
 
+/// The identifier of a class with this last arc.
+pub fn class_of(alloc: Global, arc: u8) -> Result<Oid, AllocError> {
+    identifier_of(alloc, CLASSES, u32::from(arc))
+}
+
 /// The part of a number: its value is the INTEGER.
 fn part_of(alloc: Global, number: u8) -> Result<Rdn, AllocError> {
-    let attribute = identifier(alloc, 1)?;
+    let attribute = identifier_of(alloc, ATTRIBUTES, ELEMENT_ID)?;
     let value = Bytes::from_slice(alloc, &[2, 1, number])?;
     Ok(Rdn { attribute, value })
 }
