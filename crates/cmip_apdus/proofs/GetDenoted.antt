@@ -23,8 +23,8 @@ use Rattle.term_model.specs.declared.name.Rdn.{Rdn}
 use Rattle.term_model.specs.declared.request.IdRef.TheVariants.{Global}
 use Rattle.term_model.specs.declared.request.Named.TheVariants as named
 use Rattle.term_model.specs.declared.request.Request.{Request}
-use Rattle.term_model.specs.declared.request.Request.TheVariants.{Get}
-use Rattle.term_model.specs.GetRequest.{IsGet, assertion_octets, assertion_of, assertion_value, class_of, get_of}
+use Rattle.term_model.specs.GetRequest.{IsGet, assertion_octets, assertion_of, assertion_value, class_of, get_alone}
+use Rattle.term_model.specs.GetRequest.{get_of}
 use Rattle.term_model.specs.GetRequest.{instance_octets, instance_of, local_distinguished_name}
 use Rattle.term_model.specs.Parts.{inside_under}
 use Rattle.term_model.specs.GetRequest.{name_value, rdn_octets, rdn_of, rdn_value, rdns_of}
@@ -190,7 +190,6 @@ get_given tree request g =
     let class_is = class_given c.first g.0 c.denotes in
     let base_is = instance_given b.first g.1 b.denotes in
     ap get_of whole
-    ∙ ap (λ o. option_and_then (λ class. option_map (λ base. Get (record { class = class; base = base }))
-    (instance_of b.first)) o) class_is
-    ∙ ap (option_map (λ base. Get (record { class = Global g.0; base = base }))) base_is
+    ∙ ap (λ o. option_and_then (λ class. option_map (get_alone class) (instance_of b.first)) o) class_is
+    ∙ ap (option_map (get_alone (Global g.0))) base_is
     ∙ ap Some (sym g.3)

@@ -18,9 +18,8 @@ use Rattle.term_model.specs.declared.name.Rdn.{Rdn}
 use Rattle.term_model.specs.declared.request.IdRef.TheVariants.{Global}
 use Rattle.term_model.specs.declared.request.Named.TheVariants as named
 use Rattle.term_model.specs.declared.request.Request.{Request}
-use Rattle.term_model.specs.declared.request.Request.TheVariants.{Get}
 use Rattle.term_model.specs.GetRequest.{IsGet, assertion_octets, assertion_of, assertion_parts, assertion_value}
-use Rattle.term_model.specs.GetRequest.{class_of, get_of, get_parts, get_request, global_form, instance_octets}
+use Rattle.term_model.specs.GetRequest.{class_of, get_alone, get_of, get_parts, get_request, global_form, instance_octets}
 use Rattle.term_model.specs.GetRequest.{instance_of, local_distinguished_name, name_value, rdn_octets, rdn_of}
 use Rattle.term_model.specs.GetRequest.{rdn_value, rdns_of}
 use Rattle.term_model.specs.Parts.{inside_under, oid_under, one_under, two_under}
@@ -109,17 +108,17 @@ pub get_told : (tree : TreeValue) (request : Request) → get_of tree ≡ Some r
 get_told tree request e =
     let f = then_some get_parts (two_under (universal 16) tree) request e in
     let p = pair_told (universal 16) tree f.0 f.1 in
-    let g = then_some (λ class. option_map (λ base. Get (record { class = class; base = base })) (instance_of f.0.1))
+    let g = then_some (λ class. option_map (get_alone class) (instance_of f.0.1))
     (class_of f.0.0) request f.2 in
     let c = map_some Global (oid_under global_form f.0.0) g.0 g.1 in
-    let b = map_some (λ base. Get (record { class = g.0; base = base })) (instance_of f.0.1) request g.2 in
+    let b = map_some (get_alone g.0) (instance_of f.0.1) request g.2 in
     let i = map_some (λ rdns. record { raw = written f.0.1; named = named.Object rdns })
     (option_and_then rdns_of (inside_under local_distinguished_name f.0.1)) b.0 b.1 in
     let base = instance_told f.0.1 i.0 i.1 in
     let class_is : g.0 ≡ Global c.0 = sym c.2 in
     let base_is : b.0 ≡ record { raw = written f.0.1; named = named.Object i.0 } = sym i.2 in
-    let same : request ≡ get_request c.0 i.0 = sym b.2 ∙ (λ k. Get (record { class = class_is k; base = base_is k }))
-    ∙ ap (λ raw. Get (record { class = Global c.0; base = record { raw = raw; named = named.Object i.0 } })) base.1
+    let same : request ≡ get_request c.0 i.0 = sym b.2 ∙ (λ k. get_alone (class_is k) (base_is k))
+    ∙ ap (λ raw. get_alone (Global c.0) (record { raw = raw; named = named.Object i.0 })) base.1
     in (
       c.0,
       i.0,

@@ -3,4 +3,5 @@ mod GetTold
 mod InvocationDenoted
 mod InvokeDenoted
 pub mod PartLaws
+pub mod PlainRequests
 mod PartsDenoted

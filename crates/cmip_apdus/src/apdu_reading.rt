@@ -8,17 +8,25 @@ ghost use Rattle.term_values.specs.Oid.{oid_in};
 ghost use Rattle.term_values.specs.Tree.{listed};
 ghost use Rattle.term_model.specs.ApduReading.{invoke_by, invoke_of};
 ghost use Rattle.term_model.specs.Bind.{title_in, title_of};
-ghost use Rattle.term_model.specs.GetRequest.{invocation_by, invocation_in, assertion_of, get_of, instance_of, rdn_of};
+ghost use Rattle.term_model.specs.declared.request.IdRef.TheVariants as id_ref;
+ghost use Rattle.term_model.specs.GetRequest.{invocation_by, invocation_in, assertion_of, get_alone, get_of};
+ghost use Rattle.term_model.specs.GetRequest.{instance_of, rdn_of};
 ghost use Rattle.term_model.specs.GetRequest.{rdns_of};
 ghost use Rattle.term_model.specs.Parts.{inside_under, oid_under, one, one_under};
 
 use ber_tree::tree_reading::{read_front_tree, read_oid_contents};
 use ber_tree::tree_writing::write_tree;
-use op_object::object_reading::{GLOBAL_FORM, LOCAL_DISTINGUISHED_NAME};
+use result_contents::information::GLOBAL_FORM;
+use result_contents::names::LOCAL_DISTINGUISHED_NAME;
 use rose_frames::parts::{contents_of, inside_of, two_of};
 use rose_frames::{Apdu, ApduRefusal, read_apdu};
 use std::alloc::{AllocError, Global};
-use term_model::{Head, IdRef, Instance, Invocation, Name, Named, Rdn, Request};
+use term_model::request::BEST_EFFORT;
+use term_model::scope::BASE_OBJECT;
+use term_model::{
+    Asked, Filter, FilterForm, Filters, Head, IdRef, Instance, Invocation, Name, Named, Rdn,
+    Request, Scope,
+};
 use term_values::{Bytes, Oid, Tag, Tree};
 
 /// The operation m-Get.
@@ -177,6 +185,27 @@ fn instance_of(alloc: Global, tree: &Tree) -> Result<Option<Instance>, AllocErro
     }
 }
 
+/// The m-Get of this base object alone, for all its attributes: best effort, baseObject and the empty `and`.
+fn get_alone(alloc: Global, class: Oid, base: Instance) -> Request
+    ensures { result ≡ get_alone (id_ref.Global class) base }
+{
+    let filters = Filters {
+        items: Vec::new(alloc),
+    };
+    Request::Get {
+        head: Head {
+            class: IdRef::Global(class),
+            base,
+            sync: BEST_EFFORT,
+            scope: Scope::Plain(BASE_OBJECT),
+            filter: Asked::Good(Filter {
+                form: FilterForm::And(filters),
+            }),
+        },
+        ids: None,
+    }
+}
+
 /// The argument of m-Get.
 fn get_of(alloc: Global, argument: &Tree) -> Result<Option<Request>, AllocError>
     ensures { IfOk result (λ request. request ≡ get_of argument.now) }
@@ -187,12 +216,7 @@ fn get_of(alloc: Global, argument: &Tree) -> Result<Option<Request>, AllocError>
             None => Ok(None),
             Some(class) => match instance_of(alloc, instance)? {
                 None => Ok(None),
-                Some(base) => Ok(Some(Request::Get {
-                    head: Head {
-                        class: IdRef::Global(class),
-                        base,
-                    },
-                })),
+                Some(base) => Ok(Some(get_alone(alloc, class, base))),
             },
         },
     }

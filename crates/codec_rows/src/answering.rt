@@ -1,9 +1,7 @@
 //! From a line to its answer.
 
 use crate::row_fault::RowFault;
-use crate::{
-    apdu_rows, journal_rows, object_rows, schema_rows, script_rows, tree_rows, value_rows,
-};
+use crate::{apdu_rows, encoding_rows, journal_rows, object_rows, schema_rows, script_rows};
 use std::alloc::{AllocError, Global};
 use term_model::Set;
 
@@ -17,9 +15,7 @@ fn answer_call(
     out: &mut String,
 ) -> Result<(), RowFault> {
     match place {
-        "term_values" => value_rows::answer(alloc, call, arguments, out),
-        "ber_tree" => tree_rows::answer(alloc, call, arguments, out),
-        "ber_values" => value_rows::answer_encoding(alloc, call, arguments, out),
+        "ber_values" => encoding_rows::answer(alloc, call, arguments, out),
         "schema" => schema_rows::answer(alloc, schema, call, arguments, out),
         "op_object" => object_rows::answer(alloc, schema, call, arguments, out),
         "cmip_apdus" => apdu_rows::answer(alloc, call, arguments, out),

@@ -6,17 +6,12 @@ use crate::reading;
 use crate::row_fault::RowFault;
 use crate::showing::{show_name, show_octets, show_oid};
 use cmip_apdus::apdu_reading::{invocation_in, title_in};
-use cmip_apdus::apdu_writing::{
-    bind_answer_frame, write_bind, write_frame, write_get, write_reply_frame,
-};
+use cmip_apdus::apdu_writing::{bind_answer_frame, write_bind, write_frame, write_get};
 use std::alloc::{AllocError, Global};
-use term_model::{CmisError, IdRef, Invocation, Named, Reply, Request};
+use term_model::{IdRef, Invocation, Named, Request};
 
 /// The greatest number of an association.
 const LAST_ASSOCIATION: u64 = i64::MAX as u64;
-
-/// The own invoke id of a linked reply.
-const OWN: u32 = 1;
 
 /// The title in a BIND, or `none`.
 fn title_row(alloc: Global, text: &str, out: &mut String) -> Result<(), RowFault> {
@@ -29,8 +24,9 @@ fn title_row(alloc: Global, text: &str, out: &mut String) -> Result<(), RowFault
 
 /// Appends the id of an m-Get, its class, its instance as it is given back, and the name of that.
 fn show_get(found: &Invocation, out: &mut String) -> Result<(), AllocError> {
-    let Request::Get { head } = &found.request;
-    let Named::Object(name) = &head.base.named;
+    let Request::Get { head, .. } = &found.request else {
+        return out.push_str("another request");
+    };
     write!(out, "{}; ", found.id)?;
     match &head.class {
         IdRef::Global(class) => show_oid(class, out)?,
@@ -39,7 +35,11 @@ fn show_get(found: &Invocation, out: &mut String) -> Result<(), AllocError> {
     out.push_str("; ")?;
     show_octets(head.base.raw.as_slice(), out)?;
     out.push_str("; ")?;
-    show_name(name, out)
+    match &head.base.named {
+        Named::NonSpecific => out.push_str("nonSpecificForm"),
+        Named::Nothing => out.push_str("nothing"),
+        Named::Object(name) => show_name(name, out),
+    }
 }
 
 /// The m-Get that an APDU brings, or `none`.
@@ -78,45 +78,6 @@ fn bind_answer_row(alloc: Global, text: &str, out: &mut String) -> Result<(), Ro
     Ok(show_octets(&frame, out)?)
 }
 
-/// The octets of a parameter, or none.
-fn error_of(alloc: Global, code: i64, text: &str) -> Result<CmisError, RowFault> {
-    let parameter = if text.trim() == "none" {
-        None
-    } else {
-        Some(reading::bytes(alloc, text)?)
-    };
-    Ok(CmisError { code, parameter })
-}
-
-/// Appends the frame of a reply; a linked one has the agent's own invoke id 1.
-fn show_reply(
-    alloc: Global,
-    invoke: i64,
-    operation: i64,
-    reply: &Reply,
-    out: &mut String,
-) -> Result<(), AllocError> {
-    let mut frame = Vec::new(alloc);
-    write_reply_frame(invoke, operation, OWN, reply, &mut frame)?;
-    show_octets(&frame, out)
-}
-
-/// The frame of the result of an operation.
-fn result_row(alloc: Global, text: &str, out: &mut String) -> Result<(), RowFault> {
-    let (invoke, operation, value) = reading::three(text)?;
-    let (invoke, operation) = (reading::integer(invoke)?, reading::integer(operation)?);
-    let reply = Reply::Single(reading::bytes(alloc, value)?);
-    Ok(show_reply(alloc, invoke, operation, &reply, out)?)
-}
-
-/// The frame of an error, of this number and with this parameter or `none`.
-fn error_row(alloc: Global, text: &str, out: &mut String) -> Result<(), RowFault> {
-    let (invoke, code, parameter) = reading::three(text)?;
-    let (invoke, code) = (reading::integer(invoke)?, reading::integer(code)?);
-    let reply = Reply::Error(error_of(alloc, code, parameter)?);
-    Ok(show_reply(alloc, invoke, code, &reply, out)?)
-}
-
 /// The BIND of a manager with this title.
 fn bind_row(alloc: Global, text: &str, out: &mut String) -> Result<(), RowFault> {
     let title = reading::oid(alloc, text)?;
@@ -143,8 +104,6 @@ pub fn answer(alloc: Global, call: &str, text: &str, out: &mut String) -> Result
         "write_get" => get_row(alloc, text, out),
         "write_frame" => frame_row(alloc, text, out),
         "bind_answer_frame" => bind_answer_row(alloc, text, out),
-        "result_frame" => result_row(alloc, text, out),
-        "error_frame" => error_row(alloc, text, out),
         _ => Err(RowFault::Call),
     }
 }

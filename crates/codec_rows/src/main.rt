@@ -4,6 +4,7 @@
 
 mod answering;
 mod apdu_rows;
+mod encoding_rows;
 mod journal_rows;
 mod object_rows;
 mod reading;
@@ -11,8 +12,6 @@ mod row_fault;
 mod schema_rows;
 mod script_rows;
 mod showing;
-mod tree_rows;
-mod value_rows;
 
 use answering::answer_line;
 use schema_rows::empty_schema;

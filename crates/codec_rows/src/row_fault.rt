@@ -17,8 +17,6 @@ pub enum RowFault {
     Arcs,
     /// An argument isn't one of the words that the call takes.
     Word,
-    /// The octets of an argument spell no tree.
-    Tree,
     /// There was no memory.
     Memory,
 }
@@ -33,7 +31,6 @@ impl RowFault {
             RowFault::Number => "unreadable: no number in the range",
             RowFault::Arcs => "unreadable: no arcs of an identifier",
             RowFault::Word => "unreadable: no such word",
-            RowFault::Tree => "unreadable: the octets are no tree",
             RowFault::Memory => "failed: no memory",
         }
     }

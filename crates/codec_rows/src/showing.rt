@@ -2,7 +2,7 @@
 
 use std::alloc::AllocError;
 use term_model::Name;
-use term_values::{Body, Oid, Tag, Tree, Trees};
+use term_values::Oid;
 
 /// So many equal octets and more in a row are a word of their own.
 const LONG_RUN: usize = 16;
@@ -59,40 +59,6 @@ pub fn show_name(name: &Name, out: &mut String) -> Result<(), AllocError> {
         out.push_str("=")?;
         show_octets(part.value.as_slice(), out)?;
         between = ", ";
-    }
-    Ok(())
-}
-
-/// Appends the class and the number of a tag.
-pub fn show_tag(tag: Tag, out: &mut String) -> Result<(), AllocError> {
-    write!(out, "{}.{}", tag.class, tag.number)
-}
-
-/// Appends a tree: its tag, and its contents octets, or the values inside it in brackets.
-#[cycle(showing)]
-pub fn show_tree(tree: &Tree, out: &mut String) -> Result<(), AllocError> {
-    show_tag(tree.tag, out)?;
-    match &tree.body {
-        Body::Prim(contents) => {
-            out.push_str(" ")?;
-            show_octets(contents.as_slice(), out)
-        }
-        Body::Cons(inside) => {
-            out.push_str(" (")?;
-            show_trees(inside, out)?;
-            out.push_str(")")
-        }
-    }
-}
-
-/// Appends trees, with commas between them.
-#[cycle(showing)]
-fn show_trees(trees: &Trees, out: &mut String) -> Result<(), AllocError> {
-    for (i, tree) in trees.items.iter().enumerate() {
-        if i > 0 {
-            out.push_str(", ")?;
-        }
-        show_tree(tree, out)?;
     }
     Ok(())
 }

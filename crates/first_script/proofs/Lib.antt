@@ -1,2 +1,3 @@
 mod ScriptFacts
 pub mod ScriptLaws
+pub mod WrittenGets

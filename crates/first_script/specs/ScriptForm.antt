@@ -6,9 +6,8 @@ use Rattle.term_model.specs.declared.name.Rdn.{Rdn}
 use Rattle.term_model.specs.declared.request.Invocation.{Invocation}
 use Rattle.term_model.specs.declared.request.IdRef.TheVariants.{Global}
 use Rattle.term_model.specs.declared.request.Named.TheVariants as named
-use Rattle.term_model.specs.declared.request.Request.TheVariants.{Get}
 use Rattle.term_model.specs.Bind.{bind, title_in}
-use Rattle.term_model.specs.GetRequest.{invocation_in, get_apdu}
+use Rattle.term_model.specs.GetRequest.{get_alone, get_apdu, invocation_in}
 use Rattle.term_model.specs.Texts.{line_feed}
 
 -- the most octets of a line
@@ -33,7 +32,7 @@ get_request id class raw name =
     record {
       id = id;
       request =
-          Get (record { class = Global class; base = record { raw = raw; named = named.Object name } });
+          get_alone (Global class) (record { raw = raw; named = named.Object name });
     }
 
 -- the one written invoke of m-Get for an object of this class

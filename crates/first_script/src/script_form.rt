@@ -5,6 +5,7 @@ ghost use Rattle.std.specs.Prelude.{◌≡◌, ◌≢◌, ◌↔◌, ◌<◌, �
 ghost use Rattle.std.specs.Prelude.{IfSome, IsSome, IsTrue};
 ghost use Rattle.hex.specs.Hex.{encode_upper};
 ghost use Rattle.term_model.specs.Bind.{title_in};
+ghost use Rattle.term_model.specs.GetRequest.{get_apdu};
 ghost use Rattle.first_script.specs.ScriptForm.{IsFirstLine, IsHeld, IsOpening, IsScript, IsSending, IsSends};
 ghost use Rattle.first_script.specs.ScriptForm.{IsUnbroken, IsWrittenBind, IsWrittenGet, most_octets};
 
@@ -13,7 +14,7 @@ use cmip_apdus::apdu_reading::{invocation_in, title_in};
 use cmip_apdus::apdu_writing::{write_bind, write_get};
 use hex::FromHexError;
 use std::alloc::{AllocError, Global};
-use term_model::{IdRef, Named, Request};
+use term_model::{IdRef, Invocation, Name, Named, Request};
 use term_values::{Bytes, Oid};
 
 /// A script: the BIND of its association, and the APDUs that this sends, each with the octets of its line.
@@ -108,6 +109,23 @@ fn is_written_bind(alloc: Global, octets: &[u8]) -> Result<bool, AllocError>
     }
 }
 
+/// Whether a class is the wanted one, and octets are the one written invoke of m-Get for the object of it with this
+/// name, under the invoke id of the invocation.
+fn is_get_of(
+    alloc: Global,
+    octets: &[u8],
+    called: &Invocation,
+    class: &Oid,
+    wanted: &Oid,
+    name: &Name,
+) -> Result<bool, AllocError>
+    ensures { IfOk result (λ is. IsTrue is
+        ↔ ((class.now ≡ wanted.now) × (octets.now ≡ get_apdu called.now.id class.now name.now))) }
+{
+    let written = write_get(alloc, i64::from(called.id), class, &name.parts)?;
+    Ok(*class == *wanted && written.as_slice() == octets)
+}
+
 /// Whether octets are the one written invoke of m-Get for an object of this class.
 fn is_written_get(alloc: Global, octets: &[u8], class: &Oid) -> Result<bool, AllocError>
     ensures { IfOk result (λ is. IsTrue is ↔ IsWrittenGet class.now octets.now) }
@@ -115,14 +133,14 @@ fn is_written_get(alloc: Global, octets: &[u8], class: &Oid) -> Result<bool, All
     match invocation_in(alloc, octets)? {
         None => Ok(false),
         Some(invocation) => {
-            let Request::Get { head } = &invocation.request;
-            let Named::Object(name) = &head.base.named;
-            match &head.class {
-                IdRef::Global(id) => {
-                    let written = write_get(alloc, i64::from(invocation.id), id, &name.parts)?;
-                    Ok(*id == *class && written.as_slice() == octets)
+            let Request::Get { head, .. } = &invocation.request else {
+                return Ok(false);
+            };
+            match (&head.class, &head.base.named) {
+                (IdRef::Global(id), Named::Object(name)) => {
+                    is_get_of(alloc, octets, &invocation, id, class, name)
                 }
-                IdRef::Local(_) => Ok(false),
+                _ => Ok(false),
             }
         }
     }

@@ -1,6 +1,7 @@
 -- A granted operation is carried out, and then it has ended.
 use Rattle.std.proofs.Common.{◌≡◌, ℕ, ℤ, true, false, List, ◌∷◌, [], Option, Some, None, refl, sym, ap, ◌∙◌}
-use Rattle.std.specs.Prelude.{is_some, option_and_then}
+use Rattle.std.proofs.lemmas.List.{append-nil}
+use Rattle.std.specs.Prelude.{zero, suc, ◌-◌, is_some, option_and_then, slice_get, slice_set}
 use Rattle.std.specs.Option.{option_map, option_map_or}
 use Rattle.std.proofs.lemmas.Option.{same_Some}
 use Rattle.term_model.specs.declared.agent_state.AgentState.{AgentState}
@@ -9,14 +10,17 @@ use Rattle.term_model.specs.declared.agent_state.Work.{Work}
 use Rattle.term_model.specs.declared.agent_state.Work.TheVariants as work
 use Rattle.term_model.specs.declared.entry.Entry.TheVariants.{Committed}
 use Rattle.term_model.specs.declared.reply.Reply.{Reply}
+use Rattle.term_model.specs.declared.agent_state.Association.{Association}
+use Rattle.term_model.specs.declared.request.Head.{Head}
+use Rattle.term_model.specs.declared.request.IdRef.{IdRef}
 use Rattle.term_model.specs.declared.request.Request.{Request}
 use Rattle.term_model.specs.declared.request.Request.TheVariants.{Get}
 use Rattle.term_model.specs.AgentState.{granted_moment, operation_of}
 use Rattle.term_model.specs.GetRequest.{m_get}
 use Rattle.term_values.specs.Moment.{moment_text}
-use Rattle.term_model.specs.NamedObjects.{object_at}
-use Rattle.term_model.specs.Operation.{get_reply, name_of}
-use Rattle.term_model.specs.Step.{carried_out, changed_association, counted, ended, is_legal, step, with_replies}
+use Rattle.term_model.specs.Operation.{get_reply, operation_number}
+use Rattle.term_model.specs.Step.{carried_out, changed_association, counted, ended, is_legal, step}
+use Rattle.term_model.specs.Step.{with_replies}
 use Rattle.term_model.proofs.StepLaws.{StandsAt, committed_at, stands_from_some}
 use Rattle.one_manager_agent.specs.Playing.{granted_text}
 
@@ -83,19 +87,42 @@ pub carried_steps : (agent after : AgentState) (number : ℕ) (text : List ℕ) 
 carried_steps agent after number text g e =
     ap (λ s. counted (ended s number)) e ∙ sym (committed_at agent number g.moment g.o g.is g.at)
 
--- what a request is answered at a moment with this text
-abbrev pub answer_to : AgentState → Request → List ℕ → Reply
-answer_to agent (Get head) time = get_reply agent.schema head.base time (object_at agent.objects (name_of head.base))
-
 -- a Get is carried out when its reply is placed
-pub carried_get : (agent : AgentState) (o : Operation) (association : ℕ) (invoke : ℤ) (request : Request) (moment : ℕ)
-    (time : List ℕ) (reply : Reply) → o.work ≡ work.Asked association invoke request → time ≡ moment_text moment
-    → reply ≡ answer_to agent request time
+pub carried_get : (agent : AgentState) (o : Operation) (association : ℕ) (invoke : ℤ) (head : Head) (ids : Option (List
+    IdRef)) (moment : ℕ) (time : List ℕ) (reply : Reply) → o.work ≡ work.Asked association invoke (Get head ids)
+    → time ≡ moment_text moment → reply ≡ get_reply agent.schema agent.objects head.base time
     → record agent {
       associations = changed_association agent.associations association (with_replies invoke m_get (reply ∷ []));
     } ≡ carried_out agent o.work moment
-carried_get agent o association invoke (Get head) moment time reply is told answers =
+carried_get agent o association invoke head ids moment time reply is told answers =
     ap (λ r. record agent {
       associations = changed_association agent.associations association (with_replies invoke m_get (r ∷ []));
-    }) (answers ∙ ap (answer_to agent (Get head)) told)
+    }) (answers ∙ ap (get_reply agent.schema agent.objects head.base) told)
     ∙ ap (λ w. carried_out agent w moment) (sym is)
+
+-- no reply changes nothing
+set_same : {A : Type 0} (xs : List A) (i : ℕ) (x : A) → slice_get xs i ≡ Some x → slice_set xs i x ≡ xs
+set_same [] i x e = refl
+set_same (y ∷ ys) zero x e = ap (λ z. z ∷ ys) (sym (same_Some y x e))
+set_same (y ∷ ys) (suc i) x e = ap (λ zs. y ∷ zs) (set_same ys i x e)
+
+unchanged_at : (xs : List Association) (i : ℕ) (change : Association → Association) → ((a : Association) → change a ≡ a)
+    → (found : Option Association) → slice_get xs i ≡ found
+    → option_map_or (λ a. slice_set xs i (change a)) found xs ≡ xs
+unchanged_at xs i change same None e = refl
+unchanged_at xs i change same (Some a) e = ap (slice_set xs i) (same a) ∙ set_same xs i a e
+
+no_replies : (xs : List Association) (association : ℕ) (invoke number : ℤ)
+    → changed_association xs association (with_replies invoke number []) ≡ xs
+no_replies xs association invoke number =
+    unchanged_at xs (association - 1) (with_replies invoke number [])
+    (λ a. ap (λ placed. record a { placed = placed }) (append-nil a.placed)) (slice_get xs (association - 1)) refl
+
+-- a request that is no Get changes nothing so far
+pub carried_other : (agent : AgentState) (association : ℕ) (invoke : ℤ) (request : Request) (moment : ℕ)
+    → ((head : Head) (ids : Option (List IdRef)) → request ≡ Get head ids → ⊥)
+    → agent ≡ carried_out agent (work.Asked association invoke request) moment
+carried_other agent association invoke (Get head ids) moment other = absurd (other head ids refl)
+carried_other agent association invoke request moment other =
+    sym (ap (λ associations. record agent { associations = associations })
+    (no_replies agent.associations association invoke (operation_number request)))

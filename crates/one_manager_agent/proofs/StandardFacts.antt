@@ -1,6 +1,6 @@
 -- Examples of docs/PROFILE.md, section 7, computed from the definitions: an agent before any entry, and the one that a
 -- BIND was answered to, with all of the answer taken.
-use Rattle.std.specs.Prelude.{◌≡◌, List, ℕ, [], ◌∷◌, None, Some, refl}
+use Rattle.std.specs.Prelude.{◌≡◌, List, ℕ, pos, [], ◌∷◌, None, Some, refl}
 use Rattle.term_values.specs.Oid.{subidentifier, oid_in}
 use Rattle.term_values.specs.Octets.{integer_contents}
 use Rattle.term_values.specs.Der.{identifier_octets, length_octets}
@@ -49,7 +49,7 @@ abbrev manager : Association
 manager = record {
   title = Some (2 ∷ 999 ∷ 11 ∷ 1 ∷ []);
   state = Live;
-  next_own = 1;
+  next_own = pos 1;
   placed = answer_frame;
   taken = 12;
 }
@@ -63,7 +63,7 @@ after_the_bind = record { association = manager; one = refl; live = refl; taken 
 
 -- of the twelve octets of the answer all are taken
 abbrev partly_taken : ℕ → Association
-partly_taken count = record { title = None; state = Live; next_own = 1; placed = answer_frame; taken = count }
+partly_taken count = record { title = None; state = Live; next_own = pos 1; placed = answer_frame; taken = count }
 
 answer_taken : with_placed_taken (partly_taken 3) ≡ partly_taken 12
 answer_taken = refl

@@ -26,7 +26,7 @@ const ACCEPTED: u8 = 0;
 const BAD_BIND: u8 = 2;
 
 /// The first of the agent's own invoke ids.
-const FIRST_OWN: u32 = 1;
+const FIRST_OWN: i32 = 1;
 
 /// Adds an association under the next number.
 fn add_association(agent: &mut AgentState, association: Association) -> Result<(), AllocError>

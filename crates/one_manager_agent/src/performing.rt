@@ -4,30 +4,40 @@ ghost use Rattle.std.specs.Prelude.{ℕ, ◌≡◌, ◌+◌, ◌^◌, ◌<◌, �
 ghost use Rattle.term_model.specs.declared.agent_state.Operation.{Operation};
 ghost use Rattle.term_model.specs.AgentState.{numbered, operation_of};
 ghost use Rattle.term_values.specs.Moment.{moment_text};
-ghost use Rattle.term_model.specs.Operation.{get_reply, name_of, no_such_object_instance};
-ghost use Rattle.term_model.specs.NamedObjects.{object_at};
+ghost use Rattle.term_model.specs.Operation.{get_reply, invalid_object_instance, no_such_object_instance};
+ghost use Rattle.term_model.specs.declared.reply.Reply.TheVariants as replies;
 ghost use Rattle.term_model.specs.Step.{carried_out, changed_association, step, with_replies};
 ghost use Rattle.one_manager_agent.specs.Playing.{granted_text};
 
 use crate::agent_steps::set_operation_state;
 use cmip_apdus::apdu_reading::M_GET;
-use cmip_apdus::apdu_writing::{own_behind, write_reply_frame};
+use cmip_replies::{own_behind, write_reply};
 use op_object::object_reading::get_one;
 use std::alloc::{AllocError, Global};
-use term_model::reply::NO_SUCH_OBJECT_INSTANCE;
+use term_model::reply::{INVALID_OBJECT_INSTANCE, NO_SUCH_OBJECT_INSTANCE};
 use term_model::{
     AgentState, Association, CmisError, Entry, Instance, Named, Objects, Operation, OperationState,
     Operations, Reply, Request, Set, Work,
 };
 
 /// noSuchObjectInstance, with the instance as it came: X.711, section 7.5.
-fn no_such_instance(alloc: Global, base: &Instance) -> Result<CmisError, AllocError>
-    ensures { IfOk result (λ error. error ≡ no_such_object_instance base.now) }
+fn no_such_instance(alloc: Global, base: &Instance) -> Result<Reply, AllocError>
+    ensures { IfOk result (λ reply. reply ≡ replies.Error (no_such_object_instance base.now)) }
 {
-    Ok(CmisError {
+    Ok(Reply::Error(CmisError {
         code: NO_SUCH_OBJECT_INSTANCE,
         parameter: Some(base.raw.copy(alloc)?),
-    })
+    }))
+}
+
+/// invalidObjectInstance, with the instance as it came: X.711, section 7.5.
+fn invalid_instance(alloc: Global, base: &Instance) -> Result<Reply, AllocError>
+    ensures { IfOk result (λ reply. reply ≡ replies.Error (invalid_object_instance base.now)) }
+{
+    Ok(Reply::Error(CmisError {
+        code: INVALID_OBJECT_INSTANCE,
+        parameter: Some(base.raw.copy(alloc)?),
+    }))
 }
 
 /// What the agent answers to a Get of this base object, granted at the moment that `time` tells.
@@ -38,13 +48,15 @@ fn answer_get(
     base: &Instance,
     time: &[u8],
 ) -> Result<Reply, AllocError>
-    ensures { IfOk result (λ reply. reply
-        ≡ get_reply schema.now base.now time.now (object_at objects.now (name_of base.now))) }
+    ensures { IfOk result (λ reply. reply ≡ get_reply schema.now objects.now base.now time.now) }
 {
-    let Named::Object(name) = &base.named;
-    match objects.find(name) {
-        Some(object) => Ok(Reply::Single(get_one(alloc, schema, &name.parts, object, time)?)),
-        None => Ok(Reply::Error(no_such_instance(alloc, base)?)),
+    match &base.named {
+        Named::NonSpecific => invalid_instance(alloc, base),
+        Named::Nothing => no_such_instance(alloc, base),
+        Named::Object(name) => match objects.find(name) {
+            Some(object) => Ok(Reply::Single(get_one(alloc, schema, &name.parts, object, time)?)),
+            None => no_such_instance(alloc, base),
+        },
     }
 }
 
@@ -59,13 +71,7 @@ fn place_frame(
     ensures kept { OnErr result (association.new ≡ association.old) }
 {
     let own = association.next_own;
-    write_reply_frame(
-        i64::from(invoke),
-        operation,
-        own,
-        reply,
-        &mut association.placed.items,
-    )?;
+    write_reply(reply, operation, invoke, own, &mut association.placed.items)?;
     association.next_own = own_behind(own, reply);
     Ok(())
 }
@@ -121,9 +127,13 @@ fn carry_out(
             request,
         } => {
             let (association, invoke) = (*association, *invoke);
-            let Request::Get { head } = request;
-            let reply = answer_get(alloc, &agent.schema, &agent.objects, &head.base, time)?;
-            place_reply(agent, association, invoke, M_GET, &reply)
+            match request {
+                Request::Get { head, .. } => {
+                    let reply = answer_get(alloc, &agent.schema, &agent.objects, &head.base, time)?;
+                    place_reply(agent, association, invoke, M_GET, &reply)
+                }
+                _ => Ok(()),
+            }
         }
     }
 }

@@ -47,12 +47,13 @@ impl Model for Play {
     ghost use Rattle.std.specs.Coded.{codes};
     ghost use Rattle.term_values.specs.SyntaxCode.{syntax_code};
     ghost use Rattle.term_values.specs.Typed.{value_code};
+    ghost use Rattle.term_model.specs.contracts.filter.Filter as filter;
     ghost use Rattle.term_model.specs.Played.{Play};
     ghost use Rattle.one_manager_agent.specs.Playing.{IsJournaled, IsTold};
 
     ghost Value = { Play };
 
-    ghost coded = { Prim.hlevel (codes, value_code, syntax_code) };
+    ghost coded = { Prim.hlevel (codes, value_code, syntax_code, filter.the_row.coded) };
 
     ghost view = { λ play. record { agent = play.agent; journal = play.journal.items; moment = play.moment } };
 

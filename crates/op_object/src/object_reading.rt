@@ -2,33 +2,23 @@
 //! length of each part is known when its header is written.
 #![tactic(auto, using(ber_tree::proofs::Extending::extending))]
 
-ghost use Rattle.std.specs.Prelude.{◌≡◌, ◌++◌, IfOk, OnOk, flat_map, map, reverse, true};
+ghost use Rattle.std.specs.Prelude.{◌≡◌, ◌++◌, IfOk, OnOk, map, reverse, true};
 ghost use Rattle.ber_tree.specs.Writing.{Extends};
 ghost use Rattle.term_values.specs.Rearranged.{joined, rising};
-ghost use Rattle.term_model.specs.GetRequest.{assertion_octets, class_octets, instance_octets, rdn_octets};
+ghost use Rattle.term_model.specs.GetRequest.{class_octets, instance_octets};
 ghost use Rattle.term_model.specs.ObjectOperation.{attribute_octets, attributes_octets, get_one, readable, time_octets};
 ghost use Rattle.term_model.specs.ObjectOperation.{value_octets};
 
 use crate::property_lists::readable_attributes;
-use ber_tree::tree_writing::{reverse_from, write_backwards, write_header_backwards};
+use ber_tree::tree_writing::{reverse_from, write_header_backwards};
 use ber_tree::value_writing::{write_oid_backwards, write_value_backwards};
 use ber_values::encoding::{encode_backwards, write_rising};
+use result_contents::information::GLOBAL_FORM;
+use result_contents::names::write_instance;
 use std::alloc::{AllocError, Global};
 use term_model::{AttrRecs, Attribute, Attrs, Object, Rdn, Set};
 use term_values::tag::CONTEXT;
 use term_values::{Bytes, Tag};
-
-/// The tag of globalForm: X.711, ObjectClass and AttributeId.
-pub const GLOBAL_FORM: Tag = Tag {
-    class: CONTEXT,
-    number: 0,
-};
-
-/// The tag of localDistinguishedName: X.711, ObjectInstance.
-pub const LOCAL_DISTINGUISHED_NAME: Tag = Tag {
-    class: CONTEXT,
-    number: 4,
-};
 
 /// The tag of currentTime in a result.
 const CURRENT_TIME: Tag = Tag {
@@ -123,54 +113,6 @@ fn readable_members(alloc: Global, schema: &Set, object: &Object) -> Result<Vec<
         }
     }
     Ok(members)
-}
-
-/// Appends the assertion of an RDN, the last octet first.
-fn write_assertion(rdn: &Rdn, into: &mut Vec<u8>) -> Result<(), AllocError>
-    ensures written { OnOk result
-        (into.new.items ≡ into.old.items ++ reverse (assertion_octets rdn.now)) }
-    ensures begun { Extends into.old.items into.new.items }
-{
-    let start = into.as_slice().len();
-    write_backwards(rdn.value.as_slice(), into)?;
-    write_oid_backwards(Tag::OBJECT_IDENTIFIER, &rdn.attribute, into)?;
-    let size = into.as_slice().len() - start;
-    write_header_backwards(true, Tag::SEQUENCE, size, into)
-}
-
-/// Appends an RDN of one assertion, the last octet first.
-fn write_rdn(rdn: &Rdn, into: &mut Vec<u8>) -> Result<(), AllocError>
-    ensures written { OnOk result (into.new.items ≡ into.old.items ++ reverse (rdn_octets rdn.now)) }
-    ensures begun { Extends into.old.items into.new.items }
-{
-    let start = into.as_slice().len();
-    write_assertion(rdn, into)?;
-    let size = into.as_slice().len() - start;
-    write_header_backwards(true, Tag::SET, size, into)
-}
-
-/// Appends the RDNs of a name, the last octet first.
-fn write_rdns(name: &[Rdn], into: &mut Vec<u8>) -> Result<(), AllocError>
-    ensures written { OnOk result
-        (into.new.items ≡ into.old.items ++ reverse (flat_map rdn_octets name.now)) }
-    ensures begun { Extends into.old.items into.new.items }
-{
-    for i in (0..name.len()).rev() {
-        write_rdn(&name[i], into)?;
-    }
-    Ok(())
-}
-
-/// Appends an ObjectInstance in localDistinguishedName, the last octet first.
-pub fn write_instance(name: &[Rdn], into: &mut Vec<u8>) -> Result<(), AllocError>
-    ensures written { OnOk result
-        (into.new.items ≡ into.old.items ++ reverse (instance_octets name.now)) }
-    ensures begun { Extends into.old.items into.new.items }
-{
-    let start = into.as_slice().len();
-    write_rdns(name, into)?;
-    let size = into.as_slice().len() - start;
-    write_header_backwards(true, LOCAL_DISTINGUISHED_NAME, size, into)
 }
 
 /// Appends the attributes that a Get without a list gives, the last octet first.

@@ -1,0 +1,2 @@
+pub mod FailureForms
+pub mod ResultForms
