@@ -1,0 +1,3 @@
+pub mod RangeSets
+pub mod RangeSteps
+pub mod OneRest
