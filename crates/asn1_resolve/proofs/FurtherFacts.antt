@@ -18,7 +18,7 @@ use Rattle.asn1_resolve.specs.ModuleTerms.PresenceTerm.{Needed, DefaultTerm}
 use Rattle.asn1_resolve.specs.ModuleTerms.TypeTerm.{Structure, Repeated, Plain, Reference}
 use Rattle.asn1_resolve.specs.ModuleTerms.MemberTerms.{NoMembers, Member}
 use Rattle.asn1_resolve.specs.Constraining.{Narrows}
-use Rattle.asn1_resolve.specs.Constraining.IsRising.{last}
+use Rattle.range_sets.specs.RangeSets.IsRising.{last}
 use Rattle.asn1_resolve.specs.Constraining.Narrows.{values, tagged}
 use Rattle.asn1_resolve.specs.Containment.IsMember.{first, behind}
 use Rattle.asn1_resolve.specs.Containment.Within.{itself}

@@ -7,7 +7,6 @@ use Rattle.token_grammar.specs.Form.{Bare}
 use Rattle.term_values.specs.CmipTypes.{attribute_id}
 use Rattle.term_values.specs.Syntaxes.TypeSyntax.{NullType, Choice, Tagged}
 use Rattle.term_values.specs.Syntaxes.TypeParts.{NoParts, Part as APart}
-use Rattle.term_values.specs.Bounded.{allowed, one_allows}
 use Rattle.term_values.specs.Tag.{context}
 use Rattle.term_values.specs.UniversalTags.{null, integer}
 use Rattle.asn1_resolve.specs.ModuleTerms.{TagTerm, PresenceTerm, TypeTerm, MemberTerms, ModuleTerm}
@@ -18,8 +17,6 @@ use Rattle.asn1_resolve.specs.ModuleTerms.PresenceTerm.{Needed, OptionalTerm}
 use Rattle.asn1_resolve.specs.ModuleTerms.TypeTerm.{Under, Alternatives, Plain}
 use Rattle.asn1_resolve.specs.ModuleTerms.MemberTerms.{NoMembers, Member}
 use Rattle.asn1_resolve.specs.ModuleTerms.AssignedTerm.{AssignsValue}
-use Rattle.asn1_resolve.specs.Constraining.{Leaves}
-use Rattle.asn1_resolve.specs.Constraining.IsRising.{last}
 use Rattle.asn1_resolve.specs.Constraining.Constrains.{no_more}
 use Rattle.asn1_resolve.specs.DenotedSyntax.{has_implicit_default, Denotes}
 use Rattle.asn1_resolve.specs.DenotedSyntax.PlainDenotes.{one_word}
@@ -114,30 +111,6 @@ value_meaning_example = refl
 
 named_number_example : IsNumber numbers 0 (Called (word 70 (codes "three"))) (pos 3)
 named_number_example = value_is value_meaning_example digits_example
-
--- 0 to 2 and 1 to 5 leave 1 to 2
-range_rest : (n : ℤ) → allowed ((pos 1, pos 2) ∷ []) n ≡ (allowed ((pos 0, pos 2) ∷ []) n && one_allows
-    ((pos 1, pos 5) ∷ []) n)
-range_rest (negsuc k) = refl
-range_rest (pos zero) = refl
-range_rest (pos (suc zero)) = refl
-range_rest (pos (suc (suc zero))) = refl
-range_rest (pos (suc (suc (suc k)))) = grind arith
-
-leaves_example : Leaves ((pos 0, pos 2) ∷ []) ((pos 1, pos 5) ∷ []) ((pos 1, pos 2) ∷ [])
-leaves_example = record { stated = inl (last (omega arith)); same = range_rest }
-
--- 0 to 1 and 3 leave nothing, which is stated by a pair that holds none
-nothing_rest : (n : ℤ) → allowed ((pos 1, pos 0) ∷ []) n ≡ (allowed ((pos 0, pos 1) ∷ []) n && one_allows
-    ((pos 3, pos 3) ∷ []) n)
-nothing_rest (negsuc k) = refl
-nothing_rest (pos zero) = refl
-nothing_rest (pos (suc zero)) = refl
-nothing_rest (pos (suc (suc zero))) = refl
-nothing_rest (pos (suc (suc (suc k)))) = grind arith
-
-empty_example : Leaves ((pos 0, pos 1) ∷ []) ((pos 3, pos 3) ∷ []) ((pos 1, pos 0) ∷ [])
-empty_example = record { stated = inr refl; same = nothing_rest }
 
 -- [3] CHOICE { a NULL } in a module with implicit tags is explicit, and [3] IMPLICIT NULL is implicit
 abbrev tag_three : TagTerm

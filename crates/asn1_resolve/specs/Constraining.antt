@@ -1,7 +1,7 @@
 -- Constraining: what constraints leave of a type: the numbers, or sizes, that the type allows and each of them does
 -- (X.680, sections 49 to 51; docs/PROFILE.md, section 11).
-use Rattle.std.specs.Prelude.{◌≡◌, ◌⊎◌, ◌≤ℤ◌, ◌<ℤ◌, ◌+ℤ◌, ℕ, ℤ, pos, List, [], ◌∷◌, Bool, true, false, ◌&&◌}
-use Rattle.term_values.specs.Bounded.{allowed, one_allows}
+use Rattle.std.specs.Prelude.{ℕ, ℤ, List, [], ◌∷◌, Bool, true, false}
+use Rattle.range_sets.specs.RangeSets.{Leaves}
 use Rattle.term_values.specs.Syntaxes.{Named, Bounds, TypeSyntax}
 use Rattle.term_values.specs.Syntaxes.TypeSyntax.{Integer, BitString, OctetString, TextString, SequenceOf, SetOf}
 use Rattle.term_values.specs.Syntaxes.TypeSyntax.{Tagged}
@@ -10,21 +10,6 @@ use Rattle.term_values.specs.declared.tag.Tag.{Tag}
 use Rattle.asn1_resolve.specs.ModuleTerms.{RangeTerm, LimitTerm, TypeTerm, ModuleTerm}
 use Rattle.asn1_resolve.specs.ModuleTerms.LimitTerm.{SizeLimit, ValueLimit}
 use Rattle.asn1_resolve.specs.WholeNumbers.{IsRange}
-
--- pairs that rise, each of which holds a number, with a number between each and the next that none holds
-pub data IsRising : Bounds → Type 0 where
-  last : {pair : ℤ × ℤ} → pair.0 ≤ℤ pair.1 → IsRising (pair ∷ [])
-  more : {pair next : ℤ × ℤ} {rest : Bounds} → pair.0 ≤ℤ pair.1 → (pair.1 +ℤ pos 1) <ℤ next.0 →
-      IsRising (next ∷ rest) → IsRising (pair ∷ next ∷ rest)
-
--- the one form of bounds that are stated: rising pairs, or where no number is left a pair that holds none
-abbrev pub IsStated : Bounds → Type 0
-IsStated bounds = IsRising bounds ⊎ (bounds ≡ (pos 1, pos 0) ∷ [])
-
--- the bounds that are left of others by ranges
-pub record Leaves (before : Bounds) (ranges : List (ℤ × ℤ)) (after : Bounds) : Type 0 where
-  pub stated : IsStated after
-  pub same : (n : ℤ) → allowed after n ≡ (allowed before n && one_allows ranges n)
 
 -- what ranges leave of a syntax: of INTEGER the values, of strings and lists the sizes, of a tagged type what they
 -- leave of the type beneath

@@ -1,8 +1,9 @@
 //! The syntaxes that types denote (X.680, sections 17 to 51).
 
-use crate::name_tables::{Meaning, NameTables};
-use crate::numbers::{Base, NumberFound, NumberMap, Numbers, bound_text, number_map, token_text};
-use crate::ranges::leave;
+use crate::name_tables::Meaning;
+use crate::named_numbers::{NumberMap, number_map};
+use crate::narrowing::narrow;
+use crate::numbers::{Base, NumberFound, Numbers, bound_text, token_text};
 use crate::standard_module::{StandardType, standard_syntax};
 use crate::tag_sets::{MOST_NODES, tag_of};
 use crate::tag_texts::is_explicit;
@@ -24,7 +25,6 @@ use token_grammar::token_tests::is_word_of;
 #[derive(Drop)]
 pub struct Builder<'f, 'a> {
     pub alloc: Global,
-    pub tables: &'f NameTables<'a>,
     pub numbers: &'f Numbers<'a>,
 }
 
@@ -58,28 +58,6 @@ fn number_or_zero(found: NumberFound) -> i64 {
     }
 }
 
-/// What ranges leave of a syntax.
-fn narrow(alloc: Global, syntax: Syntax, stated: Vec<(i64, i64)>) -> Result<Syntax, AllocError> {
-    let Syntax { form } = syntax;
-    let form = match form {
-        SyntaxForm::Int(names, before) => SyntaxForm::Int(names, leave(alloc, before, stated)?),
-        SyntaxForm::Bits(names, before) => SyntaxForm::Bits(names, leave(alloc, before, stated)?),
-        SyntaxForm::Octets(before) => SyntaxForm::Octets(leave(alloc, before, stated)?),
-        SyntaxForm::Text(charset, before) => SyntaxForm::Text(
-            charset,
-            leave(alloc, before, stated)?,
-        ),
-        SyntaxForm::ListOf(of, before) => SyntaxForm::ListOf(of, leave(alloc, before, stated)?),
-        SyntaxForm::SetOf(of, before) => SyntaxForm::SetOf(of, leave(alloc, before, stated)?),
-        SyntaxForm::Tagged(tag, explicit, of) => {
-            let inner = narrow(alloc, Box::into_inner(of), stated)?;
-            SyntaxForm::Tagged(tag, explicit, Box::new(alloc, inner)?)
-        }
-        other => other,
-    };
-    Ok(Syntax { form })
-}
-
 impl<'f, 'a> Builder<'f, 'a> {
     fn pairs(
         &self,
@@ -92,14 +70,11 @@ impl<'f, 'a> Builder<'f, 'a> {
         for range in ranges.iter() {
             let least = number_or_zero(
                 self.numbers
-                    .bound(self.tables, module, base, own, bound_text(&range.lower)),
+                    .bound(module, base, own, bound_text(&range.lower)),
             );
             let greatest = match &range.upper {
                 Some(upper) => {
-                    number_or_zero(
-                        self.numbers
-                            .bound(self.tables, module, base, own, bound_text(upper)),
-                    )
+                    number_or_zero(self.numbers.bound(module, base, own, bound_text(upper)))
                 }
                 None => least,
             };
@@ -118,7 +93,7 @@ impl<'f, 'a> Builder<'f, 'a> {
         if constraints.is_empty() {
             return Ok(syntax);
         }
-        let base = self.numbers.base(self.tables, module, of);
+        let base = self.numbers.base(module, of);
         let own = number_map(self.alloc, of)?;
         let mut left = syntax;
         for constraint in constraints.iter() {
@@ -135,10 +110,7 @@ impl<'f, 'a> Builder<'f, 'a> {
     fn named_integers(&self, module: usize, numbers: &[NamedInteger]) -> Result<Names, AllocError> {
         let mut items = Vec::new(self.alloc);
         for named in numbers.iter() {
-            let number = number_or_zero(
-                self.numbers
-                    .number(self.tables, module, bound_text(&named.number)),
-            );
+            let number = number_or_zero(self.numbers.number(module, bound_text(&named.number)));
             items.push((
                 Bytes::from_slice(self.alloc, named.name.text.as_slice())?,
                 number,
@@ -150,10 +122,7 @@ impl<'f, 'a> Builder<'f, 'a> {
     fn named_bits(&self, module: usize, bits: &[NamedBit]) -> Result<Names, AllocError> {
         let mut items = Vec::new(self.alloc);
         for named in bits.iter() {
-            let number = number_or_zero(
-                self.numbers
-                    .number(self.tables, module, token_text(&named.number)),
-            );
+            let number = number_or_zero(self.numbers.number(module, token_text(&named.number)));
             items.push((
                 Bytes::from_slice(self.alloc, named.name.text.as_slice())?,
                 number,
@@ -268,11 +237,11 @@ impl<'f, 'a> Builder<'f, 'a> {
         mode: &Option<Token>,
         inner: Syntax,
     ) -> Result<Syntax, AllocError> {
-        let own = match tag_of(self.numbers, self.tables, module, tag) {
+        let own = match tag_of(self.numbers, module, tag) {
             Some(own) => own,
             None => Tag::NULL,
         };
-        let explicit = match self.tables.modules().get(module) {
+        let explicit = match self.numbers.tables().modules().get(module) {
             Some(text) => is_explicit(&text.tag_default, mode, &inner),
             None => true,
         };
@@ -342,14 +311,14 @@ impl<'f, 'a> Builder<'f, 'a> {
         let mut at = module;
         let mut left = of;
         let mut standard = None;
-        for _ in 0..self.tables.count().saturating_add(1) {
+        for _ in 0..self.numbers.tables().count().saturating_add(1) {
             let Some(name) = name_of(left) else {
                 break;
             };
             passed.push((at, left))?;
-            match self.tables.reference_meaning(at, name) {
+            match self.numbers.tables().reference_meaning(at, name) {
                 Meaning::TypeAt(number) => {
-                    let Some((home, further)) = self.tables.type_at(number) else {
+                    let Some((home, further)) = self.numbers.tables().type_at(number) else {
                         break;
                     };
                     at = home;

@@ -1,11 +1,12 @@
 //! What is wrong in modules: each fault of each import and type is noted.
 
+use crate::constraint_places::has_place;
 use crate::first_fault::{FaultKind, ModuleFault, earlier_fault, refusal_of};
 use crate::first_words::first_word;
-use crate::name_tables::{Meaning, ModuleMeaning, NameTables, name_token, type_of};
+use crate::name_tables::{Meaning, ModuleMeaning, name_token, type_of};
+use crate::named_numbers::{NumberMap, number_map};
 use crate::numbers::{
-    Base, NumberFound, NumberMap, NumberText, Numbers, bound_text, has_place, number_map,
-    number_token, token_text,
+    Base, NumberFound, NumberText, Numbers, bound_text, number_token, token_text,
 };
 use crate::refusal::ModuleRefusal;
 use crate::tag_runs::TagFinder;
@@ -33,7 +34,6 @@ struct Place {
 #[derive(Drop)]
 struct Judge<'f, 'a> {
     alloc: Global,
-    tables: &'f NameTables<'a>,
     numbers: &'f Numbers<'a>,
     facts: &'f TypeFacts,
     first: Option<ModuleFault>,
@@ -51,14 +51,20 @@ impl<'f, 'a> Judge<'f, 'a> {
 
     fn judge_import(&mut self, place: Place, group: &ImportedSymbols) {
         let from = self
-            .tables
+            .numbers
+            .tables()
             .module_meaning(group.module_name.text.as_slice());
         if from == ModuleMeaning::Nothing {
             self.note(place, &group.module_name, FaultKind::UnknownModule);
             return;
         }
         for symbol in group.symbols.iter() {
-            if self.tables.meaning_within(from, symbol.text.as_slice()) == Meaning::Nothing {
+            if self
+                .numbers
+                .tables()
+                .meaning_within(from, symbol.text.as_slice())
+                == Meaning::Nothing
+            {
                 self.note(place, symbol, FaultKind::UnknownType);
             }
         }
@@ -67,18 +73,22 @@ impl<'f, 'a> Judge<'f, 'a> {
     fn is_other_type(&self, place: Place, name: &Token) -> bool {
         let text = name.text.as_slice();
         is_other_type_word(text)
-            && self.tables.assigned_in(place.module, text) == Meaning::Nothing
-            && !self.tables.imports(place.module, text)
+            && self.numbers.tables().assigned_in(place.module, text) == Meaning::Nothing
+            && !self.numbers.tables().imports(place.module, text)
     }
 
     fn judge_name(&mut self, place: Place, name: &TypeName) {
         if name.member.is_some()
-            && self.tables.module_meaning(name.name.text.as_slice()) == ModuleMeaning::Nothing
+            && self
+                .numbers
+                .tables()
+                .module_meaning(name.name.text.as_slice())
+                == ModuleMeaning::Nothing
         {
             self.note(place, &name.name, FaultKind::UnknownModule);
             return;
         }
-        match self.tables.reference_meaning(place.module, name) {
+        match self.numbers.tables().reference_meaning(place.module, name) {
             Meaning::TypeAt(_) | Meaning::Standard(_) => {}
             _ => {
                 let kind = if name.member.is_none() && self.is_other_type(place, &name.name) {
@@ -100,15 +110,15 @@ impl<'f, 'a> Judge<'f, 'a> {
     }
 
     fn judge_number(&mut self, place: Place, text: NumberText) {
-        let found = self.numbers.number(self.tables, place.module, text);
+        let found = self.numbers.number(place.module, text);
         self.judge_found(place, number_token(text), found, FaultKind::WideNumber);
     }
 
     fn judge_tag(&mut self, place: Place, tag: &TagText) {
         let text = token_text(&tag.number);
-        if self.numbers.number(self.tables, place.module, text) == NumberFound::Unknown {
+        if self.numbers.number(place.module, text) == NumberFound::Unknown {
             self.note(place, &tag.number, FaultKind::UnknownType);
-        } else if tag_of(self.numbers, self.tables, place.module, tag).is_none() {
+        } else if tag_of(self.numbers, place.module, tag).is_none() {
             self.note(place, &tag.number, FaultKind::TagNumber);
         }
     }
@@ -153,15 +163,11 @@ impl<'f, 'a> Judge<'f, 'a> {
     ) {
         for range in ranges.iter() {
             let lower = bound_text(&range.lower);
-            let found = self
-                .numbers
-                .bound(self.tables, place.module, base, own, lower);
+            let found = self.numbers.bound(place.module, base, own, lower);
             self.judge_found(place, number_token(lower), found, FaultKind::WideNumber);
             if let Some(upper) = &range.upper {
                 let upper = bound_text(upper);
-                let found = self
-                    .numbers
-                    .bound(self.tables, place.module, base, own, upper);
+                let found = self.numbers.bound(place.module, base, own, upper);
                 self.judge_found(place, number_token(upper), found, FaultKind::WideNumber);
             }
         }
@@ -176,7 +182,7 @@ impl<'f, 'a> Judge<'f, 'a> {
         if constraints.is_empty() {
             return Ok(());
         }
-        let base = self.numbers.base(self.tables, place.module, of);
+        let base = self.numbers.base(place.module, of);
         let own = number_map(self.alloc, of)?;
         for constraint in constraints.iter() {
             let ranges = match constraint {
@@ -198,7 +204,6 @@ impl<'f, 'a> Judge<'f, 'a> {
     fn finder(&self) -> TagFinder<'f, 'a> {
         TagFinder {
             facts: self.facts,
-            tables: self.tables,
             numbers: self.numbers,
         }
     }
@@ -293,10 +298,10 @@ impl<'f, 'a> Judge<'f, 'a> {
     }
 
     fn judge_assignment(&mut self, number: usize) -> Result<(), AllocError> {
-        let Some((module, assignment)) = self.tables.assignment(number) else {
+        let Some((module, assignment)) = self.numbers.tables().assignment(number) else {
             return Ok(());
         };
-        let Some(text) = self.tables.modules().get(module) else {
+        let Some(text) = self.numbers.tables().modules().get(module) else {
             return Ok(());
         };
         let of = type_of(assignment);
@@ -334,13 +339,12 @@ impl<'f, 'a> Judge<'f, 'a> {
 /// The first fault of modules, where there is one.
 pub fn first_fault<'a>(
     alloc: Global,
-    tables: &NameTables<'a>,
     numbers: &Numbers<'a>,
     facts: &TypeFacts,
 ) -> Result<Option<ModuleRefusal>, AllocError> {
+    let tables = numbers.tables();
     let mut judge = Judge {
         alloc,
-        tables,
         numbers,
         facts,
         first: None,

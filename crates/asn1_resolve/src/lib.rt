@@ -3,14 +3,16 @@
 #![tactic(auto)]
 
 mod building;
-mod chains;
-mod cycles;
+mod constraint_places;
 pub mod first_fault;
 pub mod first_words;
 mod judging;
+pub mod laws;
 pub mod name_tables;
+mod named_numbers;
+mod narrowing;
 mod numbers;
-mod ranges;
+mod numerals;
 pub mod refusal;
 pub mod standard_module;
 mod tag_runs;

@@ -1,20 +1,24 @@
 //! Which numbers stand as tags, named numbers, named bits and bounds (X.680, sections 19, 20, 22, 31.2 and 51).
 
-use crate::chains::{Link, chain_ends};
+ghost use Rattle.std.specs.Prelude.{◌≡◌, IfOk};
+ghost use Rattle.asn1_resolve.specs.NumbersFound.{text_term};
+ghost use Rattle.asn1_resolve.specs.Occurrences.{number_token};
+ghost use Rattle.asn1_resolve.specs.TermViews.{bound_term, token_term};
+
 use crate::name_tables::{Meaning, NameTables};
+use crate::named_numbers::{NumberMap, number_map};
+use crate::numerals::digits_number;
 use crate::standard_module::StandardType;
 use crate::type_walk::{beneath_tags, name_of};
-use crate::type_words::{WordType, word_type};
 use asn1_syntax::ValueText;
 use asn1_syntax::module::Assigned;
-use asn1_syntax::plain_type::PlainType;
-use asn1_syntax::type_text::{StructureText, TypeText};
-use asn1_values_syntax::constraint::Constraint;
-use asn1_values_syntax::named_number::NamedInteger;
+use asn1_syntax::type_text::TypeText;
 use asn1_values_syntax::numbers::{Bound, SignedNumber};
 use asn1_values_syntax::value::NamedValue;
 use indexmap::IndexMap;
+use link_graphs::{Link, chain_ends};
 use std::alloc::{AllocError, Global};
+use std::marker::Model;
 use token_grammar::Token;
 use token_grammar::token::NUMBER;
 
@@ -38,11 +42,10 @@ pub enum NumberFound {
     Unknown,
 }
 
-/// The first number of each name, by name.
-pub type NumberMap<'a> = IndexMap<&'a [u8], &'a Bound>;
-
 /// The text of a bound.
-pub fn bound_text(bound: &Bound) -> NumberText<'_> {
+pub fn bound_text(bound: &Bound) -> NumberText<'_>
+    ensures { text_term result ≡ bound_term bound.now }
+{
     match bound {
         Bound::Number(number) => NumberText::Digits(number.minus.is_some(), &number.number),
         Bound::Name(name) => NumberText::Called(name),
@@ -50,7 +53,9 @@ pub fn bound_text(bound: &Bound) -> NumberText<'_> {
 }
 
 /// The text of a number without a sign, or of a name.
-pub fn token_text(token: &Token) -> NumberText<'_> {
+pub fn token_text(token: &Token) -> NumberText<'_>
+    ensures { text_term result ≡ token_term token.now }
+{
     if token.kind == NUMBER {
         NumberText::Digits(false, token)
     } else {
@@ -59,62 +64,13 @@ pub fn token_text(token: &Token) -> NumberText<'_> {
 }
 
 /// The token of a number.
-pub fn number_token<'a>(text: NumberText<'a>) -> &'a Token {
+pub fn number_token<'a>(text: NumberText<'a>) -> &'a Token
+    ensures { result.now ≡ number_token (text_term text.entry) }
+{
     match text {
         NumberText::Digits(_, token) => token,
         NumberText::Called(token) => token,
     }
-}
-
-/// The number of digits with a minus or without, where it has 64 bits.
-pub fn digits_number(minus: bool, token: &Token) -> Option<i64> {
-    let mut sum: i64 = 0;
-    let octets = token.text.as_slice();
-    if octets.is_empty() {
-        return None;
-    }
-    for octet in octets.iter() {
-        if *octet < b'0' || *octet > b'9' {
-            return None;
-        }
-        let digit = i64::from(*octet - b'0');
-        let shifted = sum.checked_mul(10)?;
-        sum = if minus {
-            shifted.checked_sub(digit)?
-        } else {
-            shifted.checked_add(digit)?
-        };
-    }
-    Some(sum)
-}
-
-/// The named numbers that a type states itself.
-pub fn stated_numbers(of: &TypeText) -> Option<&Vec<NamedInteger>> {
-    match of {
-        TypeText::Plain {
-            of: PlainType::Integer(integer),
-            ..
-        } => integer.numbers.as_ref(),
-        TypeText::Plain {
-            of: PlainType::Enumerated(enumerated),
-            ..
-        } => Some(&enumerated.items),
-        _ => None,
-    }
-}
-
-/// The first number of each name that a type states itself.
-pub fn number_map<'a>(alloc: Global, of: &'a TypeText) -> Result<NumberMap<'a>, AllocError> {
-    let mut map = IndexMap::new(alloc);
-    if let Some(numbers) = stated_numbers(of) {
-        for named in numbers.iter() {
-            let key = named.name.text.as_slice();
-            if map.get(key).is_none() {
-                map.insert(key, &named.number)?;
-            }
-        }
-    }
-    Ok(map)
 }
 
 /// The type that is left of a type beneath its names and tags.
@@ -128,12 +84,27 @@ pub enum Base<'a> {
     Nothing,
 }
 
-/// What is known of the numbers of all modules.
+/// What is known of the numbers of all modules. Contracts see the modules.
 #[derive(Drop)]
 pub struct Numbers<'a> {
+    tables: NameTables<'a>,
     bases: Vec<Option<usize>>,
     maps: Vec<NumberMap<'a>>,
     values: Vec<Option<i64>>,
+}
+
+impl<'a> Model for Numbers<'a> {
+    ghost use Rattle.std.specs.Prelude.{List};
+    ghost use Rattle.asn1_syntax.specs.declared.module.Module.{Module};
+
+    ghost Value = { List Module };
+
+    ghost use Rattle.std.specs.Coded.{coded_list};
+    ghost use Rattle.asn1_syntax.specs.contracts.module.Module as m;
+
+    ghost coded = { coded_list m.the_row.coded };
+
+    ghost view = { λ n. n.tables };
 }
 
 fn base_link(tables: &NameTables, number: usize) -> Link {
@@ -220,6 +191,31 @@ fn named_value_link(
     }
 }
 
+/// The number of each assignment that is a value and has one.
+fn values_of(
+    alloc: Global,
+    tables: &NameTables,
+    bases: &[Option<usize>],
+    maps: &[NumberMap],
+) -> Result<Vec<Option<i64>>, AllocError> {
+    let mut links = Vec::new(alloc);
+    let mut own = Vec::new(alloc);
+    for number in 0..tables.count() {
+        let (link, stated) = value_link(tables, bases, maps, number);
+        links.push(link)?;
+        own.push(stated)?;
+    }
+    let ends = chain_ends(alloc, &links)?;
+    let mut values: Vec<Option<i64>> = Vec::new(alloc);
+    for end in ends.iter() {
+        values.push(match end {
+            Some(end) => number_at(&own, *end),
+            None => None,
+        })?;
+    }
+    Ok(values)
+}
+
 /// The bound that a name has in the map of an assignment.
 fn bound_called<'a>(maps: &[NumberMap<'a>], number: usize, name: &[u8]) -> Option<&'a Bound> {
     let map = maps.get(number)?;
@@ -238,60 +234,55 @@ fn number_at(places: &[Option<i64>], at: usize) -> Option<i64> {
 
 impl<'a> Numbers<'a> {
     /// The numbers of all modules.
-    pub fn new(alloc: Global, tables: &NameTables<'a>) -> Result<Numbers<'a>, AllocError> {
-        let bases = bases_of(alloc, tables)?;
-        let maps = maps_of(alloc, tables)?;
-        let mut links = Vec::new(alloc);
-        let mut own = Vec::new(alloc);
-        for number in 0..tables.count() {
-            let (link, stated) = value_link(tables, &bases, &maps, number);
-            links.push(link)?;
-            own.push(stated)?;
-        }
-        let ends = chain_ends(alloc, &links)?;
-        let mut values: Vec<Option<i64>> = Vec::new(alloc);
-        for end in ends.iter() {
-            values.push(match end {
-                Some(end) => number_at(&own, *end),
-                None => None,
-            })?;
-        }
+    pub fn new(alloc: Global, tables: NameTables<'a>) -> Result<Numbers<'a>, AllocError>
+        ensures { IfOk result (λ numbers. numbers ≡ tables.entry) }
+    {
+        let bases = bases_of(alloc, &tables)?;
+        let maps = maps_of(alloc, &tables)?;
+        let values = values_of(alloc, &tables, &bases, &maps)?;
         Ok(Numbers {
+            tables,
             bases,
             maps,
             values,
         })
     }
 
+    /// The names of the modules.
+    pub fn tables(&self) -> &NameTables<'a>
+        ensures { result.now ≡ self.now }
+    {
+        &self.tables
+    }
+
     /// The number that stands in a module.
-    pub fn number(&self, tables: &NameTables, module: usize, text: NumberText) -> NumberFound {
+    pub fn number(&self, home: usize, text: NumberText) -> NumberFound {
         match text {
             NumberText::Digits(minus, token) => match digits_number(minus, token) {
                 Some(number) => NumberFound::Number(number),
                 None => NumberFound::NotNumber,
             },
-            NumberText::Called(name) => {
-                match tables.name_meaning(module, name.text.as_slice()) {
-                    Meaning::ValueAt(value) => match number_at(&self.values, value) {
-                        Some(number) => NumberFound::Number(number),
-                        None => NumberFound::NotNumber,
-                    },
-                    _ => NumberFound::Unknown,
-                }
-            }
+            NumberText::Called(name) => match self.tables.name_meaning(home, name.text.as_slice()) {
+                Meaning::ValueAt(value) => match number_at(&self.values, value) {
+                    Some(number) => NumberFound::Number(number),
+                    None => NumberFound::NotNumber,
+                },
+                _ => NumberFound::Unknown,
+            },
         }
     }
 
-    fn base_at(&self, tables: &NameTables<'a>, number: usize) -> Base<'a> {
+    /// What is left of the type of an assignment beneath its names and tags.
+    fn base_at(&self, number: usize) -> Base<'a> {
         let Some(end) = held_at(&self.bases, number) else {
             return Base::Nothing;
         };
-        let Some((home, of)) = tables.type_at(end) else {
+        let Some((home, of)) = self.tables.type_at(end) else {
             return Base::Nothing;
         };
         let top = beneath_tags(of);
         match name_of(top) {
-            Some(name) => match tables.reference_meaning(home, name) {
+            Some(name) => match self.tables.reference_meaning(home, name) {
                 Meaning::Standard(standard) => Base::Standing(standard),
                 _ => Base::Nothing,
             },
@@ -300,85 +291,43 @@ impl<'a> Numbers<'a> {
     }
 
     /// What is left of a type beneath its names and tags.
-    pub fn base(&self, tables: &NameTables<'a>, module: usize, of: &'a TypeText) -> Base<'a> {
+    pub fn base(&self, home: usize, of: &'a TypeText) -> Base<'a> {
         let top = beneath_tags(of);
         match name_of(top) {
-            Some(name) => match tables.reference_meaning(module, name) {
-                Meaning::TypeAt(number) => self.base_at(tables, number),
+            Some(name) => match self.tables.reference_meaning(home, name) {
+                Meaning::TypeAt(number) => self.base_at(number),
                 Meaning::Standard(standard) => Base::Standing(standard),
                 _ => Base::Nothing,
             },
-            None => Base::Written(module, top, None),
+            None => Base::Written(home, top, None),
         }
     }
 
     /// The number of a bound of a type with this base; `own` has the named numbers of a base that is no assignment's.
     pub fn bound(
         &self,
-        tables: &NameTables,
-        module: usize,
+        home: usize,
         base: &Base,
         own: &NumberMap,
         text: NumberText,
     ) -> NumberFound {
         let NumberText::Called(name) = text else {
-            return self.number(tables, module, text);
+            return self.number(home, text);
         };
         let key = name.text.as_slice();
-        let Base::Written(home, _, holder) = base else {
-            return self.number(tables, module, text);
+        let Base::Written(written_in, _, holder) = base else {
+            return self.number(home, text);
         };
         let found = match holder {
             Some(number) => bound_called(&self.maps, *number, key),
             None => own.get(key).copied(),
         };
         let Some(bound) = found else {
-            return self.number(tables, module, text);
+            return self.number(home, text);
         };
-        match self.number(tables, *home, bound_text(bound)) {
+        match self.number(*written_in, bound_text(bound)) {
             NumberFound::Number(number) => NumberFound::Number(number),
             _ => NumberFound::NotNumber,
         }
-    }
-}
-
-/// Whether a plain type has sizes.
-fn plain_has_sizes(of: &PlainType) -> bool {
-    match of {
-        PlainType::Simple(word) => {
-            matches!(word_type(word.text.as_slice()), Some(WordType::Text(_)))
-        }
-        PlainType::BitString(_) | PlainType::OctetString(_) => true,
-        _ => false,
-    }
-}
-
-/// Whether a type has a place for a constraint; true where it isn't known what type it is.
-pub fn has_place(base: &Base, constraint: &Constraint) -> bool {
-    match base {
-        Base::Nothing => true,
-        Base::Standing(standard) => match constraint {
-            Constraint::Size(_) => *standard == StandardType::RdnSequence,
-            Constraint::Values(_) => false,
-        },
-        Base::Written(_, of, _) => match constraint {
-            Constraint::Size(_) => match *of {
-                TypeText::Plain { of, .. } => plain_has_sizes(of),
-                TypeText::Structured {
-                    content: StructureText::ListOf { .. },
-                    ..
-                } => true,
-                _ => false,
-            },
-            Constraint::Values(_) => {
-                matches!(
-                    *of,
-                    TypeText::Plain {
-                        of: PlainType::Integer(_),
-                        ..
-                    }
-                )
-            }
-        },
     }
 }

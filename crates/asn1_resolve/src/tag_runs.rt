@@ -1,6 +1,5 @@
 //! Whether tags tell members apart (X.680, sections 24.5, 26.3 and 28.3).
 
-use crate::name_tables::NameTables;
 use crate::numbers::Numbers;
 use crate::tag_sets::{TagSet, TypeFacts};
 use crate::type_walk::may_be_absent;
@@ -72,7 +71,6 @@ impl Run {
 #[derive(Drop)]
 pub struct TagFinder<'f, 'a> {
     pub facts: &'f TypeFacts,
-    pub tables: &'f NameTables<'a>,
     pub numbers: &'f Numbers<'a>,
 }
 
@@ -88,8 +86,7 @@ impl TagFinder<'_, '_> {
             any: false,
             tags: Vec::new(alloc),
         };
-        self.facts
-            .push_tags(self.tables, self.numbers, module, of, &mut set)?;
+        self.facts.push_tags(self.numbers, module, of, &mut set)?;
         run.push(&set)
     }
 

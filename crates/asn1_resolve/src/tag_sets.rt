@@ -46,13 +46,8 @@ fn tag_key(tag: Tag) -> u64 {
 }
 
 /// The tag that a text says, where its number is from 0 to 2^32 - 1.
-pub fn tag_of(
-    numbers: &Numbers,
-    tables: &NameTables,
-    module: usize,
-    text: &TagText,
-) -> Option<Tag> {
-    match numbers.number(tables, module, token_text(&text.number)) {
+pub fn tag_of(numbers: &Numbers, module: usize, text: &TagText) -> Option<Tag> {
+    match numbers.number(module, token_text(&text.number)) {
         NumberFound::Number(number) => match u32::try_from(number) {
             Ok(number) => Some(Tag {
                 class: class_of(&text.class),
@@ -170,7 +165,6 @@ impl TypeFacts {
     /// Appends the tags with which a type begins.
     pub fn push_tags(
         &self,
-        tables: &NameTables,
         numbers: &Numbers,
         module: usize,
         of: &TypeText,
@@ -178,7 +172,7 @@ impl TypeFacts {
     ) -> Result<(), AllocError> {
         match of {
             TypeText::Tagged { tag, .. } => {
-                if let Some(own) = tag_of(numbers, tables, module, tag) {
+                if let Some(own) = tag_of(numbers, module, tag) {
                     into.tags.push(tag_key(own))?;
                 }
                 Ok(())
@@ -189,12 +183,12 @@ impl TypeFacts {
             }
             TypeText::Choice { alternatives, .. } => {
                 for alternative in alternatives.iter() {
-                    self.push_tags(tables, numbers, module, &alternative.of, into)?;
+                    self.push_tags(numbers, module, &alternative.of, into)?;
                 }
                 Ok(())
             }
             TypeText::Plain { of, .. } => match of {
-                PlainType::Named(name) => self.push_named(tables, module, name, into),
+                PlainType::Named(name) => self.push_named(numbers.tables(), module, name, into),
                 PlainType::Any(_) => {
                     into.any = true;
                     Ok(())
@@ -305,12 +299,11 @@ fn same_as(facts: &TypeFacts, tables: &NameTables, module: usize, of: &TypeText)
 fn tags_at(
     alloc: Global,
     facts: &TypeFacts,
-    tables: &NameTables,
     numbers: &Numbers,
     (module, of): (usize, &TypeText),
     nodes: usize,
 ) -> Result<TagSource, AllocError> {
-    if let Some(other) = same_as(facts, tables, module, of) {
+    if let Some(other) = same_as(facts, numbers.tables(), module, of) {
         return Ok(TagSource::Same(other));
     }
     let mut gathered = TagSet {
@@ -318,7 +311,7 @@ fn tags_at(
         tags: Vec::new(alloc),
     };
     if nodes <= MOST_NODES {
-        facts.push_tags(tables, numbers, module, of, &mut gathered)?;
+        facts.push_tags(numbers, module, of, &mut gathered)?;
     }
     Ok(TagSource::Own(set_of(alloc, gathered)?))
 }
@@ -326,11 +319,11 @@ fn tags_at(
 /// The facts of all assigned types, each behind those of the types that it names.
 pub fn type_facts(
     alloc: Global,
-    tables: &NameTables,
     numbers: &Numbers,
     order: &[usize],
     cyclic: Vec<bool>,
 ) -> Result<TypeFacts, AllocError> {
+    let tables = numbers.tables();
     let count = tables.count();
     let mut tags = Vec::new(alloc);
     for _ in 0..count {
@@ -349,7 +342,7 @@ pub fn type_facts(
             continue;
         };
         let nodes = facts.nodes_of(tables, module, of);
-        let source = tags_at(alloc, &facts, tables, numbers, (module, of), nodes)?;
+        let source = tags_at(alloc, &facts, numbers, (module, of), nodes)?;
         facts.keep(*number, nodes, source);
     }
     Ok(facts)

@@ -2,7 +2,6 @@
 //! that each call is safe and returns; no clause says yet what it answers.
 
 use crate::building::Builder;
-use crate::cycles::{Cycles, find_cycles};
 use crate::judging::first_fault;
 use crate::name_tables::{Meaning, NameTables};
 use crate::numbers::Numbers;
@@ -12,6 +11,7 @@ use crate::tag_sets::type_facts;
 use crate::type_walk::graph_of;
 use asn1_syntax::ValueText;
 use asn1_syntax::module::{Assigned, Module};
+use link_graphs::{Cycles, find_cycles};
 use std::alloc::{AllocError, Global};
 use term_values::Syntax;
 
@@ -19,7 +19,6 @@ use term_values::Syntax;
 /// kept grows with the texts and not with the syntaxes.
 #[derive(Drop)]
 pub struct Types<'a> {
-    tables: NameTables<'a>,
     numbers: Numbers<'a>,
 }
 
@@ -27,8 +26,8 @@ impl<'a> Types<'a> {
     /// What a module has of a name: what it assigns first, and nothing that it imports. Of two modules of one name the
     /// first is meant; CMIP-1 stands before all (X.680, sections 13.1 and 14).
     pub fn meaning(&self, module_name: &[u8], name: &[u8]) -> Meaning {
-        self.tables
-            .meaning_within(self.tables.module_meaning(module_name), name)
+        let tables = self.numbers.tables();
+        tables.meaning_within(tables.module_meaning(module_name), name)
     }
 
     /// The syntax that a type denotes, or the type of a value; none where the name means nothing, or `meaning` is of
@@ -37,12 +36,11 @@ impl<'a> Types<'a> {
     pub fn syntax(&self, alloc: Global, meaning: Meaning) -> Result<Option<Syntax>, AllocError> {
         let builder = Builder {
             alloc,
-            tables: &self.tables,
             numbers: &self.numbers,
         };
         match meaning {
             Meaning::TypeAt(number) | Meaning::ValueAt(number) => {
-                match self.tables.type_at(number) {
+                match self.numbers.tables().type_at(number) {
                     Some((module, of)) => Ok(Some(builder.syntax(module, of)?)),
                     None => Ok(None),
                 }
@@ -55,7 +53,13 @@ impl<'a> Types<'a> {
     /// The text of a value; none where the name means no value.
     pub fn value_text(&self, meaning: Meaning) -> Option<&'a ValueText> {
         match meaning {
-            Meaning::ValueAt(number) => match &self.tables.assignment(number)?.1.assigned {
+            Meaning::ValueAt(number) => match &self
+                .numbers
+                .tables()
+                .assignment(number)?
+                .1
+                .assigned
+            {
                 Assigned::OfValue { value, .. } => Some(value),
                 Assigned::OfType(_) => None,
             },
@@ -71,13 +75,12 @@ pub fn resolve_modules<'a>(
     alloc: Global,
     modules: &'a [Module],
 ) -> Result<Types<'a>, ModuleRefusal> {
-    let tables = NameTables::new(alloc, modules)?;
-    let numbers = Numbers::new(alloc, &tables)?;
-    let graph = graph_of(alloc, &tables)?;
+    let numbers = Numbers::new(alloc, NameTables::new(alloc, modules)?)?;
+    let graph = graph_of(alloc, numbers.tables())?;
     let Cycles { order, cyclic } = find_cycles(alloc, &graph)?;
-    let facts = type_facts(alloc, &tables, &numbers, &order, cyclic)?;
-    match first_fault(alloc, &tables, &numbers, &facts)? {
+    let facts = type_facts(alloc, &numbers, &order, cyclic)?;
+    match first_fault(alloc, &numbers, &facts)? {
         Some(refusal) => Err(refusal),
-        None => Ok(Types { tables, numbers }),
+        None => Ok(Types { numbers }),
     }
 }
