@@ -1,7 +1,10 @@
 //! The value that a text denotes in a syntax (X.680, sections 18 to 46; X.208, sections 20 to 28).
 #![tactic(auto)]
 
-ghost use Rattle.std.specs.Prelude.{◌≡◌, ◌≢◌, IfOk, IfErr, Some, None};
+ghost use Rattle.std.specs.Prelude.{◌≡◌, ◌≢◌, ◌<◌, ◌^◌, length, IfOk, IfErr, Some, None};
+ghost use Rattle.term_values.specs.Fits.{Fits};
+ghost use Rattle.term_values.specs.Soundness.{HasFittingDefaults};
+ghost use Rattle.term_values.specs.Written.{der};
 ghost use Rattle.asn1_values.specs.Filters.{value_said};
 ghost use Rattle.asn1_values.specs.TextValues.{said, first_place};
 ghost use Rattle.asn1_values.specs.declared.value_refusal.ValueRefusal.TheVariants.{BadValue, Memory};
@@ -47,6 +50,8 @@ fn first_place(text: &ValueText) -> u64
 /// SET OF are sorted by their encodings. The recursion goes down what the text nests.
 pub fn value_of(alloc: Global, syntax: &Syntax, text: &ValueText) -> Result<Value, ValueRefusal>
     ensures denoted { IfOk result (λ value. value_said syntax.now (said text.now) ≡ Some value) }
+    ensures fits { IfOk result (λ value. HasFittingDefaults syntax.now → length (der syntax.now value) < 2 ^ 32
+        → Fits syntax.now value) }
     ensures bad { IfErr result (λ refusal. refusal ≢ Memory → (refusal ≡ BadValue (first_place text.now))
         × (value_said syntax.now (said text.now) ≡ None)) }
 {
