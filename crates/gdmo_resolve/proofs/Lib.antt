@@ -5,3 +5,5 @@ pub mod FurtherFacts
 pub mod TypeFacts
 pub mod LabelLaws
 pub mod RuleFacts
+pub mod FaultFacts
+pub mod NameFacts

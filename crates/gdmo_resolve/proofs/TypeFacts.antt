@@ -1,12 +1,15 @@
 -- Examples of docs/PROFILE.md, section 12, computed: syntaxes of attributes, a field of a notification, first names
 -- with unequal values, an identifier that is none, a label of another kind, and a rule that is stated twice.
 use Rattle.std.specs.Prelude.{◌≡◌, ℕ, List, [], ◌∷◌, true, false, None, Some, Contains, codes, refl}
-use Rattle.std.proofs.Common.{arith}
+use Rattle.std.proofs.Common.{arith, subst}
 use Rattle.token_grammar.specs.declared.qualified_name.QualifiedName.{QualifiedName}
-use Rattle.token_grammar.specs.Form.{Bare}
+use Rattle.token_grammar.specs.Form.{Tree, Bare}
 use Rattle.term_values.specs.Syntaxes.TypeSyntax.{Integer, Sequence}
 use Rattle.term_values.specs.Syntaxes.TypeParts.{NoParts, Part as APart}
 use Rattle.asn1_resolve.specs.Constraining.Constrains.{no_more}
+use Rattle.asn1_resolve.specs.Containment.IsMember.{first as first_member}
+use Rattle.asn1_resolve.specs.DefaultTexts.{HasDefault}
+use Rattle.asn1_resolve.specs.DefaultTexts.HasDefault.{component}
 use Rattle.asn1_resolve.specs.DenotedSyntax.{Denotes}
 use Rattle.asn1_resolve.specs.DenotedSyntax.AreNamed.{no_more as no_names}
 use Rattle.asn1_resolve.specs.DenotedSyntax.Denotes.{plain, sequence}
@@ -19,20 +22,25 @@ use Rattle.asn1_resolve.specs.ModuleTerms.PlainTerm.{IntegerTerm, IdentifierTerm
 use Rattle.asn1_resolve.specs.ModuleTerms.PresenceTerm.{Needed}
 use Rattle.asn1_resolve.specs.ModuleTerms.TypeTerm.{Plain, Structure}
 use Rattle.asn1_resolve.specs.NameMeaning.{module_meaning, first_module, meaning_within, assigned_in, first_assignment}
+use Rattle.asn1_resolve.specs.NameMeaning.{Meaning}
 use Rattle.asn1_resolve.specs.NameMeaning.Meaning.{TypeAt}
+use Rattle.asn1_resolve.specs.ResolvedTypes.{HasDefaultText}
+use Rattle.asn1_resolve.specs.ResolvedTypes.HasDefaultText.{of_type}
 use Rattle.asn1_resolve.specs.TypeBase.HasBase.{itself}
-use Rattle.gdmo_resolve.specs.AttributeSyntaxes.{AttributeHasSyntax, IsComponentOf, IsWholeNumber}
-use Rattle.gdmo_resolve.specs.AttributeSyntaxes.AttributeHasSyntax.{stated}
+use Rattle.gdmo_resolve.specs.AttributeSyntaxes.{AttributeHasType, AttributeHasSyntax, IsComponentOf, IsWholeNumber}
+use Rattle.gdmo_resolve.specs.AttributeSyntaxes.AttributeHasType.{stated}
+use Rattle.gdmo_resolve.specs.BegunNames.{BeginsOne}
+use Rattle.gdmo_resolve.specs.BegunNames.BeginsOne.{identifier}
 use Rattle.gdmo_resolve.specs.DocumentTemplates.{templates}
 use Rattle.gdmo_resolve.specs.DoubleNames.{DoubleLabelAt}
 use Rattle.gdmo_resolve.specs.DoubleNames.DoubleLabelAt.{first_name as unequal_name}
-use Rattle.gdmo_resolve.specs.FirstNames.{BeginsOne, DefinesName, HasArcs, are_identifier, root_arc}
-use Rattle.gdmo_resolve.specs.FirstNames.BeginsOne.{identifier}
+use Rattle.gdmo_resolve.specs.FirstNames.{DefinesName, HasArcs, are_identifier, root_arc}
 use Rattle.gdmo_resolve.specs.FirstNames.HasArcs.{number, root, defined}
 use Rattle.gdmo_resolve.specs.FirstNames.IsKnownFirst.{number as known_number}
 use Rattle.gdmo_resolve.specs.FirstNames.StandsIdentifier.{of_module}
 use Rattle.gdmo_resolve.specs.LabelMeaning.{Means, first_called, label_meaning, target}
 use Rattle.gdmo_resolve.specs.Mentions.Role.{MandatoryPackage, RuleAction, RuleClass}
+use Rattle.gdmo_resolve.specs.OneType.{HasDefaultsOf}
 use Rattle.gdmo_resolve.specs.PartTerms.{ModulePart, RuleTerm, PartTerms, arcs_at}
 use Rattle.gdmo_resolve.specs.References.Refers.{by_template}
 use Rattle.gdmo_resolve.specs.TemplateTerms.{IdentifierTerm, TemplateTerm}
@@ -93,8 +101,11 @@ info_means = refl
 number_denotes : {at : ℕ} → Denotes (net.text ∷ []) 0 (whole_number at) (Integer [] [])
 number_denotes = plain (integer no_names) no_more
 
+load_type : AttributeHasType parts (placed 1 load) id_type
+load_type = stated refl
+
 load_has : AttributeHasSyntax parts (placed 1 load) (Integer [] [])
-load_has = stated refl (assigned id_means number_denotes)
+load_has = record { name = id_type; of_type = load_type; has = assigned id_means number_denotes }
 
 load_is_number : IsWholeNumber parts (placed 1 load)
 load_is_number = record { syntax = Integer [] []; has = load_has; whole = refl }
@@ -102,13 +113,42 @@ load_is_number = record { syntax = Integer [] []; has = load_has; whole = refl }
 info_has : TypeHasSyntax (net.text ∷ []) info_name (Sequence (APart (codes "load") (Integer [] []) false None NoParts))
 info_has = assigned info_means (sequence refl (member number_denotes no_members))
 
+-- DEFAULT stands in neither
+no_default_in_number : {at m v : ℕ} {path : List ℕ} {text : Tree} → HasDefault (net.text ∷ []) m (whole_number at) path
+    v text → ⊥
+no_default_in_number d = elim d [ ]
+
+no_default_in_info : {k v : ℕ} {path : List ℕ} {text : Tree} → HasDefault (net.text ∷ []) 0 info_type (0 ∷ (k ∷ path))
+    v text → ⊥
+no_default_in_info (component first_member d) = no_default_in_number d
+
+info_told : {k v : ℕ} {path : List ℕ} {text : Tree} → HasDefaultText (net.text ∷ []) (TypeAt 0 1 info_type)
+    (0 ∷ (k ∷ path)) v text → ⊥
+info_told (of_type d) = no_default_in_info d
+
+id_told : {v : ℕ} {path : List ℕ} {text : Tree} → HasDefaultText (net.text ∷ []) (TypeAt 0 0 (whole_number 37)) path v
+    text → ⊥
+id_told (of_type d) = no_default_in_number d
+
+defaults_alike : HasDefaultsOf (net.text ∷ []) info_name 0 id_type
+defaults_alike k path = (
+  λ d. absurd (info_told (subst (λ (t : Meaning). HasDefaultText (net.text ∷ []) t (0 ∷ (k ∷ path)) d.written_in d.text)
+      info_means d.stands)),
+  λ d. absurd (id_told (subst (λ (t : Meaning). HasDefaultText (net.text ∷ []) t (k ∷ path) d.written_in d.text)
+      id_means d.stands)),
+)
+
 field_example : IsComponentOf parts info_name (codes "load") (placed 1 load)
 field_example = record {
   whole = Sequence (APart (codes "load") (Integer [] []) false None NoParts);
   is = info_has;
+  place = 0;
   syntax = Integer [] [];
   component = refl;
-  has = load_has;
+  own = id_type;
+  of_type = load_type;
+  has = assigned id_means number_denotes;
+  defaults = defaults_alike;
 }
 
 -- {2} is no object identifier

@@ -1,7 +1,6 @@
 -- AttributeSyntaxes: which syntax an attribute has: its type's, or that of the attribute that it derives from (X.722,
--- section 8.7; docs/PROFILE.md, section 12); and when two types are one: the syntaxes are equal, with tags, names of
--- numbers, of components and bounds, but not the names of types.
-use Rattle.std.specs.Prelude.{◌≡◌, List, Bool, true, false, Option, None, Some, if◌then◌else◌, ℕ}
+-- section 8.7; docs/PROFILE.md, section 12); and whether it is of a type, or of that of a component (OneType).
+use Rattle.std.specs.Prelude.{◌≡◌, ◌+◌, List, Bool, true, false, Option, None, Some, if◌then◌else◌, ℕ}
 use Rattle.std.specs.List.{list_any}
 use Rattle.token_grammar.specs.declared.qualified_name.QualifiedName.{QualifiedName}
 use Rattle.term_values.specs.Syntaxes.{Named, TypeSyntax, TypeParts}
@@ -11,6 +10,7 @@ use Rattle.asn1_resolve.specs.NodeCount.{IsNoType}
 use Rattle.asn1_resolve.specs.StandardModule.{is_same_name}
 use Rattle.gdmo_resolve.specs.LabelMeaning.{Leads, LeadsNowhere}
 use Rattle.gdmo_resolve.specs.Mentions.Role.{BaseAttribute}
+use Rattle.gdmo_resolve.specs.OneType.{AreOneType, HasDefaultsOf}
 use Rattle.gdmo_resolve.specs.PartTerms.{Placed, PartTerms, module_terms_of, body_of}
 use Rattle.gdmo_resolve.specs.TemplateTerms.{BodyTerm, SyntaxTerm}
 use Rattle.gdmo_resolve.specs.TemplateTerms.BodyTerm.{AttributeBody}
@@ -22,13 +22,18 @@ abbrev pub syntax_of : BodyTerm → Option SyntaxTerm
 syntax_of (AttributeBody syntax rules behaviours parameters) = Some syntax
 syntax_of _ = None
 
--- an attribute has this syntax. One that derives from itself has none.
-pub data AttributeHasSyntax (parts : PartTerms) : Placed → TypeSyntax → Type 0 where
-  stated : {attribute : Placed} {name : QualifiedName} {syntax : TypeSyntax} →
-      syntax_of (body_of attribute.template) ≡ Some (OfType name) →
-      TypeHasSyntax (module_terms_of parts) name syntax → AttributeHasSyntax parts attribute syntax
-  derived : {attribute base : Placed} {syntax : TypeSyntax} → Leads parts attribute BaseAttribute base →
-      AttributeHasSyntax parts base syntax → AttributeHasSyntax parts attribute syntax
+-- an attribute is of the type that is named at the end of its DERIVED FROM. One that derives from itself is of none.
+pub data AttributeHasType (parts : PartTerms) : Placed → QualifiedName → Type 0 where
+  stated : {attribute : Placed} {name : QualifiedName} →
+      syntax_of (body_of attribute.template) ≡ Some (OfType name) → AttributeHasType parts attribute name
+  derived : {attribute base : Placed} {name : QualifiedName} → Leads parts attribute BaseAttribute base →
+      AttributeHasType parts base name → AttributeHasType parts attribute name
+
+-- an attribute has this syntax
+pub record AttributeHasSyntax (parts : PartTerms) (attribute : Placed) (syntax : TypeSyntax) : Type 0 where
+  pub name : QualifiedName
+  pub of_type : AttributeHasType parts attribute name
+  pub has : TypeHasSyntax (module_terms_of parts) name syntax
 
 -- the syntax of an attribute isn't known: its type is missing, or an attribute on the way to it
 pub data HasUnknownSyntax (parts : PartTerms) : Placed → Type 0 where
@@ -41,15 +46,9 @@ pub data HasUnknownSyntax (parts : PartTerms) : Placed → Type 0 where
 
 -- the attribute is of the type that is named
 pub record IsOfNamedType (parts : PartTerms) (attribute : Placed) (name : QualifiedName) : Type 0 where
-  pub syntax : TypeSyntax
-  pub has : AttributeHasSyntax parts attribute syntax
-  pub is : TypeHasSyntax (module_terms_of parts) name syntax
-
--- two attributes are of one type
-pub record AreOfOneType (parts : PartTerms) (one other : Placed) : Type 0 where
-  pub syntax : TypeSyntax
-  pub has : AttributeHasSyntax parts one syntax
-  pub has_too : AttributeHasSyntax parts other syntax
+  pub own : QualifiedName
+  pub of_type : AttributeHasType parts attribute own
+  pub same : AreOneType (module_terms_of parts) own name
 
 -- the attribute is INTEGER, under any tags
 abbrev pub is_whole_number : TypeSyntax → Bool
@@ -62,15 +61,16 @@ pub record IsWholeNumber (parts : PartTerms) (attribute : Placed) : Type 0 where
   pub has : AttributeHasSyntax parts attribute syntax
   pub whole : is_whole_number syntax ≡ true
 
--- the syntax of the first component of this name, in a SEQUENCE or SET under any tags
-abbrev pub part_called : List ℕ → TypeParts → Option TypeSyntax
-part_called name NoParts = None
-part_called name (Part its_name syntax optional default rest) =
-    if is_same_name its_name name then Some syntax else part_called name rest
+-- the first component of this name, in a SEQUENCE or SET under any tags: its place, counted from 0, and its syntax. So
+-- many components stand before these.
+abbrev pub part_called : List ℕ → ℕ → TypeParts → Option (ℕ × TypeSyntax)
+part_called name k NoParts = None
+part_called name k (Part its_name syntax optional default rest) =
+    if is_same_name its_name name then Some (k, syntax) else part_called name (k + 1) rest
 
-abbrev pub component_called : List ℕ → TypeSyntax → Option TypeSyntax
-component_called name (Sequence members) = part_called name members
-component_called name (SetType members) = part_called name members
+abbrev pub component_called : List ℕ → TypeSyntax → Option (ℕ × TypeSyntax)
+component_called name (Sequence members) = part_called name 0 members
+component_called name (SetType members) = part_called name 0 members
 component_called name (Tagged tag explicit of) = component_called name of
 component_called name _ = None
 
@@ -79,9 +79,13 @@ pub record IsComponentOf (parts : PartTerms) (information : QualifiedName) (name
     : Type 0 where
   pub whole : TypeSyntax
   pub is : TypeHasSyntax (module_terms_of parts) information whole
+  pub place : ℕ
   pub syntax : TypeSyntax
-  pub component : component_called name whole ≡ Some syntax
-  pub has : AttributeHasSyntax parts attribute syntax
+  pub component : component_called name whole ≡ Some (place, syntax)
+  pub own : QualifiedName
+  pub of_type : AttributeHasType parts attribute own
+  pub has : TypeHasSyntax (module_terms_of parts) own syntax
+  pub defaults : HasDefaultsOf (module_terms_of parts) information place own
 
 -- a syntax has a number of this name, under any tags
 abbrev pub names_number : List ℕ → Named → Bool

@@ -7,8 +7,9 @@ use Rattle.token_grammar.specs.declared.token.Token.{Token}
 use Rattle.asn1_resolve.specs.ModuleTerms.{AssignmentTerm, ModuleTerm}
 use Rattle.asn1_resolve.specs.NameMeaning.{is_called}
 use Rattle.asn1_resolve.specs.StandardModule.{standard_module_name}
+use Rattle.gdmo_resolve.specs.BegunNames.{BeginsOne}
 use Rattle.gdmo_resolve.specs.DocumentTemplates.{templates}
-use Rattle.gdmo_resolve.specs.FirstNames.{BeginsOne, DefinesName, HasArcs, IsIdentifier, Registers, root_arc}
+use Rattle.gdmo_resolve.specs.FirstNames.{DefinesName, HasArcs, IsIdentifier, Registers, root_arc}
 use Rattle.gdmo_resolve.specs.LabelMeaning.{stands_before}
 use Rattle.gdmo_resolve.specs.PartTerms.{Placed, PartTerms, module_terms_of, arcs_at, label_of}
 use Rattle.gdmo_resolve.specs.TemplateTerms.{IdentifierTerm}

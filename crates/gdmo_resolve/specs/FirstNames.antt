@@ -97,11 +97,3 @@ pub data StandsIdentifier (parts : PartTerms) (document : ℕ) (x : IdentifierTe
   of_template : {by : Placed} → Registers parts by x → by.document ≡ document → StandsIdentifier parts document x
   of_module : {part : ModulePart} → Contains parts.modules part → part.text.document ≡ document →
       Contains part.identifiers x → StandsIdentifier parts document x
-
--- an identifier, or an OBJECT IDENTIFIER value, begins with this name
-pub data BeginsOne (parts : PartTerms) (name : List ℕ) : Type 0 where
-  identifier : {document : ℕ} {x : IdentifierTerm} {first : Token} → StandsIdentifier parts document x →
-      x.first ≡ ArcName first → is_same_name first.text name ≡ true → BeginsOne parts name
-  value : {m i : ℕ} {its_name : List ℕ} {x : IdentifierTerm} {first : Token} → DefinesName parts its_name m i →
-      arcs_at parts m i ≡ Some (Some x) → x.first ≡ ArcName first → is_same_name first.text name ≡ true →
-      BeginsOne parts name

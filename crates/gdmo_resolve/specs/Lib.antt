@@ -9,10 +9,13 @@ pub mod Mentions
 pub mod DocumentTemplates
 pub mod LabelMeaning
 pub mod TypeMeaning
+pub mod OneType
 pub mod FirstNames
 pub mod ClassMembers
 pub mod AttributeSyntaxes
+pub mod ValueNames
 pub mod RuleWords
+pub mod BegunNames
 pub mod References
 pub mod RuleFaults
 pub mod WrongKinds
@@ -20,3 +23,10 @@ pub mod UnknownLabels
 pub mod DoubleNames
 pub mod FirstLabelFault
 pub mod LinkedTables
+pub mod Roles
+pub mod NotedFaults
+pub mod LinkedNames
+pub mod LinkedTemplates
+pub mod LinkedMembers
+pub mod LinkedSections
+pub mod LinkedParts

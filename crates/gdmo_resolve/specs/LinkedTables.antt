@@ -1,11 +1,17 @@
 -- LinkedTables: where linked parts tell a template by a number: the place, counted from 0, among the templates of its
--- kind in the order of DocumentTemplates (docs/PROFILE.md, section 12).
-use Rattle.std.specs.Prelude.{◌≡◌, ◌==◌, ℕ, List, [], ◌∷◌, Bool, Some, slice_get, if◌then◌else◌}
+-- kind in the order of DocumentTemplates; and what they tell of first names (docs/PROFILE.md, section 12). Of the texts of
+-- DEFAULT in types they tell nothing: resolved modules do (ResolvedTypes of asn1_resolve).
+use Rattle.std.specs.Prelude.{◌≡◌, ◌==◌, ◌≤◌, ℕ, List, [], ◌∷◌, Bool, None, Some, Contains, length, slice_get}
+use Rattle.std.specs.Prelude.{if◌then◌else◌}
+use Rattle.gdmo_resolve.specs.BegunNames.{BeginsOne}
 use Rattle.gdmo_resolve.specs.DocumentTemplates.{templates}
+use Rattle.gdmo_resolve.specs.DoubleNames.{ValueHasArcs}
+use Rattle.gdmo_resolve.specs.FirstNames.{DefinesNameFirst, root_arc}
 use Rattle.gdmo_resolve.specs.LabelMeaning.{Means}
 use Rattle.gdmo_resolve.specs.Mentions.{Role, wanted_kind}
 use Rattle.gdmo_resolve.specs.PartTerms.{Placed, PartTerms, kind_of}
-use Rattle.gdmo_resolve.specs.TemplateTerms.{TemplateKind, ReferenceTerm}
+use Rattle.gdmo_resolve.specs.TemplateTerms.{TemplateKind, ReferenceTerm, ReferenceTerms}
+use Rattle.gdmo_resolve.specs.TemplateTerms.ReferenceTerms.{NoReferences, Reference}
 use Rattle.gdmo_resolve.specs.TemplateTerms.TemplateKind.{ClassKind, PackageKind, ParameterKind, BindingKind}
 use Rattle.gdmo_resolve.specs.TemplateTerms.TemplateKind.{AttributeKind, GroupKind, BehaviourKind, ActionKind}
 use Rattle.gdmo_resolve.specs.TemplateTerms.TemplateKind.{NotificationKind}
@@ -38,3 +44,25 @@ pub record Links (parts : PartTerms) (document : ℕ) (role : Role) (reference :
   pub to : Placed
   pub means : Means parts document role reference to
   pub at : slice_get (table parts (wanted_kind role)) k ≡ Some to
+
+-- references in a row that stand in a document in this role are linked by these numbers
+pub data AreLinked (parts : PartTerms) (document : ℕ) (role : Role) : ReferenceTerms → List ℕ → Type 0 where
+  no_more : AreLinked parts document role NoReferences []
+  another : {x : ReferenceTerm} {xs : ReferenceTerms} {k : ℕ} {ks : List ℕ} → Links parts document role x k →
+      AreLinked parts document role xs ks → AreLinked parts document role (Reference x xs) (k ∷ ks)
+
+-- The arcs for which a first name stands: those that the first module gives it that defines it. More than 64 are those
+-- of no object identifier, and they aren't told.
+pub record StandsForArcs (parts : PartTerms) (name arcs : List ℕ) : Type 0 where
+  pub begins : BeginsOne parts name
+  pub no_root : root_arc name ≡ None
+  pub m : ℕ
+  pub i : ℕ
+  pub defines : DefinesNameFirst parts name m i
+  pub has : ValueHasArcs parts m i arcs
+  pub few : length arcs ≤ 64
+
+-- pairs of a name and its arcs tell each first name with which some identifier or value begins, and nothing else
+pub record TellFirstNames (parts : PartTerms) (told : List (List ℕ × List ℕ)) : Type 0 where
+  pub right : (name arcs : List ℕ) → Contains told (name, arcs) → StandsForArcs parts name arcs
+  pub all : (name arcs : List ℕ) → StandsForArcs parts name arcs → Contains told (name, arcs)

@@ -4,17 +4,16 @@ use Rattle.std.specs.Prelude.{◌≡◌, ◌<◌, ℕ, Option, None, Some, slice
 use Rattle.token_grammar.specs.declared.qualified_name.QualifiedName.{QualifiedName}
 use Rattle.token_grammar.specs.declared.token.Token.{Token}
 use Rattle.gdmo_resolve.specs.AttributeSyntaxes.{HasUnknownSyntax, IsOfNamedType, IsWholeNumber}
-use Rattle.term_values.specs.Syntaxes.{TypeSyntax}
 use Rattle.gdmo_resolve.specs.ClassMembers.{HasAttribute, HasUnknownAttributes, CanBeNamedBy}
 use Rattle.gdmo_resolve.specs.LabelMeaning.{Means}
 use Rattle.gdmo_resolve.specs.Mentions.Role.{StepAttribute}
+use Rattle.gdmo_resolve.specs.OneType.{AreOneType}
 use Rattle.gdmo_resolve.specs.PartTerms.{Placed, StepTerm, RuleTerm, PartTerms, module_terms_of, body_of}
 use Rattle.gdmo_resolve.specs.PartTerms.TakenTerm.{TheArgument, OneWord}
 use Rattle.gdmo_resolve.specs.PartTerms.StepTerm.{SetTo, AddTo, ReplyWith}
 use Rattle.gdmo_resolve.specs.RuleWords.{HasStep, IsOfClass, IsOfAction, IsKnownType, NamesByLabel}
 use Rattle.gdmo_resolve.specs.RuleWords.{information_of, reply_of}
 use Rattle.gdmo_resolve.specs.TemplateTerms.ReferenceTerm.{ByLabel}
-use Rattle.gdmo_resolve.specs.TypeMeaning.{TypeHasSyntax}
 
 -- a step of a rule names the attribute by this label
 pub record StepNames (parts : PartTerms) (rule : RuleTerm) (step : StepTerm) (label : Token) (attribute : Placed)
@@ -56,13 +55,8 @@ IsOfStatedType parts attribute None = ⊥
 IsOfStatedType parts attribute (Some name) = IsOfNamedType parts attribute name
 
 -- two types that are stated are one
-pub record AreOneType (parts : PartTerms) (one other : QualifiedName) : Type 0 where
-  pub syntax : TypeSyntax
-  pub has : TypeHasSyntax (module_terms_of parts) one syntax
-  pub has_too : TypeHasSyntax (module_terms_of parts) other syntax
-
 abbrev pub AreOneStatedType : PartTerms → Option QualifiedName → Option QualifiedName → Type 0
-AreOneStatedType parts (Some one) (Some other) = AreOneType parts one other
+AreOneStatedType parts (Some one) (Some other) = AreOneType (module_terms_of parts) one other
 AreOneStatedType parts _ _ = ⊥
 
 -- ARGUMENT has another type than the attribute that it is set to, or than the reply; an attribute that is replied has

@@ -248,6 +248,15 @@ pub struct LinkedInstance {
     pub packages: Vec<usize>,
 }
 
+/// A name with which object identifiers begin, and what it stands for: X.680, section 32.
+#[derive(Drop)]
+pub struct LinkedFirstName {
+    /// The name, where the first module that defines it assigns it.
+    pub name: Token,
+    /// Its arcs, at most 64.
+    pub arcs: Vec<u64>,
+}
+
 /// The templates of a set of documents that records are made of, those in line among them, and the rules and the
 /// instances, with the targets of their references. Parameters and behaviours say nothing that is compiled.
 #[derive(Drop)]
@@ -270,4 +279,7 @@ pub struct Linked {
     pub rules: Vec<LinkedRule>,
     /// The instances.
     pub instances: Vec<LinkedInstance>,
+    /// The first names, other than those of the roots, with which identifiers or values begin, each once. One with more
+    /// than 64 arcs isn't told: no object identifier begins with it.
+    pub first_names: Vec<LinkedFirstName>,
 }

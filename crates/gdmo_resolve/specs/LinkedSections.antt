@@ -1,0 +1,78 @@
+-- LinkedSections: which linked rule or instance is that of which rule or instance of a section (docs/PROFILE.md, sections 9
+-- and 12). A value is told by what its text says.
+use Rattle.std.specs.Prelude.{◌≡◌, ℕ, List, [], ◌∷◌, Option}
+use Rattle.std.specs.Str.Parse.{digits_value}
+use Rattle.token_grammar.specs.declared.token.Token.{Token}
+use Rattle.token_grammar.specs.Form.{Tree}
+use Rattle.asn1_values_syntax.specs.declared.value.ValueText.{ValueText}
+use Rattle.asn1_values_syntax.specs.ValueTrees.{value_tree}
+use Rattle.gdmo_resolve.specs.declared.linked.LinkedInstance.{LinkedInstance}
+use Rattle.gdmo_resolve.specs.declared.linked.LinkedPair.{LinkedPair}
+use Rattle.gdmo_resolve.specs.declared.linked.LinkedRule.{LinkedRule}
+use Rattle.gdmo_resolve.specs.declared.linked.LinkedStep.{LinkedStep}
+use Rattle.gdmo_resolve.specs.declared.linked.LinkedStep.TheVariants.{SetArgument, SetValue, Add, Emit, ReplyArgument}
+use Rattle.gdmo_resolve.specs.declared.linked.LinkedStep.TheVariants.{ReplyAttribute, ReplyValue}
+use Rattle.gdmo_resolve.specs.LinkedTables.{Links}
+use Rattle.gdmo_resolve.specs.Mentions.{Role}
+use Rattle.gdmo_resolve.specs.Mentions.Role.{RuleClass, RuleAction, StepAttribute, StepNotification, InstanceClass}
+use Rattle.gdmo_resolve.specs.Mentions.Role.{NameAttribute, GivenAttribute, ChosenPackage}
+use Rattle.gdmo_resolve.specs.PartTerms.{TakenTerm, StepTerm, RuleTerm, PairTerm, InstanceTerm, PartTerms}
+use Rattle.gdmo_resolve.specs.PartTerms.TakenTerm.{TheArgument, OneWord, OtherValue}
+use Rattle.gdmo_resolve.specs.PartTerms.StepTerm.{SetTo, AddTo, EmitOf, ReplyWith}
+use Rattle.gdmo_resolve.specs.PartViews.{optional_value, taken_term}
+use Rattle.gdmo_resolve.specs.RuleWords.{IsReplyLabel}
+use Rattle.gdmo_resolve.specs.TemplateTerms.ReferenceTerm.{ByLabel}
+
+-- a step is linked; a word alone behind REPLY is an attribute's label, or a value
+pub data IsStep (parts : PartTerms) (rule : RuleTerm) : StepTerm → LinkedStep → Type 0 where
+  set_argument : {label word : Token} {k : ℕ} → Links parts rule.document StepAttribute (ByLabel label) k →
+      IsStep parts rule (SetTo label (TheArgument word)) (SetArgument k)
+  set_value : {label : Token} {taken : TakenTerm} {k : ℕ} {value : ValueText} →
+      Links parts rule.document StepAttribute (ByLabel label) k → taken_term value ≡ taken →
+      IsStep parts rule (SetTo label taken) (SetValue k value)
+  add : {number label : Token} {k : ℕ} → Links parts rule.document StepAttribute (ByLabel label) k →
+      IsStep parts rule (AddTo number label) (Add (digits_value 10 number.text) k)
+  emit : {label : Token} {stated : Option Tree} {k : ℕ} {value : Option ValueText} →
+      Links parts rule.document StepNotification (ByLabel label) k → optional_value value ≡ stated →
+      IsStep parts rule (EmitOf label stated) (Emit k value)
+  reply_argument : {word : Token} → IsStep parts rule (ReplyWith (TheArgument word)) ReplyArgument
+  reply_attribute : {word : Token} {k : ℕ} → IsReplyLabel parts rule word →
+      Links parts rule.document StepAttribute (ByLabel word) k →
+      IsStep parts rule (ReplyWith (OneWord word)) (ReplyAttribute k)
+  reply_word : {word : Token} {value : ValueText} → ¬ IsReplyLabel parts rule word → taken_term value ≡ OneWord word →
+      IsStep parts rule (ReplyWith (OneWord word)) (ReplyValue value)
+  reply_value : {tree : Tree} {value : ValueText} → taken_term value ≡ OtherValue tree →
+      IsStep parts rule (ReplyWith (OtherValue tree)) (ReplyValue value)
+
+abbrev pub AreSteps : PartTerms → RuleTerm → List StepTerm → List LinkedStep → Type 0
+AreSteps parts rule [] [] = Unit {0}
+AreSteps parts rule (step ∷ steps) (x ∷ xs) = IsStep parts rule step x × AreSteps parts rule steps xs
+AreSteps parts rule _ _ = ⊥
+
+pub record IsRule (parts : PartTerms) (rule : RuleTerm) (x : LinkedRule) : Type 0 where
+  pub document : x.document ≡ rule.document
+  pub is_class : Links parts rule.document RuleClass (ByLabel rule.class) x.class
+  pub is_action : Links parts rule.document RuleAction (ByLabel rule.action) x.action
+  pub steps_are : AreSteps parts rule rule.steps x.steps.items
+
+-- pairs of an attribute and its value
+abbrev pub ArePairs : PartTerms → ℕ → Role → List PairTerm → List LinkedPair → Type 0
+ArePairs parts document role [] [] = Unit {0}
+ArePairs parts document role (pair ∷ pairs) (x ∷ xs) =
+    Links parts document role (ByLabel pair.attribute) x.attribute × (value_tree x.value ≡ pair.value)
+    × ArePairs parts document role pairs xs
+ArePairs parts document role _ _ = ⊥
+
+abbrev pub AreChosen : PartTerms → ℕ → List Token → List ℕ → Type 0
+AreChosen parts document [] [] = Unit {0}
+AreChosen parts document (label ∷ labels) (k ∷ ks) =
+    Links parts document ChosenPackage (ByLabel label) k × AreChosen parts document labels ks
+AreChosen parts document _ _ = ⊥
+
+pub record IsInstance (parts : PartTerms) (instance : InstanceTerm) (x : LinkedInstance) : Type 0 where
+  pub document : x.document ≡ instance.document
+  pub is_root : x.is_root ≡ instance.is_root
+  pub is_class : Links parts instance.document InstanceClass (ByLabel instance.class) x.class
+  pub name_is : ArePairs parts instance.document NameAttribute instance.name x.name.items
+  pub given_are : ArePairs parts instance.document GivenAttribute instance.given x.given.items
+  pub packages_are : AreChosen parts instance.document instance.packages x.packages.items
