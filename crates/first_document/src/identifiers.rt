@@ -77,7 +77,8 @@ fn identifiers_by_label(alloc: Global, records: &[AttrRec]) -> Result<Identifier
 /// Whether the labels of the class and of its package differ from each other and from those of the attributes.
 fn are_free(identifiers: &Identifiers, class_label: &Bytes, package_label: &Bytes) -> bool
     ensures { IsTrue result ↔ ((class_label.now ≢ package_label.now)
-        × (found_under identifiers.now class_label.now ≡ None) × (found_under identifiers.now package_label.now ≡ None)) }
+        × (found_under identifiers.now class_label.now ≡ None)
+        × (found_under identifiers.now package_label.now ≡ None)) }
 {
     class_label != package_label
         && !identifiers.contains_key(class_label)
