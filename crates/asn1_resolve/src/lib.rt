@@ -1,27 +1,16 @@
-//! Types of ASN.1 modules resolved: what names mean, which syntax each type denotes, and the first fault where there
-//! is one (X.680; where X.680 has no such form, X.208; docs/PROFILE.md, section 11).
+//! ASN.1 modules resolved, or their first fault told (X.680; where X.680 has no such form, X.208; docs/PROFILE.md,
+//! section 11).
 #![tactic(auto)]
 
-mod building;
-mod constraint_places;
-pub mod first_fault;
-pub mod first_words;
+mod constraint_faults;
+mod faults;
+mod import_faults;
 mod judging;
-pub mod laws;
-pub mod name_tables;
-mod named_numbers;
-mod narrowing;
-mod numbers;
-mod numerals;
-pub mod refusal;
-pub mod standard_module;
-mod tag_runs;
-mod tag_sets;
-pub mod tag_texts;
-mod type_walk;
-pub mod type_words;
-pub mod types;
+mod name_faults;
+mod number_faults;
+pub mod resolving;
+mod type_faults;
 
-pub use name_tables::Meaning;
-pub use refusal::{ModuleRefusal, UnsupportedKind};
-pub use types::{Types, resolve_modules};
+pub use asn1_names::{Meaning, ModuleRefusal, UnsupportedKind};
+pub use asn1_types::Types;
+pub use resolving::resolve_modules;

@@ -1,5 +1,5 @@
--- Filters: which CMISFilter a text denotes, by the CHOICE of X.711, section 7.5 (docs/PROFILE.md, section 13), and which value of
--- any type.
+-- Filters: which CMISFilter a text denotes, by the CHOICE of X.711, section 7.5 (docs/PROFILE.md, section 13), and
+-- which value of any type.
 use Rattle.std.specs.Prelude.{ℕ, List, [], ◌∷◌, Option, None, Some, codes, option_map, option_and_then, if◌then◌else◌}
 use Rattle.term_values.specs.CmipTypes.{filter_item, filter_choice}
 use Rattle.term_values.specs.Decoding.{rising_by}

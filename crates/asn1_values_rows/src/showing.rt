@@ -35,9 +35,9 @@ fn show_arcs(arcs: &[u32], out: &mut String) -> Result<(), AllocError> {
     Ok(())
 }
 
-/// Appends a value: numbers and identifiers in digits, TRUE, FALSE and NULL, texts in quotation marks, octets as `'..'`,
-/// bits as `'..'` and how many are unused, components as `{..}` with `-` for one that is absent, members as `[..]`, the
-/// place of an alternative before its value, and what is kept undecoded as `<..>`.
+/// Appends a value: numbers and identifiers in digits, TRUE, FALSE and NULL, texts in quotation marks, octets as
+/// `'..'`, bits as `'..'` and how many are unused, components as `{..}` with `-` for one that is absent, members as
+/// `[..]`, the place of an alternative before its value, and what is kept undecoded as `<..>`.
 #[cycle(showing)]
 pub fn show(value: &Value, out: &mut String) -> Result<(), AllocError> {
     match &value.form {

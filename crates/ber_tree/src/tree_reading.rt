@@ -379,7 +379,8 @@ fn first_arcs(number: u32) -> (u32, u32)
 pub fn read_oid_contents(alloc: Global, octets: &[u8]) -> Result<Option<Oid>, AllocError>
     ensures found { IfOk result (λ found. IfSome found (λ oid. octets.now ≡ oid_contents oid)) }
     ensures none { IfOk result (λ found. IfNone found
-        ((arcs : List ℕ) → IsTrue (is_oid arcs) → All (λ arc. arc < 2 ^ 32) arcs → octets.now ≡ oid_contents arcs → ⊥)) }
+        ((arcs : List ℕ) → IsTrue (is_oid arcs) → All (λ arc. arc < 2 ^ 32) arcs →
+        octets.now ≡ oid_contents arcs → ⊥)) }
 {
     let (number, size) = match read_subidentifier(octets) {
         None => return Ok(None),

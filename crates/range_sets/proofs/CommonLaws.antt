@@ -40,8 +40,10 @@ both_common x y n a b c d =
 
 common_within : (x y : ℤ × ℤ) (n : ℤ) → int_max x.0 y.0 ≤ℤ n → n ≤ℤ int_min x.1 y.1 →
     ((x.0 ≤ℤ n) × (n ≤ℤ x.1)) × ((y.0 ≤ℤ n) × (n ≤ℤ y.1))
-common_within x y n h k =
-    ((omega (arith, ints, clamps), omega (arith, ints, clamps)), (omega (arith, ints, clamps), omega (arith, ints, clamps)))
+common_within x y n h k = (
+  (omega (arith, ints, clamps), omega (arith, ints, clamps)),
+  (omega (arith, ints, clamps), omega (arith, ints, clamps)),
+)
 
 from_test : (x y : ℤ × ℤ) (n : ℤ) (t : Bool) → Held (cond t ((int_max x.0 y.0, int_min x.1 y.1) ∷ []) []) n →
     ((x.0 ≤ℤ n) × (n ≤ℤ x.1)) × ((y.0 ≤ℤ n) × (n ≤ℤ y.1))
@@ -49,7 +51,8 @@ from_test x y n true (inl within) = common_within x y n within.0 within.1
 from_test x y n true (inr no_more) = absurd no_more
 from_test x y n false h = absurd h
 
-pub common_both : (x y : ℤ × ℤ) (n : ℤ) → Held (common_pair x y) n → ((x.0 ≤ℤ n) × (n ≤ℤ x.1)) × ((y.0 ≤ℤ n) × (n ≤ℤ y.1))
+pub common_both : (x y : ℤ × ℤ) (n : ℤ) → Held (common_pair x y) n →
+    ((x.0 ≤ℤ n) × (n ≤ℤ x.1)) × ((y.0 ≤ℤ n) × (n ≤ℤ y.1))
 common_both x y n = from_test x y n (int_le (int_max x.0 y.0) (int_min x.1 y.1))
 
 -- ---- how far both lists are gone through: what both hold is held already, or by what is left of each
@@ -85,9 +88,12 @@ abbrev least_greatest : ℤ × ℤ → ℤ × ℤ → ℤ
 least_greatest x y = int_min x.1 y.1
 
 at_least : (x y : ℤ × ℤ) → greatest_least x y ≤ℤ least_greatest x y →
-    ((x.0 ≤ℤ greatest_least x y) × (greatest_least x y ≤ℤ x.1)) × ((y.0 ≤ℤ greatest_least x y) × (greatest_least x y ≤ℤ y.1))
-at_least x y h =
-    ((omega (arith, ints, clamps), omega (arith, ints, clamps)), (omega (arith, ints, clamps), omega (arith, ints, clamps)))
+    ((x.0 ≤ℤ greatest_least x y) × (greatest_least x y ≤ℤ x.1))
+    × ((y.0 ≤ℤ greatest_least x y) × (greatest_least x y ≤ℤ y.1))
+at_least x y h = (
+  (omega (arith, ints, clamps), omega (arith, ints, clamps)),
+  (omega (arith, ints, clamps), omega (arith, ints, clamps)),
+)
 
 put_test : (both : Bounds) (x y : ℤ × ℤ) → Rises both →
     ((n : ℤ) → (x.0 ≤ℤ n) × (n ≤ℤ x.1) → (y.0 ≤ℤ n) × (n ≤ℤ y.1) → EndBefore n both) → (t : Bool) →

@@ -40,7 +40,8 @@ abbrev pub EndBefore : ℤ → Bounds → Type 0
 EndBefore n [] = Unit {0}
 EndBefore n (pair ∷ pairs) = ((pair.1 +ℤ pos 1) <ℤ n) × EndBefore n pairs
 
-begins_past_front : (n : ℤ) (xs : Bounds) (q : ℤ × ℤ) → BeginsPast n xs → (n +ℤ pos 1) <ℤ q.0 → BeginsPast n (xs ++ q ∷ [])
+begins_past_front : (n : ℤ) (xs : Bounds) (q : ℤ × ℤ) → BeginsPast n xs → (n +ℤ pos 1) <ℤ q.0 →
+    BeginsPast n (xs ++ q ∷ [])
 begins_past_front n [] q h k = k
 begins_past_front n (x ∷ xs) q h k = h
 
@@ -48,7 +49,8 @@ pub put_behind : (xs : Bounds) (q : ℤ × ℤ) → Rises xs → EndBefore q.0 x
 put_behind [] q h k some = (some, tt, tt)
 put_behind (x ∷ xs) q h k some = (h.0, begins_past_front x.1 xs q h.1 k.0, put_behind xs q h.2 k.1 some)
 
-before_last : (m n : ℤ) (xs : Bounds) (p : ℤ × ℤ) → BeginsPast m (xs ++ p ∷ []) → Rises (xs ++ p ∷ []) → (p.1 +ℤ pos 1) <ℤ n
+before_last : (m n : ℤ) (xs : Bounds) (p : ℤ × ℤ) → BeginsPast m (xs ++ p ∷ []) → Rises (xs ++ p ∷ []) →
+    (p.1 +ℤ pos 1) <ℤ n
     → (m +ℤ pos 1) <ℤ n
 before_last m n [] p past rises h = let own : p.0 ≤ℤ p.1 = rises.0 in omega (arith, ints)
 before_last m n (x ∷ xs) p past rises h =
@@ -56,7 +58,8 @@ before_last m n (x ∷ xs) p past rises h =
     let own : x.0 ≤ℤ x.1 = rises.0 in
     omega (arith, ints)
 
-pub end_before : (xs : Bounds) (p : ℤ × ℤ) (n : ℤ) → Rises (xs ++ p ∷ []) → (p.1 +ℤ pos 1) <ℤ n → EndBefore n (xs ++ p ∷ [])
+pub end_before : (xs : Bounds) (p : ℤ × ℤ) (n : ℤ) → Rises (xs ++ p ∷ []) → (p.1 +ℤ pos 1) <ℤ n →
+    EndBefore n (xs ++ p ∷ [])
 end_before [] p n rises h = (h, tt)
 end_before (x ∷ xs) p n rises h = (before_last x.1 n xs p rises.1 rises.2 h, end_before xs p n rises.2 h)
 
@@ -95,7 +98,10 @@ joins_none xs pair h = record {
   held = λ r b n k. inl k;
   kept = λ r b n k. elim k [
     | inl own ↦ own
-    | inr other ↦ elim other [ inl within ↦ absurd (omega (arith, ints, within.0, within.1)) | inr no_more ↦ absurd no_more ]
+    | inr other ↦ elim other [
+      | inl within ↦ absurd (omega (arith, ints, within.0, within.1))
+      | inr no_more ↦ absurd no_more
+    ]
   ];
 }
 
@@ -182,7 +188,8 @@ joins_touching xs b l pair touches some = record {
 
 -- ---- pairs by their first numbers
 
-first_no_later : (x y : ℤ × ℤ) (o : Ordering) → o ≡ int_cmp y.0 x.0 → is_lt (ordering_then o (int_cmp y.1 x.1)) ≡ false →
+first_no_later : (x y : ℤ × ℤ) (o : Ordering) → o ≡ int_cmp y.0 x.0 →
+    is_lt (ordering_then o (int_cmp y.1 x.1)) ≡ false →
     x.0 ≤ℤ y.0
 first_no_later x y o e h =
     by_ranked (y.0 <ℤ x.0) (y.0 ≡ x.0) (x.0 <ℤ y.0) o (int_ranked y.0 x.0 o e)
@@ -211,7 +218,8 @@ to_list : (n : ℤ) (xs ys zs : Bounds) → one_allows xs n ≡ one_allows ys n 
 to_list n xs ys zs same (inl before) = held_front n ys zs (also_held n xs ys same before)
 to_list n xs ys zs same (inr added) = held_behind n ys zs added
 
-from_list : (n : ℤ) (xs ys zs : Bounds) → one_allows xs n ≡ one_allows ys n → Held ys n ⊎ Held zs n → Held xs n ⊎ Held zs n
+from_list : (n : ℤ) (xs ys zs : Bounds) → one_allows xs n ≡ one_allows ys n → Held ys n ⊎ Held zs n →
+    Held xs n ⊎ Held zs n
 from_list n xs ys zs same (inl before) = inl (also_held n ys xs (sym same) before)
 from_list n xs ys zs same (inr added) = inr added
 

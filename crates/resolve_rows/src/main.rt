@@ -1,7 +1,8 @@
-//! Answers rows: each line of standard input is a call of `asn1_resolve`, with its arguments, and its answer is a line
-//! of standard output (README.md lists the calls).
+//! Answers rows: each line of standard input is a call of `asn1_resolve`, or of the `Types` that it answers, with its
+//! arguments, and its answer is a line of standard output (README.md lists the calls).
 #![tactic(auto)]
 
+mod defaults;
 mod grown;
 mod reading;
 mod row;

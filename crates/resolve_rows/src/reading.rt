@@ -8,9 +8,11 @@ use token_grammar::Token;
 
 /// A document without its mark, and the place of the mark.
 #[derive(Drop)]
-struct Document {
-    octets: Vec<u8>,
-    mark: Option<u64>,
+pub struct Document {
+    /// Its octets, without the mark.
+    pub octets: Vec<u8>,
+    /// The place of the token that is awaited.
+    pub mark: Option<u64>,
 }
 
 fn document_of(alloc: Global, text: &str) -> Result<Document, AllocError> {
@@ -90,7 +92,8 @@ fn shown_fault(
     format!(in alloc; "{name} in document {document} at {token}")
 }
 
-fn shown_refusal(
+/// A refusal as a row has it.
+pub fn shown_refusal(
     alloc: Global,
     refusal: ModuleRefusal,
     documents: &[Document],
@@ -118,7 +121,7 @@ fn shown_refusal(
 }
 
 /// The documents of a row, and their modules; none where one can't be read.
-fn read_all(
+pub fn read_all(
     alloc: Global,
     text: &str,
     documents: &mut Vec<Document>,

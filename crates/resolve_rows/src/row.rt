@@ -1,5 +1,6 @@
 //! A row: a call and its arguments, with a space between each two.
 
+use super::defaults::default_row;
 use super::grown::grown_text;
 use super::reading::{fault_row, syntax_row};
 use std::alloc::{AllocError, Global};
@@ -21,6 +22,7 @@ pub fn answer(alloc: Global, line: &str) -> Result<String, AllocError> {
     match call {
         "fault" => fault_row(alloc, arguments),
         "syntax" => syntax_row(alloc, arguments),
+        "default" => default_row(alloc, arguments),
         "grown" => grown(alloc, arguments),
         _ => String::from_str(alloc, "no call"),
     }

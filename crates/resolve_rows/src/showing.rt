@@ -21,7 +21,8 @@ fn push_names(names: &Names, into: &mut String) -> Result<(), AllocError> {
     into.push_str("}")
 }
 
-fn push_octets(octets: &[u8], into: &mut String) -> Result<(), AllocError> {
+/// Appends characters.
+pub fn push_octets(octets: &[u8], into: &mut String) -> Result<(), AllocError> {
     for octet in octets.iter() {
         into.push(char::from(*octet))?;
     }

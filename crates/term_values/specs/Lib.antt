@@ -10,8 +10,11 @@ pub mod Denotes
 pub mod Der
 pub mod FilterTrees
 pub mod FirstFault
+pub mod FitTest
 pub mod Fits
+pub mod KeptTest
 pub mod LeafReading
+pub mod LeafTests
 pub mod Lengths
 pub mod Matching
 pub mod MatchingKinds
@@ -24,7 +27,9 @@ pub mod PduSyntaxes
 pub mod Rearranged
 pub mod ResultSyntaxes
 pub mod SameParts
+pub mod SameSyntax
 pub mod SameValue
+pub mod SetMembers
 pub mod Sketch
 pub mod SlotsDepth
 pub mod SlotsView

@@ -15,7 +15,8 @@ returns-in_ok-push-in-Some-2 c =
     let fits_l : SFits w64 l = search rules in
     let fits_least : SFits w64 pair.0 = search rules in
     let fits_greatest : SFits w64 pair.1 = search rules in
-    let was : c.args.joined.now.items ≡ c.pop.new.self.items ++ (b, l) ∷ [] = first_of (search rules, grind (arith, common_steps)) in
+    let was : c.args.joined.now.items ≡ c.pop.new.self.items ++ (b, l) ∷ [] =
+    first_of (search rules, grind (arith, common_steps)) in
     let is : c.push-then-is_apart-2.new.self.items ≡ (c.pop.new.self.items ++ (b, l) ∷ []) ++ pair ∷ [] =
     first_of (search (rules, to_z-of_z), grind (arith, common_steps, to_z-of_z)) in
     let apart : (l +ℤ pos 1) <ℤ pair.0 = omega (arith, ints, c.if-is_apart.ensures.apart refl) in
@@ -33,7 +34,8 @@ returns-in_ok-push-in-Some-3 c =
     let fits_least : SFits w64 pair.0 = search rules in
     let fits_greatest : SFits w64 pair.1 = search rules in
     let fits_g : SFits w64 g = search rules in
-    let was : c.args.joined.now.items ≡ c.pop.new.self.items ++ (b, l) ∷ [] = first_of (search rules, grind (arith, common_steps)) in
+    let was : c.args.joined.now.items ≡ c.pop.new.self.items ++ (b, l) ∷ [] =
+    first_of (search rules, grind (arith, common_steps)) in
     let is : c.push-else-is_apart.new.self.items ≡ c.pop.new.self.items ++ (b, g) ∷ [] =
     first_of (search (rules, to_z-of_z), grind (arith, common_steps, to_z-of_z)) in
     let greatest : g ≡ int_max l pair.1 = simp to_z-of_z at c.max.ensures.value in

@@ -1,0 +1,8 @@
+-- The links of the assignments so far.
+use Rattle.asn1_names.specs.TermViews.{module_terms}
+use Rattle.asn1_numbers.specs.NumberedBases.{IsBaseLink}
+use Rattle.asn1_numbers.proofs.EachLaws.{EachIs}
+use Rattle.asn1_numbers.proofs.bases.bases_of.Given as goal
+
+abbrev pub invariant-loop-number : goal.invariant-loop-number
+invariant-loop-number l = EachIs (IsBaseLink (module_terms l.tables)) l.number l.links.items
