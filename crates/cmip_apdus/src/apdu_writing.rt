@@ -72,7 +72,8 @@ pub fn write_bind(alloc: Global, title: &Oid) -> Result<Vec<u8>, AllocError>
 /// Appends the argument of m-Get for an object of this class with this name, the last octet first.
 fn write_get_argument(class: &Oid, name: &[Rdn], into: &mut Vec<u8>) -> Result<(), AllocError>
     ensures written { OnOk result (into.new.items
-        ≡ into.old.items ++ reverse (encoded true (universal 16) (class_octets class.now ++ instance_octets name.now))) }
+        ≡ into.old.items
+        ++ reverse (encoded true (universal 16) (class_octets class.now ++ instance_octets name.now))) }
     ensures begun { Extends into.old.items into.new.items }
 {
     let start = into.as_slice().len();

@@ -40,7 +40,8 @@ abbrev pub SingleIsReadBack : Type 0
 SingleIsReadBack =
     (id op own : ℤ) (syntax : TypeSyntax) (value : TypedValue) → IsId id → FitsSigned w64 op
     → CanBeWritten syntax value
-    → (tree : TreeValue) × IsFrameOf (sent_reply id op own (single syntax value)) (apdus.Result id (Some op) (Some tree))
+    → (tree : TreeValue) × IsFrameOf (sent_reply id op own (single syntax value))
+    (apdus.Result id (Some op) (Some tree))
     × (value_in syntax tree ≡ Some value)
 
 -- a linked reply has a value of LinkedReply

@@ -13,8 +13,8 @@ pub const GENERAL: u8 = 0;
 pub const OF_INVOKE: u8 = 1;
 
 /// Appends the frame of a Reject of what came under `id`, or under none that is known, with the class of its problem, 0
-/// general, 1 of an invoke, 2 of a result, 3 of an error, and the problem's number. After want of memory `into` is as it
-/// was.
+/// general, 1 of an invoke, 2 of a result, 3 of an error, and the problem's number. After want of memory `into` is as
+/// it was.
 pub fn write_reject(
     id: Option<i32>,
     class: u8,

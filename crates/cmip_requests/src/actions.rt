@@ -7,7 +7,7 @@ ghost use Rattle.term_model.specs.declared.actions.ActRec.{ActRec};
 ghost use Rattle.term_model.specs.Assertions.{given_of};
 ghost use Rattle.term_model.specs.Comparing.{is_same_oid};
 ghost use Rattle.term_model.specs.ArgumentRows.{at_end, held_under};
-ghost use Rattle.term_model.specs.RequestReading.{action_behind, action_inside, action_syntax, action_with};
+ghost use Rattle.term_model.specs.ScopedReading.{action_behind, action_inside, action_syntax, action_with};
 
 use crate::asserting::{copy_id, given, read_id};
 use crate::rows::{at_end, held_under};

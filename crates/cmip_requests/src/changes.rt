@@ -5,7 +5,7 @@ ghost use Rattle.std.specs.Option.{option_copied, option_map};
 ghost use Rattle.term_values.specs.Tree.{listed};
 ghost use Rattle.term_model.specs.Assertions.{attribute_given};
 ghost use Rattle.term_model.specs.ArgumentRows.{all_in};
-ghost use Rattle.term_model.specs.RequestReading.{change_behind, change_in, change_inside, change_with, operator_of};
+ghost use Rattle.term_model.specs.ScopedReading.{change_behind, change_in, change_inside, change_with, operator_of};
 
 use crate::asserting::{attribute_given, copy_id, read_id};
 use crate::parts::{at_most_one, inside_of, integer_of};

@@ -6,9 +6,9 @@ ghost use Rattle.term_values.specs.Tree.{listed};
 ghost use Rattle.term_model.specs.Parts.{one_under};
 ghost use Rattle.term_model.specs.declared.request.Place.TheVariants.{Below};
 ghost use Rattle.term_model.specs.InstanceNames.{instance_in};
-ghost use Rattle.term_model.specs.RequestReading.{create_attributes, create_in, create_instances, create_of};
-ghost use Rattle.term_model.specs.RequestReading.{create_trees, create_with, givens_of, place_in, place_of};
-ghost use Rattle.term_model.specs.RequestReading.{reference_of};
+ghost use Rattle.term_model.specs.CreateReading.{create_attributes, create_in, create_instances, create_of};
+ghost use Rattle.term_model.specs.CreateReading.{create_trees, create_with, givens_of, place_in, place_of};
+ghost use Rattle.term_model.specs.CreateReading.{reference_of};
 
 use crate::asserting::read_id;
 use crate::heads::is_controlled;

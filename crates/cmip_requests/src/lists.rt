@@ -4,7 +4,7 @@ ghost use Rattle.std.specs.Prelude.{◌≡◌, IfOk};
 ghost use Rattle.term_values.specs.Tree.{listed};
 ghost use Rattle.term_model.specs.Assertions.{id_in};
 ghost use Rattle.term_model.specs.ArgumentRows.{all_in};
-ghost use Rattle.term_model.specs.RequestReading.{attribute_in};
+ghost use Rattle.term_model.specs.CreateReading.{attribute_in};
 
 use crate::asserting::{read_given, read_id};
 use crate::parts::inside_of;

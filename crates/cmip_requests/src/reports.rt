@@ -5,8 +5,8 @@ ghost use Rattle.std.specs.Option.{option_copied, option_map};
 ghost use Rattle.term_values.specs.Tree.{listed};
 ghost use Rattle.term_model.specs.declared.actions.NoteRec.{NoteRec};
 ghost use Rattle.term_model.specs.Comparing.{is_same_oid};
-ghost use Rattle.term_model.specs.RequestReading.{event_of, event_with, notification_syntax, report_behind, report_in};
-ghost use Rattle.term_model.specs.RequestReading.{report_of, report_trees, report_with, time_in, time_of};
+ghost use Rattle.term_model.specs.ReportReading.{event_of, event_with, notification_syntax, report_behind, report_in};
+ghost use Rattle.term_model.specs.ReportReading.{report_of, report_trees, report_with, time_in, time_of};
 
 use crate::actions::given_any;
 use crate::asserting::read_id;

@@ -4,9 +4,9 @@ ghost use Rattle.std.specs.Prelude.{◌≡◌, Err, IfOk, None, Some, option_and
 ghost use Rattle.std.specs.Option.{option_copied, option_map};
 ghost use Rattle.term_values.specs.Tree.{listed};
 ghost use Rattle.cmip_requests.specs.declared.request_refusal.RequestRefusal.TheVariants.{Mistyped};
-ghost use Rattle.term_model.specs.RequestReading.{action_inside, action_of, asked_ids, cancelled_in, changes_of};
-ghost use Rattle.term_model.specs.RequestReading.{delete_of, get_of, ids_of, request_in, request_inside, scoped_of};
-ghost use Rattle.term_model.specs.RequestReading.{set_of};
+ghost use Rattle.term_model.specs.ScopedReading.{action_inside, action_of, asked_ids, changes_of, delete_of, get_of};
+ghost use Rattle.term_model.specs.ScopedReading.{ids_of, set_of};
+ghost use Rattle.term_model.specs.RequestReading.{cancelled_in, request_in, request_inside, scoped_of};
 ghost use Rattle.term_model.specs.ArgumentRows.{inside_last};
 
 use crate::actions::read_action;

@@ -154,11 +154,13 @@ mutual
       (λ a. at 9 G tag
       (if_mapped (AllTold inside) (Counted (Constructed (context 9) inside)) And (filters_in records inside)
       (all_counted records inside)
-      (λ filters q. outer (context 9) inside (And filters) (most_levels filters) (item_counts filters) refl q refl refl))
+      (λ filters q. outer (context 9) inside (And filters) (most_levels filters)
+      (item_counts filters) refl q refl refl))
       (λ b. at 10 G tag
       (if_mapped (AllTold inside) (Counted (Constructed (context 10) inside)) Or (filters_in records inside)
       (all_counted records inside)
-      (λ filters q. outer (context 10) inside (Or filters) (most_levels filters) (item_counts filters) refl q refl refl))
+      (λ filters q. outer (context 10) inside (Or filters) (most_levels filters)
+      (item_counts filters) refl q refl refl))
       (λ c. at 11 G tag
       (if_mapped (OneTold inside) (Counted (Constructed (context 11) inside)) Not (one_filter_in records inside)
       (one_counted records inside)

@@ -1,5 +1,5 @@
-//! Attribute value assertions in requests: X.711, section 7.5, types ObjectClass, AttributeId, ActionTypeId, EventTypeId
-//! and Attribute.
+//! Attribute value assertions in requests: X.711, section 7.5, types ObjectClass, AttributeId, ActionTypeId,
+//! EventTypeId and Attribute.
 
 ghost use Rattle.std.specs.Prelude.{◌≡◌, IfOk};
 ghost use Rattle.std.specs.Option.{option_copied, option_map};

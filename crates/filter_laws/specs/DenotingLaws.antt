@@ -1,5 +1,5 @@
--- What holds of the identifiers, assertions and filters that are read, and of what trees denote: X.711, section 7.5. The
--- relations are in FilterDenoting and Assertions of term_model, the readings in FilterReading and Assertions.
+-- What holds of the identifiers, assertions and filters that are read, and of what trees denote: X.711, section 7.5.
+-- The relations are in FilterDenoting and Assertions of term_model, the readings in FilterReading and Assertions.
 use Rattle.std.specs.List.{list_all}
 use Rattle.std.specs.Prelude.{◌≡◌, ◌↔◌, ℕ, List, Bool, true, Option, None, Some}
 use Rattle.term_values.specs.Soundness.{has_clear_tags}

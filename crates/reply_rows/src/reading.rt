@@ -1,5 +1,5 @@
-//! The arguments of a row. They are separated by `;`, and the members of a list by `,`. Octets are hexadecimal digits in
-//! words; `*` and a number behind a word say how often it stands, and `-` stands for no octets.
+//! The arguments of a row. They are separated by `;`, and the members of a list by `,`. Octets are hexadecimal digits
+//! in words; `*` and a number behind a word say how often it stands, and `-` stands for no octets.
 
 use crate::row_fault::RowFault;
 use hex::FromHexError;

@@ -23,8 +23,9 @@ use Rattle.term_model.specs.declared.schema.Set.{Set}
 use Rattle.term_model.specs.ArgumentRows.{inside_last}
 use Rattle.term_model.specs.Parts.{inside_under}
 use Rattle.term_model.specs.RequestHeads.{ScopedTrees, head_of, scoped_in}
-use Rattle.term_model.specs.RequestReading.{action_inside, action_of, asked_ids, changes_of, delete_of, get_of}
-use Rattle.term_model.specs.RequestReading.{request_in, request_inside, scoped_of, set_of as changes_request}
+use Rattle.term_model.specs.ScopedReading.{action_inside, action_of, asked_ids, changes_of, delete_of, get_of}
+use Rattle.term_model.specs.ScopedReading.{set_of as changes_request}
+use Rattle.term_model.specs.RequestReading.{request_in, request_inside, scoped_of}
 use Rattle.request_laws.specs.ArgumentLaws.{argument_of}
 use Rattle.request_laws.proofs.Heads.{scoped_same}
 use Rattle.request_laws.proofs.Lists.{action_same, asked_same, changes_same}

@@ -31,10 +31,8 @@ use Rattle.term_model.specs.Assertions.{IsIdRef, attribute_given, attribute_synt
 use Rattle.term_model.specs.Comparing.{is_same_oid}
 use Rattle.term_model.specs.Parts.{inside_under, one_under}
 use Rattle.term_model.specs.RequestHeads.{ScopedTrees, head_of}
-use Rattle.term_model.specs.RequestReading.{action_inside, action_of, action_syntax, action_with}
-use Rattle.term_model.specs.RequestReading.{change_behind, change_in, change_inside, change_with, changes_of}
-use Rattle.term_model.specs.RequestReading.{operator_of}
-use Rattle.term_model.specs.RequestReading.{set_of}
+use Rattle.term_model.specs.ScopedReading.{action_inside, action_of, action_syntax, action_with, change_behind}
+use Rattle.term_model.specs.ScopedReading.{change_in, change_inside, change_with, changes_of, operator_of, set_of}
 use Rattle.request_laws.specs.ChangeDenoting.{ActionIsDenoted, ActionsAreClear, AreChanges, DenotesAction, DenotesSet}
 use Rattle.request_laws.specs.ChangeDenoting.{IsArgument, IsChange, IsOperator, IsValue, SetIsDenoted}
 use Rattle.request_laws.specs.RequestDenoting.{before}

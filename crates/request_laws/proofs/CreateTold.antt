@@ -29,8 +29,8 @@ use Rattle.term_model.specs.Assertions.{given_in, id_in}
 use Rattle.term_model.specs.FilterDenoting.{DenoteGiven}
 use Rattle.term_model.specs.InstanceNames.{instance_in}
 use Rattle.term_model.specs.Parts.{inside_under, one_under}
-use Rattle.term_model.specs.RequestReading.{attribute_in, create_attributes, create_in, create_instances, create_of}
-use Rattle.term_model.specs.RequestReading.{create_trees, create_with, givens_of, place_in, place_of, reference_of}
+use Rattle.term_model.specs.CreateReading.{attribute_in, create_attributes, create_in, create_instances, create_of}
+use Rattle.term_model.specs.CreateReading.{create_trees, create_with, givens_of, place_in, place_of, reference_of}
 use Rattle.request_laws.specs.CreateDenoting.{AreAttributes, AreGiven, CreateIsDenoted, DenotesCreate, IsPlace}
 use Rattle.request_laws.specs.CreateDenoting.{IsReference}
 use Rattle.request_laws.specs.RequestDenoting.{before}

@@ -25,9 +25,9 @@ use Rattle.term_model.specs.ApduReading.{at_most_one as one_at_most}
 use Rattle.term_model.specs.ArgumentRows.{all_in, at_end, at_front, held_under, inside_last}
 use Rattle.term_model.specs.Assertions.{attribute_given, given_in, id_in}
 use Rattle.term_model.specs.Parts.{inside_under, one as alone}
-use Rattle.term_model.specs.RequestReading.{action_inside, action_with, asked_ids, attribute_in}
-use Rattle.term_model.specs.RequestReading.{change_behind, change_in, change_inside, change_with, changes_of, givens_of}
-use Rattle.term_model.specs.RequestReading.{ids_of, operator_of}
+use Rattle.term_model.specs.ScopedReading.{action_inside, action_with, asked_ids, change_behind, change_in}
+use Rattle.term_model.specs.ScopedReading.{change_inside, change_with, changes_of, ids_of, operator_of}
+use Rattle.term_model.specs.CreateReading.{attribute_in, givens_of}
 use Rattle.request_laws.proofs.Heads.{id_unbegun}
 use Rattle.request_laws.proofs.Identifiers.{id_same}
 use Rattle.request_laws.proofs.Instances.{sized}

@@ -31,10 +31,10 @@ use Rattle.term_model.specs.Assertions.{id_in}
 use Rattle.term_model.specs.InstanceNames.{instance_in}
 use Rattle.term_model.specs.Parts.{one_under}
 use Rattle.term_model.specs.RequestHeads.{object_of}
-use Rattle.term_model.specs.RequestReading.{CreateTrees, ReportTrees, create_attributes, create_in, create_instances}
-use Rattle.term_model.specs.RequestReading.{create_of, create_trees, create_with, event_of, event_with, givens_of}
-use Rattle.term_model.specs.RequestReading.{place_in, place_of, reference_of, report_behind, report_in, report_of}
-use Rattle.term_model.specs.RequestReading.{report_with, time_in, time_of}
+use Rattle.term_model.specs.CreateReading.{CreateTrees, create_attributes, create_in, create_instances, create_of}
+use Rattle.term_model.specs.CreateReading.{create_trees, create_with, givens_of, place_in, place_of, reference_of}
+use Rattle.term_model.specs.ReportReading.{ReportTrees, event_of, event_with, report_behind, report_in, report_of}
+use Rattle.term_model.specs.ReportReading.{report_with, time_in, time_of}
 use Rattle.request_laws.proofs.Arranged.{create_order, object_order, report_order}
 use Rattle.request_laws.proofs.Heads.{access_same, id_unbegun, instance_unbegun, no_object, object_same, objects_same}
 use Rattle.request_laws.proofs.Identifiers.{id_same}

@@ -31,8 +31,8 @@ use Rattle.term_model.specs.Assertions.{IsIdRef, given_of, id_in}
 use Rattle.term_model.specs.InstanceNames.{instance_in}
 use Rattle.term_model.specs.Parts.{inside_under, one_under}
 use Rattle.term_model.specs.RequestHeads.{object_of}
-use Rattle.term_model.specs.RequestReading.{ReportTrees, event_of, event_with, notification_syntax, report_behind}
-use Rattle.term_model.specs.RequestReading.{report_in, report_of, report_trees, report_with, time_in, time_of}
+use Rattle.term_model.specs.ReportReading.{ReportTrees, event_of, event_with, notification_syntax, report_behind}
+use Rattle.term_model.specs.ReportReading.{report_in, report_of, report_trees, report_with, time_in, time_of}
 use Rattle.request_laws.specs.ObjectDenoting.{DenotesReport, IsInfo, IsTime, NotificationsAreClear, ReportIsDenoted}
 use Rattle.request_laws.specs.RequestDenoting.{IsInstance, before}
 use Rattle.request_laws.proofs.HeadTold.{front_back, front_octets, inside_told, instance_told, one_told}

@@ -22,7 +22,7 @@ use Rattle.term_model.specs.ArgumentRows.{all_in, at_end, where_last}
 use Rattle.term_model.specs.Assertions.{id_in}
 use Rattle.term_model.specs.Parts.{inside_under}
 use Rattle.term_model.specs.RequestHeads.{ScopedTrees, head_of, options_behind, scoped_in}
-use Rattle.term_model.specs.RequestReading.{asked_ids, delete_of, get_of, ids_of}
+use Rattle.term_model.specs.ScopedReading.{asked_ids, delete_of, get_of, ids_of}
 use Rattle.request_laws.specs.RequestDenoting.{AreAsked, AreIds, DeleteIsDenoted, GetIsDenoted, before, row}
 use Rattle.request_laws.proofs.HeadTold.{TreesHeld, head_told, inside_told, row_back, trees_held}
 

@@ -21,7 +21,8 @@ use Rattle.term_model.specs.declared.schema.AttrRec.{AttrRec}
 use Rattle.term_model.specs.declared.schema.Set.{Set}
 use Rattle.term_model.specs.Assertions.{IsGiven, IsIdRef, attribute_syntax}
 use Rattle.term_model.specs.RequestHeads.{ScopedTrees}
-use Rattle.term_model.specs.RequestReading.{action_syntax, request_in}
+use Rattle.term_model.specs.ScopedReading.{action_syntax}
+use Rattle.term_model.specs.RequestReading.{request_in}
 use Rattle.request_laws.specs.RequestDenoting.{IsHead, before, row}
 
 -- modifyOperator [2], replace where it is left out

@@ -19,7 +19,8 @@ use Rattle.term_model.specs.declared.request.Request.{Request}
 use Rattle.term_model.specs.declared.request.Request.TheVariants as requests
 use Rattle.term_model.specs.declared.schema.Set.{Set}
 use Rattle.term_model.specs.Assertions.{IsGiven, IsIdRef}
-use Rattle.term_model.specs.RequestReading.{notification_syntax, request_in}
+use Rattle.term_model.specs.ReportReading.{notification_syntax}
+use Rattle.term_model.specs.RequestReading.{request_in}
 use Rattle.request_laws.specs.RequestDenoting.{IsInstance, before}
 
 -- eventTime [5], which may be left out

@@ -39,7 +39,8 @@ use Rattle.result_contents.specs.ResultOctets.{reply_octets, told_octets}
 pub turned_before : (first last : List ℕ) {empty once again : List ℕ} → empty ≡ [] → once ≡ empty ++ reverse last
     → again ≡ once ++ reverse first → reverse again ≡ first ++ last
 turned_before first last start sooner later =
-    ap reverse (before [] first last later (sooner ∙ ap (λ xs. xs ++ reverse last) start)) ∙ reverse-reverse (first ++ last)
+    ap reverse (before [] first last later (sooner ∙ ap (λ xs. xs ++ reverse last) start))
+    ∙ reverse-reverse (first ++ last)
 
 -- what alone was written
 pub turned_alone : (only : List ℕ) {empty once : List ℕ} → empty ≡ [] → once ≡ empty ++ reverse only

@@ -1,5 +1,5 @@
--- The octets with which results begin, those of an action's reply and of a failure's reason: words for the clauses of private functions. That
--- they are the one form of the values is said in ResultLaws. X.711, section 7.5.
+-- The octets with which results begin, those of an action's reply and of a failure's reason: words for the clauses of
+-- private functions. That they are the one form of the values is said in ResultLaws. X.711, section 7.5.
 use Rattle.std.specs.Prelude.{ℕ, List, [], ◌++◌, false, true, Option, None, Some}
 use Rattle.term_values.specs.Der.{encoded}
 use Rattle.term_values.specs.Oid.{oid_contents}

@@ -1,5 +1,5 @@
-//! The errors of CMIP with their parameters: X.711, section 7.5. Identifiers stand as the request named them, instances,
-//! filters and values octet for octet as they are handed in.
+//! The errors of CMIP with their parameters: X.711, section 7.5. Identifiers stand as the request named them,
+//! instances, filters and values octet for octet as they are handed in.
 #![tactic(auto, using(ber_tree::proofs::Extending::extending))]
 
 ghost use Rattle.std.specs.Prelude.{◌≡◌, Some, false, IfOk, reverse};

@@ -39,7 +39,7 @@ load_fits = record {
   small = omega arith;
 }
 
-both : {X : Type 0} (P : X → Type 0) (x y : X) → P x → P y → All P (x ∷ y ∷ [])
+pub both : {X : Type 0} (P : X → Type 0) (x y : X) → P x → P y → All P (x ∷ y ∷ [])
 both P x y p q = All-cons P x (y ∷ []) p (All-cons P y [] q (All-nil P))
 
 -- an element has the attributes of its package
@@ -71,11 +71,11 @@ has_load = record {
 }
 
 -- and no others: it derives from no class, and has no other package
-contains_one : {X : Type 0} {x y : X} → Contains (x ∷ []) y → x ≡ y
+pub contains_one : {X : Type 0} {x y : X} → Contains (x ∷ []) y → x ≡ y
 contains_one (zero, within, is) = is
 contains_one (suc i, within, is) = absurd (omega arith)
 
-contains_none : {X : Type 0} {y : X} → Contains {X = X} [] y → ⊥
+pub contains_none : {X : Type 0} {y : X} → Contains {X = X} [] y → ⊥
 contains_none (i, within, is) = absurd (omega arith)
 
 only_itself : {above : List ℕ} → IsAbove network element_oid above → (class : List ℕ) → Derives network above class → ⊥
@@ -87,7 +87,7 @@ above_element : {above : List ℕ} → IsAbove network element_oid above → ele
 above_element Itself = refl
 above_element (Further is derives) = absurd (only_itself is _ derives)
 
-mandatory_of : (of_class : ClassRec) (is : element_class ≡ of_class) (has : PackageRec)
+pub mandatory_of : (of_class : ClassRec) (is : element_class ≡ of_class) (has : PackageRec)
     → Contains of_class.mandatory has
     ⊎ (Contains of_class.conditional has × ((id : List ℕ) × (has.id ≡ Some id) × Contains [] id))
     → element_package ≡ has
@@ -99,7 +99,7 @@ mandatory_of of_class is has (inr there) =
 element_package_only : {has : PackageRec} → HasPackage network element_oid [] has → element_package ≡ has
 element_package_only {has} h = mandatory_of h.of_class (contains_one h.record_of.known) has h.there
 
-of_two : (property : Property) → Contains (id_property ∷ load_property ∷ []) property
+pub of_two : (property : Property) → Contains (id_property ∷ load_property ∷ []) property
     → Contains (identifiers element.attrs) property.attribute
 of_two property (zero, within, is) = (0, omega arith, ap (λ (p : Property). p.attribute) is)
 of_two property (suc zero, within, is) = (1, omega arith, ap (λ (p : Property). p.attribute) is)

@@ -1,5 +1,5 @@
--- Replies, errors, reports and rejects of an agent whose root is an element {elementId = 1} (class 2.999.3.1, attributes
--- 2.999.7.1 and 2.999.7.2), octet for octet, computed from the definitions: docs/PROFILE.md, section 4.
+-- Replies, errors, reports and rejects of an agent whose root is an element {elementId = 1} (class 2.999.3.1,
+-- attributes 2.999.7.1 and 2.999.7.2), octet for octet, computed from the definitions: docs/PROFILE.md, section 4.
 use Rattle.std.specs.Prelude.{◌≡◌, ℕ, pos, negsuc, List, [], ◌∷◌, ◌++◌, None, Some, codes, refl}
 use Rattle.term_values.specs.Der.{identifier_octets, length_octets}
 use Rattle.term_values.specs.Octets.{integer_contents}

@@ -1,4 +1,5 @@
--- Components of a SEQUENCE in a row, of which some may be left out, and members of a list: X.690, sections 8.9 and 8.10.
+-- Components of a SEQUENCE in a row, of which some may be left out, and members of a list: X.690, sections 8.9 and
+-- 8.10.
 use Rattle.std.specs.Prelude.{ℕ, List, [], ◌∷◌, Bool, true, false, ◌||◌, Option, None, Some, option_and_then}
 use Rattle.std.specs.Prelude.{if◌then◌else◌}
 use Rattle.std.specs.Option.{option_map}

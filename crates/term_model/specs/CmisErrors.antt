@@ -1,6 +1,6 @@
 -- The errors of CMIP with their parameters: X.711, section 7.5; docs/PROFILE.md, section 4. What the request brought is
--- given back in the request's form: identifiers as they were named, an instance, a filter and a value octet for octet in
--- the form in which an ANY is kept.
+-- given back in the request's form: identifiers as they were named, an instance, a filter and a value octet for octet
+-- in the form in which an ANY is kept.
 use Rattle.std.specs.Prelude.{ℕ, ℤ, List, map}
 use Rattle.term_values.specs.CmipTypes.{attribute_id}
 use Rattle.term_values.specs.Typed.{TypedValue}

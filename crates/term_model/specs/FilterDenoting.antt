@@ -27,7 +27,8 @@ DenoteGiven records trees given =
     × IsGiven (attribute_syntax records given.id) given.id value given
 
 abbrev pub DenotesGiven : ℕ → List AttrRec → TreeValue → Given → Type 0
-DenotesGiven number records tree given = (inside : TreeValues) × Holds number tree inside × DenoteGiven records inside given
+DenotesGiven number records tree given = (inside : TreeValues) × Holds number tree inside
+    × DenoteGiven records inside given
 
 -- pieces: initial [0], any [1], final [2]
 abbrev pub DenotePieces : List AttrRec → TreeValues → List Piece → Type 0
@@ -50,7 +51,8 @@ DenotesItem records tree (items.Meets given) = DenotesGiven 7 records tree given
 -- item [8] explicit, and [9], or [10], not [11] explicit. The filters of a SET OF stand as they came.
 abbrev mutual
   pub DenotesFilter : List AttrRec → TreeValue → FilterTree → Type 0
-  DenotesFilter records tree (OfItem item) = (x : TreeValue) × Holds 8 tree (Then x Nothing) × DenotesItem records x item
+  DenotesFilter records tree (OfItem item) = (x : TreeValue) × Holds 8 tree (Then x Nothing)
+      × DenotesItem records x item
   DenotesFilter records tree (And filters) =
       (inside : TreeValues) × Holds 9 tree inside × DenoteFilters records inside filters
   DenotesFilter records tree (Or filters) =

@@ -4,9 +4,10 @@ use Rattle.std.specs.Option.{option_map}
 use Rattle.term_values.specs.Tree.{listed}
 use Rattle.term_model.specs.declared.request.Change.{Change}
 use Rattle.term_model.specs.ArgumentRows.{all_in}
-use Rattle.term_model.specs.RequestReading.{change_in}
+use Rattle.term_model.specs.ScopedReading.{change_in}
 use Rattle.cmip_requests.proofs.changes.read_changes.Given as goal
 
 abbrev pub invariant-loop-tree : goal.invariant-loop-tree
 invariant-loop-tree l = all_in (change_in l.records) (listed l.trees)
-    ≡ option_map (λ (rest : List Change). l.items.items ++ rest) (all_in (change_in l.records) (listed (drop l.tree-index l.trees)))
+    ≡ option_map (λ (rest : List Change). l.items.items ++ rest)
+    (all_in (change_in l.records) (listed (drop l.tree-index l.trees)))

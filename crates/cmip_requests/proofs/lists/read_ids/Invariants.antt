@@ -9,4 +9,5 @@ use Rattle.cmip_requests.proofs.lists.read_ids.Given as goal
 
 abbrev pub invariant-loop-tree : goal.invariant-loop-tree
 invariant-loop-tree l = all_in (id_in 0 1) (listed l.trees)
-    ≡ option_map (λ (rest : List IdRef). l.items.items ++ rest) (all_in (id_in 0 1) (listed (drop l.tree-index l.trees)))
+    ≡ option_map (λ (rest : List IdRef). l.items.items ++ rest)
+    (all_in (id_in 0 1) (listed (drop l.tree-index l.trees)))

@@ -8,5 +8,6 @@ pub returns-in-Global : goal.returns-in-Global
 returns-in-Global c =
     let whole : c.as_slice.result.now ≡ c.args.records.now = search rules in
     let found = rw whole at c.find_notification.ensures in
-    let read = c.information.ensures ∙ ap (option_and_then (λ (of_notification : NoteRec). of_notification.information)) found in
+    let read = c.information.ensures
+    ∙ ap (option_and_then (λ (of_notification : NoteRec). of_notification.information)) found in
     rw (c.in-Global.is) read

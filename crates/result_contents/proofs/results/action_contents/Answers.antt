@@ -11,5 +11,6 @@ returns c =
     let told = told_octets c.args.class.now c.args.name.now c.args.time.now in
     let rest =
     reply_octets c.args.reply.now in
-    turned_before told rest c.new-turned.ensures.items c.in_ok-write_optional_reply.ensures.written c.in_ok-write_told.ensures.written
+    turned_before told rest c.new-turned.ensures.items c.in_ok-write_optional_reply.ensures.written
+    c.in_ok-write_told.ensures.written
     ∙ action_written c.args.class.now c.args.name.now c.args.time.now c.args.reply.now

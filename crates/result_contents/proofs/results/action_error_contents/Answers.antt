@@ -18,7 +18,8 @@ returns c =
     let rest =
     encoded true (context 6)
     (encoded true (universal 16)
-    (encoded false (universal 10) (integer_contents c.args.status) ++ der action_type_id (id_value c.args.action.now))) in
+    (encoded false (universal 10) (integer_contents c.args.status)
+    ++ der action_type_id (id_value c.args.action.now))) in
     let list = rw (to_z-of_z c.ranges.status) at c.in_ok-write_action_error.ensures.written in
     turned_before told rest c.new-turned.ensures.items list c.in_ok-write_told.ensures.written
     ∙ action_error_written c.args.class.now c.args.name.now c.args.time.now c.args.status c.args.action.now

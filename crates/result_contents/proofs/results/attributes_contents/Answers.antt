@@ -18,5 +18,6 @@ returns c =
     let rest =
     encoded true (context 6)
     (joined (rising (map (λ held. der attribute (held_value held)) c.args.attributes.now))) in
-    turned_before told rest c.new-turned.ensures.items c.in_ok-write_attributes.ensures.written c.in_ok-write_told.ensures.written
+    turned_before told rest c.new-turned.ensures.items c.in_ok-write_attributes.ensures.written
+    c.in_ok-write_told.ensures.written
     ∙ attributes_written c.args.class.now c.args.name.now c.args.time.now c.args.attributes.now

@@ -18,5 +18,6 @@ returns c =
     let rest =
     encoded true (context 6)
     (joined (rising (map (λ status. der (outcome get_error) (get_info_value status)) c.args.statuses.now))) in
-    turned_before told rest c.new-turned.ensures.items c.in_ok-write_get_info.ensures.written c.in_ok-write_told.ensures.written
+    turned_before told rest c.new-turned.ensures.items c.in_ok-write_get_info.ensures.written
+    c.in_ok-write_told.ensures.written
     ∙ get_list_written c.args.class.now c.args.name.now c.args.time.now c.args.statuses.now

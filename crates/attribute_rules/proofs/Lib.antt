@@ -1,0 +1,4 @@
+-- The lemmas of this crate.
+pub mod BoundLaws
+pub mod NamingLaws
+pub mod WeightLaws

@@ -1,0 +1,2 @@
+pub mod MandatoryAttributes
+pub mod Weights

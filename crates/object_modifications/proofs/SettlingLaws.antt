@@ -1,0 +1,86 @@
+-- What a modification leaves, and its size: availabilityStatus of a bound log doesn't count.
+use Rattle.std.proofs.Common.{◌≡◌, ℕ, ℤ, ◌+◌, Bool, true, false, ◌&&◌, ◌||◌, List, [], ◌∷◌, ◌++◌, Ok}
+use Rattle.std.proofs.Common.{refl, sym, ap, ◌∙◌}
+use Rattle.std.proofs.Common.{subst}
+use Rattle.std.specs.Prelude.{Result, codes, if◌then◌else◌, map}
+use Rattle.term_values.specs.Typed.{TypedValue}
+use Rattle.term_model.specs.declared.object.Attribute.{Attribute}
+use Rattle.term_model.specs.declared.object.Object.{Object}
+use Rattle.term_model.specs.declared.request.Change.{Change}
+use Rattle.term_model.specs.declared.schema.AttrRec.{AttrRec}
+use Rattle.term_model.specs.declared.schema.Set.{Set}
+use Rattle.term_model.specs.ClassAttributes.{is_labelled}
+use Rattle.term_model.specs.Modifications.{Modified, replaced, settled, without_full}
+use Rattle.object_modifications.specs.declared.settling.Modified.{Modified as Kept}
+use Rattle.object_modifications.specs.Settling.{given_by, made_of}
+use Rattle.object_modifications.specs.Trying.{IsWeighed}
+use Rattle.attribute_rules.specs.Weights.{weight, weights}
+
+silent : (records : List AttrRec) (attribute : Attribute)
+    → is_labelled records (codes "availabilityStatus") attribute.id ≡ true → weight records true attribute ≡ 0
+silent records attribute h = rw h refl
+
+full_weight : (records : List AttrRec) (attribute : Attribute)
+    → weight records true (without_full records attribute) ≡ weight records true attribute
+full_weight records attribute = by_test (is_labelled records (codes "availabilityStatus") attribute.id) refl
+  where
+    by_test : (b : Bool) → is_labelled records (codes "availabilityStatus") attribute.id ≡ b
+        → weight records true (without_full records attribute) ≡ weight records true attribute
+    by_test true e =
+        let left = without_full records attribute in
+        let same : left.id ≡ attribute.id = rw e refl in
+        let also : is_labelled records (codes "availabilityStatus") left.id ≡ true =
+        ap (λ id. is_labelled records (codes "availabilityStatus") id) same ∙ e in
+        silent records left also ∙ sym (silent records attribute e)
+    by_test false e =
+        let same : without_full records attribute ≡ attribute = rw e refl in
+        ap (λ (one : Attribute). weight records true one) same
+
+full_weights : (records : List AttrRec) (attributes : List Attribute)
+    → weights records true (map (without_full records) attributes) ≡ weights records true attributes
+full_weights records [] = refl
+full_weights records (attribute ∷ others) =
+    ap (λ n. n + weights records true (map (without_full records) others)) (full_weight records attribute)
+    ∙ ap (λ n. weight records true attribute + n) (full_weights records others)
+
+given_weights : (records : List AttrRec) (bound : Bool) (id : List ℕ) (value : TypedValue) (attributes : List Attribute)
+    → weights records bound (given_by records bound id value attributes)
+    ≡ weights records bound (replaced id value attributes)
+given_weights records bound id value attributes =
+    by_label
+    (is_labelled records (codes "maxLogSize") id || is_labelled records (codes "logFullAction") id) bound
+  where
+    left : List Attribute
+    left = replaced id value attributes
+
+    by_label : (lab b : Bool)
+        → weights records b (if lab && b then map (without_full records) left else left) ≡ weights records b left
+    by_label true true = full_weights records left
+    by_label true false = refl
+    by_label false b = refl
+
+pub settled_gives : (schema : Set) (bound : Bool) (before after : Kept) (change : Change) (id : List ℕ)
+    (value : TypedValue) (size : ℕ) (told : Result TypedValue ℤ) → IsWeighed schema bound before.object before.size
+    → (told ≡ Ok value)
+    × IsWeighed schema bound (record before.object { attrs = replaced id value before.object.attrs }) size
+    → made_of after ≡ record (made_of before) {
+      object = record before.object { attrs = given_by schema.attributes bound id value before.object.attrs };
+      done = before.done ++ id ∷ [];
+    }
+    → (made_of after ≡ settled schema (made_of before) change id told) × IsWeighed schema bound after.object size
+settled_gives schema bound before after change id value size told weighed (is, inner) h = (
+  h
+      ∙ ap
+      (λ b. record (made_of before) {
+        object = record before.object { attrs = given_by schema.attributes b id value before.object.attrs };
+        done = before.done ++ id ∷ [];
+      })
+      weighed.class
+      ∙ ap (settled schema (made_of before) change id) (sym is),
+  subst (λ (x : Object). IsWeighed schema bound x size) (sym (ap (λ (m : Modified). m.object) h))
+      (record {
+        class = weighed.class;
+        sum = inner.sum ∙ sym (given_weights schema.attributes bound id value before.object.attrs);
+        small = inner.small;
+      }),
+)

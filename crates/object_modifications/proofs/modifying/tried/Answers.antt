@@ -1,0 +1,31 @@
+-- The attribute is there, and managers may modify it so.
+use Rattle.std.proofs.Common.{rules, ◌≡◌, true, Some, sym, ap, ◌∙◌, subst}
+use Rattle.term_model.specs.ClassAttributes.{syntax_of}
+use Rattle.term_model.specs.Modifiable.{is_operator, modifiable}
+use Rattle.term_model.specs.Modifications.{attribute_of}
+use Rattle.object_modifications.specs.Trying.{TellsTried}
+use Rattle.object_modifications.proofs.TryingLaws.{if_ok_then, tried_is}
+use Rattle.object_modifications.proofs.modifying.tried.Goals as goal
+
+pub returns-in-Some-syntax_of : goal.returns-in-Some-syntax_of
+returns-in-Some-syntax_of c =
+    let schema = c.args.schema.now in
+    let name = c.args.name.now in
+    let object = c.args.object.now in
+    let change = c.args.change.now in
+    let id = c.args.id.now in
+    let held = c.in-Some.held.now in
+    let property = c.in-Some-modifiable.property.now in
+    let syntax = c.in-Some-syntax_of.syntax.now in
+    let slice : c.as_slice.result.now ≡ object.attrs = search rules in
+    let a : attribute_of object.attrs id ≡ Some held =
+    ap (λ xs. attribute_of xs id) (sym slice) ∙ sym c.in-Some.ensures in
+    let o : is_operator change.operator ≡ true = search rules in
+    let m : modifiable schema name object.class change.operator id ≡ Some property = search rules in
+    let s : syntax_of schema.attributes id ≡ Some syntax = sym c.in-Some-syntax_of.ensures in
+    if_ok_then c.tried_value.result
+    (λ came told weighed.
+    subst (λ r. TellsTried schema c.args.bound object id r came)
+    (sym (tried_is schema name object change id held property syntax a o m s))
+    (told schema object id (λ i. schema.attributes) a weighed))
+    c.tried_value.ensures

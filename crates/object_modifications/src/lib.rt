@@ -1,0 +1,10 @@
+//! What a Set does to one object: X.711, section 7.4.
+#![tactic(auto)]
+
+pub(crate) mod held_values;
+pub(crate) mod modified_values;
+pub(crate) mod modifying;
+pub mod object_set;
+pub(crate) mod settling;
+
+pub use object_set::set_one;

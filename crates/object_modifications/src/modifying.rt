@@ -1,0 +1,104 @@
+//! One modification of an attribute: X.711, section 7.4, m-Set, and section 7.5, type ModifyOperator.
+
+ghost use Rattle.std.specs.Prelude.{◌≡◌, ℕ, List, Some, IfOk};
+ghost use Rattle.term_model.specs.declared.object.Attribute.{Attribute};
+ghost use Rattle.term_model.specs.declared.object.Object.{Object};
+ghost use Rattle.term_model.specs.declared.schema.Set.{Set};
+ghost use Rattle.term_model.specs.BoundClasses.{is_bound_log};
+ghost use Rattle.term_model.specs.Modifications.{attribute_of, replaced, tried, tried_value};
+ghost use Rattle.object_modifications.specs.Trying.{IsWeighed, TellsTried};
+
+use crate::modified_values::{may_stand, modified_value};
+use attribute_rules::lookups::{attribute_of, is_operator, modifiable, syntax_of};
+use attribute_rules::sizes::{is_within, weight};
+use std::alloc::{AllocError, Global};
+use term_model::{AttrRecs, Attribute, Change, Object, Property, Rdn, Set};
+use term_values::leaf_lengths::plus;
+use term_values::{Oid, Syntax, Value};
+
+/// noSuchAttribute: X.711, section 7.5.
+pub(crate) const NO_SUCH_ATTRIBUTE: i64 = 5;
+
+/// invalidAttributeValue: X.711, section 7.5.
+const INVALID_ATTRIBUTE_VALUE: i64 = 6;
+
+/// invalidOperation: X.711, section 7.5.
+const INVALID_OPERATION: i64 = 24;
+
+/// invalidOperator: X.711, section 7.5.
+const INVALID_OPERATOR: i64 = 25;
+
+/// What comes of a modification.
+#[derive(Drop)]
+pub(crate) enum Trial {
+    /// The attribute's value, and the octets that the attributes of the object take with it.
+    Gives(Value, u64),
+    /// The number of the error by which it fails.
+    Fails(i64),
+}
+
+/// The value that a modification gives an attribute with these properties.
+fn tried_value(
+    alloc: Global,
+    records: &AttrRecs,
+    bound: bool,
+    total: u64,
+    held: &Attribute,
+    property: &Property,
+    syntax: &Syntax,
+    change: &Change,
+) -> Result<Trial, AllocError>
+    ensures { IfOk result (λ came. (schema : Set) → (object : Object) → (id : List ℕ)
+        → schema.attributes ≡ records.now → attribute_of object.attrs id ≡ Some held.now
+        → IsWeighed schema bound object total → TellsTried schema bound object id
+        (tried_value schema object change.now id held.now property.now syntax.now) came) }
+{
+    let value = match modified_value(alloc, syntax, property, &held.value, change)? {
+        Some(value) => value,
+        None => return Ok(Trial::Fails(INVALID_ATTRIBUTE_VALUE)),
+    };
+    if !may_stand(alloc, syntax, property, &value)? {
+        return Ok(Trial::Fails(INVALID_ATTRIBUTE_VALUE));
+    }
+    let id = held.id.copy(alloc)?;
+    let changed = Attribute { id, value };
+    let before = weight(alloc, records, bound, held)?;
+    let now = weight(alloc, records, bound, &changed)?;
+    let size = plus(total.saturating_sub(before), now);
+    if !is_within(size) {
+        return Ok(Trial::Fails(INVALID_ATTRIBUTE_VALUE));
+    }
+    Ok(Trial::Gives(changed.value, size))
+}
+
+/// The value that a modification gives the attribute with this identifier, or the error by which it fails.
+pub(crate) fn tried(
+    alloc: Global,
+    schema: &Set,
+    name: &[Rdn],
+    bound: bool,
+    total: u64,
+    object: &Object,
+    change: &Change,
+    id: &Oid,
+) -> Result<Trial, AllocError>
+    ensures { IfOk result (λ came. IsWeighed schema.now bound object.now total
+        → TellsTried schema.now bound object.now id.now (tried schema.now name.now object.now change.now id.now) came) }
+{
+    let held = match attribute_of(object.attrs.items.as_slice(), id) {
+        Some(held) => held,
+        None => return Ok(Trial::Fails(NO_SUCH_ATTRIBUTE)),
+    };
+    if !is_operator(change.operator) {
+        return Ok(Trial::Fails(INVALID_OPERATOR));
+    }
+    let property = match modifiable(schema, name, &object.class, change.operator, id) {
+        Some(property) => property,
+        None => return Ok(Trial::Fails(INVALID_OPERATION)),
+    };
+    let records = &schema.attributes;
+    match syntax_of(records, id) {
+        Some(syntax) => tried_value(alloc, records, bound, total, held, property, syntax, change),
+        None => Ok(Trial::Fails(INVALID_ATTRIBUTE_VALUE)),
+    }
+}

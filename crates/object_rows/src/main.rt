@@ -1,0 +1,35 @@
+//! Answers rows: each line of standard input is a Get or a Set of an object of a schema that the program makes, and
+//! what comes of it is printed in a line. Lines that are empty or begin with `#` are printed as they are.
+#![tactic(auto)]
+
+mod answering;
+mod reading;
+mod row_changes;
+mod row_fault;
+mod row_object;
+mod row_properties;
+mod row_set;
+mod row_syntaxes;
+mod showing;
+mod showing_effects;
+
+use answering::answer_line;
+use row_set::example_set;
+use std::io;
+use term_model::Set;
+
+/// Answers all lines by a schema.
+fn answer_by(rt: HostRuntime, set: &Set) -> io::Result<()> {
+    for line in rt.lines(rt.alloc()) {
+        let answer = answer_line(rt.alloc(), set, line?.as_str())?;
+        println!(rt; "{}", answer.as_str().trim_end())?;
+    }
+    Ok(())
+}
+
+fn main(rt: HostRuntime) -> io::Result<()> {
+    match example_set(rt.alloc()) {
+        Ok(set) => answer_by(rt, &set),
+        Err(fault) => println!(rt; "{}", fault.text()),
+    }
+}

@@ -1,0 +1,51 @@
+//! The objects of rows: attributes with their values, by their numbers.
+
+use crate::reading;
+use crate::row_fault::RowFault;
+use std::alloc::Global;
+use term_model::{Attribute, Attrs, Name, Object, Oids, Rdn};
+use term_values::Bytes;
+
+/// An attribute: a number, an equals sign and a value.
+fn attribute(alloc: Global, text: &str) -> Result<Attribute, RowFault> {
+    match text.split_once('=') {
+        Some((number, value)) => {
+            let value = reading::value(alloc, value)?;
+            let id = reading::identifier(alloc, 7, reading::arc(number)?)?;
+            Ok(Attribute { id, value })
+        }
+        None => Err(RowFault::Arguments),
+    }
+}
+
+/// Attributes in the order of their words.
+fn attributes(alloc: Global, text: &str) -> Result<Attrs, RowFault> {
+    let mut items = Vec::new(alloc);
+    for word in text.split_whitespace() {
+        items.push(attribute(alloc, word)?)?;
+    }
+    Ok(Attrs { items })
+}
+
+/// An object of the class with the number and its attributes.
+pub fn object(alloc: Global, class: &str, text: &str) -> Result<Object, RowFault> {
+    let attrs = attributes(alloc, text)?;
+    let class = reading::identifier(alloc, 3, reading::arc(class)?)?;
+    Ok(Object {
+        class,
+        binding: None,
+        chosen: Oids {
+            items: Vec::new(alloc),
+        },
+        attrs,
+    })
+}
+
+/// The name with one part, that the attribute 1 is 5.
+pub fn element_name(alloc: Global) -> Result<Name, RowFault> {
+    let attribute = reading::identifier(alloc, 7, 1)?;
+    let value = Bytes::from_slice(alloc, b"\x02\x01\x05")?;
+    let mut parts = Vec::new(alloc);
+    parts.push(Rdn { attribute, value })?;
+    Ok(Name { parts })
+}

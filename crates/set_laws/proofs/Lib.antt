@@ -1,0 +1,9 @@
+pub mod Members
+pub mod SameKind
+pub mod Unnamed
+pub mod Left
+pub mod Given
+pub mod Sizes
+pub mod Values
+pub mod SetLawFacts
+pub mod FullLogFacts

@@ -1,0 +1,4 @@
+mod HaveLaws
+mod LoopLaws
+mod SetLaws
+mod StandardFacts

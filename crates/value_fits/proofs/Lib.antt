@@ -1,0 +1,5 @@
+mod FitLaws
+mod KeptLaws
+mod LeafLaws
+mod LoopLaws
+mod StandardFacts
