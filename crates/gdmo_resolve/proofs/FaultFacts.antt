@@ -1,5 +1,6 @@
--- Examples of docs/PROFILE.md, section 12, computed: a name that a module assigns twice, a value for a type, a first name
--- that is that of a type, a word behind REPLY, an attribute by which a ROOT is named, and types that differ in DEFAULT.
+-- Examples of docs/PROFILE.md, section 12, computed: a name that a module assigns twice, a value for a type, a first
+-- name that is that of a type, a word behind REPLY, an attribute by which a ROOT is named, and types that differ in
+-- DEFAULT.
 use Rattle.std.specs.Prelude.{◌≡◌, ℕ, zero, suc, List, [], ◌∷◌, true, false, None, Some, codes, refl}
 use Rattle.std.proofs.Common.{arith, inl, subst, sym, ◌∙◌}
 use Rattle.std.proofs.lemmas.Option.{none-some}
@@ -8,24 +9,24 @@ use Rattle.token_grammar.specs.Form.{Tree, Bare}
 use Rattle.term_values.specs.Syntaxes.{TypeSyntax}
 use Rattle.term_values.specs.Syntaxes.TypeSyntax.{Integer, Sequence}
 use Rattle.term_values.specs.Syntaxes.TypeParts.{NoParts, Part as APart}
-use Rattle.asn1_resolve.specs.Constraining.Constrains.{no_more}
-use Rattle.asn1_resolve.specs.Containment.IsMember.{first}
-use Rattle.asn1_resolve.specs.DefaultTexts.HasDefault.{here, component}
-use Rattle.asn1_resolve.specs.DenotedSyntax.{Denotes}
-use Rattle.asn1_resolve.specs.DenotedSyntax.AreNamed.{no_more as no_names}
-use Rattle.asn1_resolve.specs.DenotedSyntax.Denotes.{plain, sequence}
-use Rattle.asn1_resolve.specs.DenotedSyntax.MembersDenote.{no_members, member}
-use Rattle.asn1_resolve.specs.DenotedSyntax.PlainDenotes.{integer}
-use Rattle.asn1_resolve.specs.ModuleTerms.{AssignmentTerm, AssignedTerm, PresenceTerm, TypeTerm}
-use Rattle.asn1_resolve.specs.ModuleTerms.AssignedTerm.{AssignsType, AssignsValue}
-use Rattle.asn1_resolve.specs.ModuleTerms.MemberTerms.{NoMembers, Member}
-use Rattle.asn1_resolve.specs.ModuleTerms.PresenceTerm.{OptionalTerm, DefaultTerm}
-use Rattle.asn1_resolve.specs.ModuleTerms.TypeTerm.{Structure}
-use Rattle.asn1_resolve.specs.NameMeaning.{Meaning, module_meaning, first_module, meaning_within, assigned_in}
-use Rattle.asn1_resolve.specs.NameMeaning.{first_assignment}
-use Rattle.asn1_resolve.specs.NameMeaning.Meaning.{TypeAt, ValueAt}
-use Rattle.asn1_resolve.specs.ResolvedTypes.{HasDefaultText}
-use Rattle.asn1_resolve.specs.ResolvedTypes.HasDefaultText.{of_type}
+use Rattle.asn1_names.specs.Constraining.Constrains.{no_more}
+use Rattle.asn1_names.specs.Containment.IsMember.{first}
+use Rattle.asn1_names.specs.DefaultTexts.HasDefault.{here, component}
+use Rattle.asn1_names.specs.DenotedSyntax.{Denotes}
+use Rattle.asn1_names.specs.DenotedSyntax.AreNamed.{no_more as no_names}
+use Rattle.asn1_names.specs.DenotedSyntax.Denotes.{plain, sequence}
+use Rattle.asn1_names.specs.DenotedSyntax.MembersDenote.{no_members, member}
+use Rattle.asn1_names.specs.DenotedSyntax.PlainDenotes.{integer}
+use Rattle.asn1_names.specs.ModuleTerms.{AssignmentTerm, AssignedTerm, PresenceTerm, TypeTerm}
+use Rattle.asn1_names.specs.ModuleTerms.AssignedTerm.{AssignsType, AssignsValue}
+use Rattle.asn1_names.specs.ModuleTerms.MemberTerms.{NoMembers, Member}
+use Rattle.asn1_names.specs.ModuleTerms.PresenceTerm.{OptionalTerm, DefaultTerm}
+use Rattle.asn1_names.specs.ModuleTerms.TypeTerm.{Structure}
+use Rattle.asn1_names.specs.NameMeaning.{Meaning, module_meaning, first_module, meaning_within, assigned_in}
+use Rattle.asn1_names.specs.NameMeaning.{first_assignment}
+use Rattle.asn1_names.specs.NameMeaning.Meaning.{TypeAt, ValueAt}
+use Rattle.asn1_names.specs.ResolvedTypes.{HasDefaultText}
+use Rattle.asn1_names.specs.ResolvedTypes.HasDefaultText.{of_type}
 use Rattle.gdmo_resolve.specs.ClassMembers.IsNamedBy.{as_root}
 use Rattle.gdmo_resolve.specs.DocumentTemplates.{templates}
 use Rattle.gdmo_resolve.specs.DoubleNames.{DoubleLabelAt}

@@ -3,14 +3,14 @@
 use Rattle.std.specs.Prelude.{◌≡◌, [], ◌∷◌, true, false, None, Some, Contains, codes, refl}
 use Rattle.std.proofs.Common.{inl, arith}
 use Rattle.token_grammar.specs.Form.{Bare}
-use Rattle.asn1_resolve.specs.ModuleTerms.{AssignmentTerm}
-use Rattle.asn1_resolve.specs.ModuleTerms.AssignedTerm.{AssignsValue}
-use Rattle.asn1_resolve.specs.ModuleTerms.PlainTerm.{IdentifierTerm as ObjectIdentifierType}
-use Rattle.asn1_resolve.specs.ModuleTerms.TypeTerm.{Plain}
-use Rattle.asn1_resolve.specs.NameMeaning.{module_meaning, first_module, meaning_within, assigned_in, first_assignment}
-use Rattle.asn1_resolve.specs.NameMeaning.Meaning.{ValueAt, Nothing}
-use Rattle.asn1_resolve.specs.NameMeaning.ModuleMeaning.{NoModule}
-use Rattle.asn1_resolve.specs.TypeBase.HasBase.{itself}
+use Rattle.asn1_names.specs.ModuleTerms.{AssignmentTerm}
+use Rattle.asn1_names.specs.ModuleTerms.AssignedTerm.{AssignsValue}
+use Rattle.asn1_names.specs.ModuleTerms.PlainTerm.{IdentifierTerm as ObjectIdentifierType}
+use Rattle.asn1_names.specs.ModuleTerms.TypeTerm.{Plain}
+use Rattle.asn1_names.specs.NameMeaning.{module_meaning, first_module, meaning_within, assigned_in, first_assignment}
+use Rattle.asn1_names.specs.NameMeaning.Meaning.{ValueAt, Nothing}
+use Rattle.asn1_names.specs.NameMeaning.ModuleMeaning.{NoModule}
+use Rattle.asn1_names.specs.TypeBase.HasBase.{itself}
 use Rattle.gdmo_resolve.specs.DocumentTemplates.{templates}
 use Rattle.gdmo_resolve.specs.DoubleNames.{DoubleLabelAt}
 use Rattle.gdmo_resolve.specs.DoubleNames.DoubleLabelAt.{module_name as module_twice}

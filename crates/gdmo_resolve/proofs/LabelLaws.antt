@@ -5,7 +5,7 @@ use Rattle.std.specs.Prelude.{All, refl, unwrap_or}
 use Rattle.std.specs.Prelude.{if◌then◌else◌}
 use Rattle.std.proofs.Common.{ap, arith}
 use Rattle.std.proofs.Math.Path.{subst}
-use Rattle.asn1_resolve.specs.NameMeaning.{is_called}
+use Rattle.asn1_names.specs.NameMeaning.{is_called}
 use Rattle.gdmo_resolve.specs.DocumentTemplates.{templates}
 use Rattle.gdmo_resolve.specs.LabelMeaning.{earlier, first_called, label_meaning, stands_before}
 use Rattle.gdmo_resolve.specs.PartTerms.{Placed, PartTerms, label_of}

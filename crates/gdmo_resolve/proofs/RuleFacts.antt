@@ -1,10 +1,10 @@
--- Examples of docs/PROFILE.md, section 12, computed: SET load TO ARGUMENT in a rule of an action that has no information,
--- for a class that has no packages.
+-- Examples of docs/PROFILE.md, section 12, computed: SET load TO ARGUMENT in a rule of an action that has no
+-- information, for a class that has no packages.
 use Rattle.std.specs.Prelude.{◌≡◌, [], ◌∷◌, Option, None, Some, codes, refl}
 use Rattle.std.proofs.Common.{ap, sym, arith, inl, inr}
 use Rattle.std.proofs.Math.Path.{subst}
 use Rattle.token_grammar.specs.declared.qualified_name.QualifiedName.{QualifiedName}
-use Rattle.asn1_resolve.specs.NodeCount.{IsNoType}
+use Rattle.asn1_names.specs.NodeCount.{IsNoType}
 use Rattle.gdmo_resolve.specs.AttributeSyntaxes.{HasUnknownSyntax}
 use Rattle.gdmo_resolve.specs.AttributeSyntaxes.HasUnknownSyntax.{stated, missing, derived}
 use Rattle.gdmo_resolve.specs.ClassMembers.{Derives, HasAttribute, HasUnknownAttributes, IsOrDerives}

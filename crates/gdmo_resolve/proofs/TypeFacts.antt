@@ -6,27 +6,27 @@ use Rattle.token_grammar.specs.declared.qualified_name.QualifiedName.{QualifiedN
 use Rattle.token_grammar.specs.Form.{Tree, Bare}
 use Rattle.term_values.specs.Syntaxes.TypeSyntax.{Integer, Sequence}
 use Rattle.term_values.specs.Syntaxes.TypeParts.{NoParts, Part as APart}
-use Rattle.asn1_resolve.specs.Constraining.Constrains.{no_more}
-use Rattle.asn1_resolve.specs.Containment.IsMember.{first as first_member}
-use Rattle.asn1_resolve.specs.DefaultTexts.{HasDefault}
-use Rattle.asn1_resolve.specs.DefaultTexts.HasDefault.{component}
-use Rattle.asn1_resolve.specs.DenotedSyntax.{Denotes}
-use Rattle.asn1_resolve.specs.DenotedSyntax.AreNamed.{no_more as no_names}
-use Rattle.asn1_resolve.specs.DenotedSyntax.Denotes.{plain, sequence}
-use Rattle.asn1_resolve.specs.DenotedSyntax.MembersDenote.{no_members, member}
-use Rattle.asn1_resolve.specs.DenotedSyntax.PlainDenotes.{integer}
-use Rattle.asn1_resolve.specs.ModuleTerms.{AssignmentTerm, TypeTerm}
-use Rattle.asn1_resolve.specs.ModuleTerms.AssignedTerm.{AssignsType, AssignsValue}
-use Rattle.asn1_resolve.specs.ModuleTerms.MemberTerms.{NoMembers, Member}
-use Rattle.asn1_resolve.specs.ModuleTerms.PlainTerm.{IntegerTerm, IdentifierTerm as ObjectIdentifierType}
-use Rattle.asn1_resolve.specs.ModuleTerms.PresenceTerm.{Needed}
-use Rattle.asn1_resolve.specs.ModuleTerms.TypeTerm.{Plain, Structure}
-use Rattle.asn1_resolve.specs.NameMeaning.{module_meaning, first_module, meaning_within, assigned_in, first_assignment}
-use Rattle.asn1_resolve.specs.NameMeaning.{Meaning}
-use Rattle.asn1_resolve.specs.NameMeaning.Meaning.{TypeAt}
-use Rattle.asn1_resolve.specs.ResolvedTypes.{HasDefaultText}
-use Rattle.asn1_resolve.specs.ResolvedTypes.HasDefaultText.{of_type}
-use Rattle.asn1_resolve.specs.TypeBase.HasBase.{itself}
+use Rattle.asn1_names.specs.Constraining.Constrains.{no_more}
+use Rattle.asn1_names.specs.Containment.IsMember.{first as first_member}
+use Rattle.asn1_names.specs.DefaultTexts.{HasDefault}
+use Rattle.asn1_names.specs.DefaultTexts.HasDefault.{component}
+use Rattle.asn1_names.specs.DenotedSyntax.{Denotes}
+use Rattle.asn1_names.specs.DenotedSyntax.AreNamed.{no_more as no_names}
+use Rattle.asn1_names.specs.DenotedSyntax.Denotes.{plain, sequence}
+use Rattle.asn1_names.specs.DenotedSyntax.MembersDenote.{no_members, member}
+use Rattle.asn1_names.specs.DenotedSyntax.PlainDenotes.{integer}
+use Rattle.asn1_names.specs.ModuleTerms.{AssignmentTerm, TypeTerm}
+use Rattle.asn1_names.specs.ModuleTerms.AssignedTerm.{AssignsType, AssignsValue}
+use Rattle.asn1_names.specs.ModuleTerms.MemberTerms.{NoMembers, Member}
+use Rattle.asn1_names.specs.ModuleTerms.PlainTerm.{IntegerTerm, IdentifierTerm as ObjectIdentifierType}
+use Rattle.asn1_names.specs.ModuleTerms.PresenceTerm.{Needed}
+use Rattle.asn1_names.specs.ModuleTerms.TypeTerm.{Plain, Structure}
+use Rattle.asn1_names.specs.NameMeaning.{module_meaning, first_module, meaning_within, assigned_in, first_assignment}
+use Rattle.asn1_names.specs.NameMeaning.{Meaning}
+use Rattle.asn1_names.specs.NameMeaning.Meaning.{TypeAt}
+use Rattle.asn1_names.specs.ResolvedTypes.{HasDefaultText}
+use Rattle.asn1_names.specs.ResolvedTypes.HasDefaultText.{of_type}
+use Rattle.asn1_names.specs.TypeBase.HasBase.{itself}
 use Rattle.gdmo_resolve.specs.AttributeSyntaxes.{AttributeHasType, AttributeHasSyntax, IsComponentOf, IsWholeNumber}
 use Rattle.gdmo_resolve.specs.AttributeSyntaxes.AttributeHasType.{stated}
 use Rattle.gdmo_resolve.specs.BegunNames.{BeginsOne}

@@ -6,8 +6,8 @@ use Rattle.token_grammar.specs.declared.qualified_name.QualifiedName.{QualifiedN
 use Rattle.term_values.specs.Syntaxes.{Named, TypeSyntax, TypeParts}
 use Rattle.term_values.specs.Syntaxes.TypeSyntax.{Integer, Enumerated, Sequence, SetType, Tagged}
 use Rattle.term_values.specs.Syntaxes.TypeParts.{NoParts, Part}
-use Rattle.asn1_resolve.specs.NodeCount.{IsNoType}
-use Rattle.asn1_resolve.specs.StandardModule.{is_same_name}
+use Rattle.asn1_names.specs.NodeCount.{IsNoType}
+use Rattle.asn1_names.specs.StandardModule.{is_same_name}
 use Rattle.gdmo_resolve.specs.LabelMeaning.{Leads, LeadsNowhere}
 use Rattle.gdmo_resolve.specs.Mentions.Role.{BaseAttribute}
 use Rattle.gdmo_resolve.specs.OneType.{AreOneType, HasDefaultsOf}

@@ -1,19 +1,19 @@
--- BegunNames: with which first names some identifier or some value begins: of a template or a module, and of a value that
--- a module assigns, that stands behind DEFAULT, in a rule or at an instance, or within such a value (X.680, section 32;
--- docs/PROFILE.md, section 12).
+-- BegunNames: with which first names some identifier or some value begins: of a template or a module, and of a value
+-- that a module assigns, that stands behind DEFAULT, in a rule or at an instance, or within such a value (X.680,
+-- section 32; docs/PROFILE.md, section 12).
 use Rattle.std.specs.Prelude.{◌≡◌, ℕ, List, true, Option, None, Some, Contains, slice_get}
 use Rattle.token_grammar.specs.declared.qualified_name.QualifiedName.{QualifiedName}
 use Rattle.token_grammar.specs.declared.token.Token.{Token}
 use Rattle.token_grammar.specs.Form.{Tree}
 use Rattle.term_values.specs.Syntaxes.{TypeSyntax}
-use Rattle.asn1_resolve.specs.Containment.{IsMember}
-use Rattle.asn1_resolve.specs.DenotedSyntax.{Denotes}
-use Rattle.asn1_resolve.specs.ModuleTerms.{NumberTerm, LimitTerm, TypeTerm, MemberTerms, AssignmentTerm, ModuleTerm}
-use Rattle.asn1_resolve.specs.ModuleTerms.AssignedTerm.{AssignsValue}
-use Rattle.asn1_resolve.specs.ModuleTerms.PresenceTerm.{DefaultTerm}
-use Rattle.asn1_resolve.specs.ModuleTerms.TypeTerm.{Structure}
-use Rattle.asn1_resolve.specs.Occurrences.{Stands}
-use Rattle.asn1_resolve.specs.StandardModule.{is_same_name}
+use Rattle.asn1_names.specs.Containment.{IsMember}
+use Rattle.asn1_names.specs.DenotedSyntax.{Denotes}
+use Rattle.asn1_names.specs.ModuleTerms.{NumberTerm, LimitTerm, TypeTerm, MemberTerms, AssignmentTerm, ModuleTerm}
+use Rattle.asn1_names.specs.ModuleTerms.AssignedTerm.{AssignsValue}
+use Rattle.asn1_names.specs.ModuleTerms.PresenceTerm.{DefaultTerm}
+use Rattle.asn1_names.specs.ModuleTerms.TypeTerm.{Structure}
+use Rattle.asn1_names.specs.Occurrences.{Stands}
+use Rattle.asn1_names.specs.StandardModule.{is_same_name}
 use Rattle.gdmo_resolve.specs.AttributeSyntaxes.{AttributeHasSyntax}
 use Rattle.gdmo_resolve.specs.FirstNames.{StandsIdentifier}
 use Rattle.gdmo_resolve.specs.LabelMeaning.{Means}

@@ -4,9 +4,9 @@
 use Rattle.std.specs.Prelude.{◌≡◌, ◌≢◌, ◌<◌, ◌==◌, ◌&&◌, ◌||◌, ℕ, Bool, List, true, None, Some, Contains, nat_lt}
 use Rattle.std.specs.Prelude.{slice_get}
 use Rattle.token_grammar.specs.declared.token.Token.{Token}
-use Rattle.asn1_resolve.specs.ModuleTerms.{AssignmentTerm, ModuleTerm}
-use Rattle.asn1_resolve.specs.NameMeaning.{is_called}
-use Rattle.asn1_resolve.specs.StandardModule.{standard_module_name}
+use Rattle.asn1_names.specs.ModuleTerms.{AssignmentTerm, ModuleTerm}
+use Rattle.asn1_names.specs.NameMeaning.{is_called}
+use Rattle.asn1_names.specs.StandardModule.{standard_module_name}
 use Rattle.gdmo_resolve.specs.BegunNames.{BeginsOne}
 use Rattle.gdmo_resolve.specs.DocumentTemplates.{templates}
 use Rattle.gdmo_resolve.specs.FirstNames.{DefinesName, HasArcs, IsIdentifier, Registers, root_arc}

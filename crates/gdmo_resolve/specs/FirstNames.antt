@@ -8,14 +8,14 @@ use Rattle.std.specs.Str.Parse.{digits_value}
 use Rattle.token_grammar.specs.declared.token.Token.{Token}
 use Rattle.token_grammar.specs.Form.{Tree}
 use Rattle.term_values.specs.Oid.{is_oid, is_arc}
-use Rattle.asn1_resolve.specs.ModuleTerms.{LimitTerm, NumberTerm, TypeTerm, ModuleTerm}
-use Rattle.asn1_resolve.specs.ModuleTerms.PlainTerm.{IdentifierTerm as ObjectIdentifierType}
-use Rattle.asn1_resolve.specs.ModuleTerms.TypeTerm.{Plain}
-use Rattle.asn1_resolve.specs.NameMeaning.{assigned_in}
-use Rattle.asn1_resolve.specs.NameMeaning.Meaning.{TypeAt, ValueAt}
-use Rattle.asn1_resolve.specs.StandardModule.{is_same_name, standard_type}
-use Rattle.asn1_resolve.specs.TypeBase.{HasBase}
-use Rattle.asn1_resolve.specs.TypeBase.Base.{Written}
+use Rattle.asn1_names.specs.ModuleTerms.{LimitTerm, NumberTerm, TypeTerm, ModuleTerm}
+use Rattle.asn1_names.specs.ModuleTerms.PlainTerm.{IdentifierTerm as ObjectIdentifierType}
+use Rattle.asn1_names.specs.ModuleTerms.TypeTerm.{Plain}
+use Rattle.asn1_names.specs.NameMeaning.{assigned_in}
+use Rattle.asn1_names.specs.NameMeaning.Meaning.{TypeAt, ValueAt}
+use Rattle.asn1_names.specs.StandardModule.{is_same_name, standard_type}
+use Rattle.asn1_names.specs.TypeBase.{HasBase}
+use Rattle.asn1_names.specs.TypeBase.Base.{Written}
 use Rattle.gdmo_resolve.specs.DocumentTemplates.{templates}
 use Rattle.gdmo_resolve.specs.PartTerms.{ModulePart, Placed, PartTerms, module_terms_of, arcs_at, identifier_of}
 use Rattle.gdmo_resolve.specs.TemplateTerms.{IdentifierTerm}

@@ -4,7 +4,7 @@
 use Rattle.std.specs.Prelude.{◌≡◌, ◌==◌, ◌&&◌, ◌||◌, ℕ, nat_lt, List, [], ◌∷◌, Bool, Option, None, Some, Contains}
 use Rattle.std.specs.Prelude.{if◌then◌else◌}
 use Rattle.token_grammar.specs.declared.token.Token.{Token}
-use Rattle.asn1_resolve.specs.NameMeaning.{is_called}
+use Rattle.asn1_names.specs.NameMeaning.{is_called}
 use Rattle.gdmo_resolve.specs.DocumentTemplates.{templates}
 use Rattle.gdmo_resolve.specs.Mentions.{Role, mention, template_mentions, wanted_kind}
 use Rattle.gdmo_resolve.specs.PartTerms.{Placed, PartTerms, label_of, kind_of}

@@ -25,6 +25,7 @@ pub mod FirstLabelFault
 pub mod LinkedTables
 pub mod Roles
 pub mod NotedFaults
+pub mod TakenViews
 pub mod LinkedNames
 pub mod LinkedTemplates
 pub mod LinkedMembers

@@ -1,5 +1,5 @@
--- LinkedMembers: which linked name binding, attribute, group, action or notification is that of which template, field by
--- field (X.722, sections 8.6 to 8.11; docs/PROFILE.md, section 12).
+-- LinkedMembers: which linked name binding, attribute, group, action or notification is that of which template, field
+-- by field (X.722, sections 8.6 to 8.11; docs/PROFILE.md, section 12).
 use Rattle.std.specs.Prelude.{◌≡◌, ℕ, List, [], ◌∷◌, Bool, Option, None, Some}
 use Rattle.std.specs.declared.alloc.Global.{Global}
 use Rattle.std.specs.declared.vec.Vec.{Vec}

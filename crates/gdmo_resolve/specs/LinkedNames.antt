@@ -6,8 +6,8 @@ use Rattle.token_grammar.specs.declared.qualified_name.QualifiedName.{QualifiedN
 use Rattle.token_grammar.specs.declared.token.Token.{Token}
 use Rattle.token_grammar.specs.TokenTests.{is_word_of}
 use Rattle.term_values.specs.Syntaxes.{TypeSyntax}
-use Rattle.asn1_resolve.specs.NameMeaning.{Meaning}
-use Rattle.asn1_resolve.specs.NameMeaning.Meaning.{TypeAt, ValueAt, StandardType}
+use Rattle.asn1_names.specs.NameMeaning.{Meaning}
+use Rattle.asn1_names.specs.NameMeaning.Meaning.{TypeAt, ValueAt, StandardType}
 use Rattle.gdmo_resolve.specs.declared.linked.LinkedHead.{LinkedHead}
 use Rattle.gdmo_resolve.specs.declared.linked.LinkedName.{LinkedName}
 use Rattle.gdmo_resolve.specs.declared.linked.NamedMeaning.{NamedMeaning}

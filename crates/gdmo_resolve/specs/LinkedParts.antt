@@ -1,6 +1,6 @@
--- LinkedParts: linked parts are those of a set of documents: each table has the templates of its kind in their order, the
--- rules and the instances stand as in the documents, and the first names are told (X.722, section 8; docs/PROFILE.md,
--- section 12).
+-- LinkedParts: linked parts are those of a set of documents: each table has the templates of its kind in their order,
+-- the rules and the instances stand as in the documents, and the first names are told (X.722, section 8;
+-- docs/PROFILE.md, section 12).
 use Rattle.std.specs.Prelude.{ℕ, List, [], ◌∷◌, map}
 use Rattle.gdmo_resolve.specs.declared.linked.Linked.{Linked}
 use Rattle.gdmo_resolve.specs.declared.linked.LinkedFirstName.{LinkedFirstName}

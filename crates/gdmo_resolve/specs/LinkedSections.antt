@@ -1,5 +1,5 @@
--- LinkedSections: which linked rule or instance is that of which rule or instance of a section (docs/PROFILE.md, sections 9
--- and 12). A value is told by what its text says.
+-- LinkedSections: which linked rule or instance is that of which rule or instance of a section (docs/PROFILE.md,
+-- sections 9 and 12). A value is told by what its text says.
 use Rattle.std.specs.Prelude.{◌≡◌, ℕ, List, [], ◌∷◌, Option}
 use Rattle.std.specs.Str.Parse.{digits_value}
 use Rattle.token_grammar.specs.declared.token.Token.{Token}

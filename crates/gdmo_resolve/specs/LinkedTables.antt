@@ -1,6 +1,6 @@
 -- LinkedTables: where linked parts tell a template by a number: the place, counted from 0, among the templates of its
--- kind in the order of DocumentTemplates; and what they tell of first names (docs/PROFILE.md, section 12). Of the texts of
--- DEFAULT in types they tell nothing: resolved modules do (ResolvedTypes of asn1_resolve).
+-- kind in the order of DocumentTemplates; and what they tell of first names (docs/PROFILE.md, section 12). Of the
+-- texts of DEFAULT in types they tell nothing: resolved modules do (ResolvedTypes of asn1_names).
 use Rattle.std.specs.Prelude.{◌≡◌, ◌==◌, ◌≤◌, ℕ, List, [], ◌∷◌, Bool, None, Some, Contains, length, slice_get}
 use Rattle.std.specs.Prelude.{if◌then◌else◌}
 use Rattle.gdmo_resolve.specs.BegunNames.{BeginsOne}

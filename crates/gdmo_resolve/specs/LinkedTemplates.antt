@@ -1,5 +1,5 @@
--- LinkedTemplates: which linked class or package is that of which template, field by field (X.722, sections 8.3 and 8.4;
--- docs/PROFILE.md, section 12).
+-- LinkedTemplates: which linked class or package is that of which template, field by field (X.722, sections 8.3 and
+-- 8.4; docs/PROFILE.md, section 12).
 use Rattle.std.specs.Prelude.{◌≡◌, ℕ, List, [], ◌∷◌, Option, codes}
 use Rattle.std.specs.List.{list_any}
 use Rattle.token_grammar.specs.declared.qualified_name.QualifiedName.{QualifiedName}

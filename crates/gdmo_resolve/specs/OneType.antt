@@ -5,8 +5,8 @@ use Rattle.std.specs.Prelude.{◌↔◌, ◌∷◌, ℕ, List}
 use Rattle.token_grammar.specs.declared.qualified_name.QualifiedName.{QualifiedName}
 use Rattle.token_grammar.specs.Form.{Tree}
 use Rattle.term_values.specs.Syntaxes.{TypeSyntax}
-use Rattle.asn1_resolve.specs.ModuleTerms.{ModuleTerm}
-use Rattle.asn1_resolve.specs.ResolvedTypes.{HasDefaultText}
+use Rattle.asn1_names.specs.ModuleTerms.{ModuleTerm}
+use Rattle.asn1_names.specs.ResolvedTypes.{HasDefaultText}
 use Rattle.gdmo_resolve.specs.TypeMeaning.{TypeHasSyntax, qualified_meaning}
 
 -- the type that is named has DEFAULT at the component that this path tells, of any text

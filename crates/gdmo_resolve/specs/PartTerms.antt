@@ -4,7 +4,7 @@
 use Rattle.std.specs.Prelude.{ℕ, List, Bool, Option, None, Some, map, slice_get}
 use Rattle.token_grammar.specs.declared.token.Token.{Token}
 use Rattle.token_grammar.specs.Form.{Tree}
-use Rattle.asn1_resolve.specs.ModuleTerms.{ModuleTerm}
+use Rattle.asn1_names.specs.ModuleTerms.{ModuleTerm}
 use Rattle.gdmo_resolve.specs.TemplateTerms.{TemplateKind, IdentifierTerm, TemplateTerm, BodyTerm}
 use Rattle.gdmo_resolve.specs.TemplateTerms.TemplateKind.{ClassKind, PackageKind, ParameterKind, BindingKind}
 use Rattle.gdmo_resolve.specs.TemplateTerms.TemplateKind.{AttributeKind, GroupKind, BehaviourKind, ActionKind}

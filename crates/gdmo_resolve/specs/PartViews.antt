@@ -15,7 +15,7 @@ use Rattle.asn1_syntax.specs.declared.module.Assigned.{Assigned}
 use Rattle.asn1_syntax.specs.declared.module.Assigned.TheVariants.{OfType, OfValue}
 use Rattle.asn1_syntax.specs.declared.module.Imports.{Imports}
 use Rattle.asn1_syntax.specs.declared.module.Module.{Module}
-use Rattle.asn1_resolve.specs.TermViews.{module_term}
+use Rattle.asn1_names.specs.TermViews.{module_term}
 use Rattle.extra_syntax.specs.declared.assignment.Assignment.{Assignment as PairText}
 use Rattle.extra_syntax.specs.declared.instance.Instance.{Instance}
 use Rattle.extra_syntax.specs.declared.instance.InstanceKind.{InstanceKind}

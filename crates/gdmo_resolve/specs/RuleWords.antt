@@ -6,7 +6,7 @@ use Rattle.token_grammar.specs.declared.qualified_name.QualifiedName.{QualifiedN
 use Rattle.token_grammar.specs.declared.token.Token.{Token}
 use Rattle.token_grammar.specs.TokenTests.{is_label}
 use Rattle.term_values.specs.Syntaxes.{TypeSyntax}
-use Rattle.asn1_resolve.specs.NodeCount.{IsNoType}
+use Rattle.asn1_names.specs.NodeCount.{IsNoType}
 use Rattle.gdmo_resolve.specs.AttributeSyntaxes.{has_number_called}
 use Rattle.gdmo_resolve.specs.LabelMeaning.{Means, label_meaning}
 use Rattle.gdmo_resolve.specs.Mentions.Role.{RuleClass, RuleAction}

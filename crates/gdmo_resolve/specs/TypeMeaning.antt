@@ -4,10 +4,10 @@
 use Rattle.std.specs.Prelude.{◌≡◌, ℕ, List, [], ◌∷◌, ◌++◌, Option, None, Some, Contains}
 use Rattle.token_grammar.specs.declared.qualified_name.QualifiedName.{QualifiedName}
 use Rattle.term_values.specs.Syntaxes.{TypeSyntax}
-use Rattle.asn1_resolve.specs.DenotedSyntax.{Denotes}
-use Rattle.asn1_resolve.specs.ModuleTerms.{TypeTerm, ModuleTerm}
-use Rattle.asn1_resolve.specs.NameMeaning.{Meaning, meaning_within, module_meaning}
-use Rattle.asn1_resolve.specs.NameMeaning.Meaning.{TypeAt, StandardType}
+use Rattle.asn1_names.specs.DenotedSyntax.{Denotes}
+use Rattle.asn1_names.specs.ModuleTerms.{TypeTerm, ModuleTerm}
+use Rattle.asn1_names.specs.NameMeaning.{Meaning, meaning_within, module_meaning}
+use Rattle.asn1_names.specs.NameMeaning.Meaning.{TypeAt, StandardType}
 use Rattle.gdmo_resolve.specs.DocumentTemplates.{templates}
 use Rattle.gdmo_resolve.specs.PartTerms.{Placed, PartTerms, body_of}
 use Rattle.gdmo_resolve.specs.TemplateTerms.{BodyTerm, SyntaxTerm, StatedTerm, UseTerms}

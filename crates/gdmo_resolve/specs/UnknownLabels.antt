@@ -3,9 +3,9 @@
 use Rattle.std.specs.Prelude.{◌≡◌, ◌≢◌, ◌⊎◌, ℕ, None}
 use Rattle.token_grammar.specs.declared.qualified_name.QualifiedName.{QualifiedName}
 use Rattle.token_grammar.specs.declared.token.Token.{Token}
-use Rattle.asn1_resolve.specs.NameMeaning.{module_meaning}
-use Rattle.asn1_resolve.specs.NameMeaning.Meaning.{Nothing}
-use Rattle.asn1_resolve.specs.NameMeaning.ModuleMeaning.{NoModule}
+use Rattle.asn1_names.specs.NameMeaning.{module_meaning}
+use Rattle.asn1_names.specs.NameMeaning.Meaning.{Nothing}
+use Rattle.asn1_names.specs.NameMeaning.ModuleMeaning.{NoModule}
 use Rattle.gdmo_resolve.specs.FirstNames.{IsAssigned, StandsIdentifier, root_arc}
 use Rattle.gdmo_resolve.specs.LabelMeaning.{label_meaning}
 use Rattle.gdmo_resolve.specs.Mentions.{Role}

@@ -1,6 +1,7 @@
--- ValueNames: with which first names the object identifiers begin that stand in a value. The syntax decides which braces
--- are arcs and which hold components or elements; of two components of one name the first is meant (X.680, sections 17 to
--- 32; docs/PROFILE.md, sections 8 and 12). A text is told by what it says (ValueTrees of asn1_values_syntax).
+-- ValueNames: with which first names the object identifiers begin that stand in a value. The syntax decides which
+-- braces are arcs and which hold components or elements; of two components of one name the first is meant (X.680,
+-- sections 17 to 32; docs/PROFILE.md, sections 8 and 12). A text is told by what it says (ValueTrees of
+-- asn1_values_syntax).
 use Rattle.std.specs.Prelude.{◌≡◌, ℕ, List, [], Bool, Option, None, Some}
 use Rattle.token_grammar.specs.declared.token.Token.{Token}
 use Rattle.token_grammar.specs.Form.{Tree, Bare, Leaf, Pair, First, Second, Absent, Present, Empty, After, Numbered}

@@ -3,9 +3,9 @@
 use Rattle.std.specs.Prelude.{◌≡◌, ◌≢◌, ℕ, List, Bool, true, false, Option, None, Some, Contains}
 use Rattle.token_grammar.specs.declared.qualified_name.QualifiedName.{QualifiedName}
 use Rattle.token_grammar.specs.declared.token.Token.{Token}
-use Rattle.asn1_resolve.specs.NameMeaning.{Meaning}
-use Rattle.asn1_resolve.specs.NameMeaning.Meaning.{TypeAt, ValueAt, StandardType}
-use Rattle.asn1_resolve.specs.NodeCount.{IsNoType}
+use Rattle.asn1_names.specs.NameMeaning.{Meaning}
+use Rattle.asn1_names.specs.NameMeaning.Meaning.{TypeAt, ValueAt, StandardType}
+use Rattle.asn1_names.specs.NodeCount.{IsNoType}
 use Rattle.gdmo_resolve.specs.AttributeSyntaxes.{HasUnknownSyntax, IsComponentOf}
 use Rattle.gdmo_resolve.specs.DocumentTemplates.{templates}
 use Rattle.gdmo_resolve.specs.FirstNames.{DefinesName, IsAssigned, IsIdentifier, IsKnownFirst, Registers}

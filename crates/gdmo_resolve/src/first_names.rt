@@ -1,27 +1,42 @@
 //! The arcs for which first names stand (X.660, annex A; X.680, section 32; docs/PROFILE.md, section 12).
 
-use crate::arc_table::ArcTable;
+ghost use Rattle.std.specs.Prelude.{◌≡◌};
+ghost use Rattle.asn1_names.specs.StandardModule.{is_same_name};
+ghost use Rattle.gdmo_resolve.specs.FirstNames.{root_arc};
+
 use crate::arc_texts::{FirstText, IdentifierText};
+use crate::number_lists::{EMPTY_LIST, NumberLists};
 use indexmap::IndexMap;
 use std::alloc::{AllocError, Global};
 use token_grammar::Token;
 
+fn is_named(name: &[u8], word: &str) -> bool
+    ensures { result ≡ is_same_name name.now word.now }
+{
+    name == word.as_bytes()
+}
+
 /// The arc of a root's name.
-pub fn root_arc(name: &[u8]) -> Option<u64> {
-    if name == "itu-t".as_bytes() || name == "ccitt".as_bytes() {
-        return Some(0);
+pub fn root_arc(name: &[u8]) -> Option<u64>
+    ensures { result ≡ root_arc name.now }
+{
+    if is_named(name, "itu-t") {
+        Some(0)
+    } else if is_named(name, "ccitt") {
+        Some(0)
+    } else if is_named(name, "iso") {
+        Some(1)
+    } else if is_named(name, "joint-iso-itu-t") {
+        Some(2)
+    } else if is_named(name, "joint-iso-ccitt") {
+        Some(2)
+    } else {
+        None
     }
-    if name == "iso".as_bytes() {
-        return Some(1);
-    }
-    if name == "joint-iso-itu-t".as_bytes() || name == "joint-iso-ccitt".as_bytes() {
-        return Some(2);
-    }
-    None
 }
 
 /// The number that digits say; the greatest number of 64 bits where it is a greater one, which no text has.
-fn arc_value(token: &Token) -> u64 {
+pub fn arc_value(token: &Token) -> u64 {
     let mut value: u64 = 0;
     for digit in token.text.as_slice() {
         value = value
@@ -54,28 +69,30 @@ enum Begin {
 
 /// First names, and the values for which they stand.
 #[derive(Drop)]
-pub struct FirstNames<'a> {
+pub struct FirstNames<'a, 't> {
     /// For the tables.
     pub alloc: Global,
     /// The number of the assignment by which the first module that defines a name does.
-    pub defined: IndexMap<&'a [u8], usize>,
+    pub defined: &'t IndexMap<&'a [u8], usize>,
     /// What each assignment says as an object identifier, where it can be read as one.
     pub texts: Vec<Option<IdentifierText<'a>>>,
     /// The arcs of each assignment's value, as far as they are known.
     pub known: Vec<ValueArcs>,
     /// The lists of arcs.
-    pub arcs: ArcTable,
+    pub arcs: NumberLists,
 }
 
-impl<'a> FirstNames<'a> {
+impl<'a, 't> FirstNames<'a, 't> {
     /// Where the arcs of a text begin.
     fn begin(&mut self, first: FirstText) -> Result<Begin, AllocError> {
         match first {
-            FirstText::Number(token) => Ok(Begin::List(self.arcs.extended(0, arc_value(token))?)),
+            FirstText::Number(token) => Ok(Begin::List(
+                self.arcs.extended(EMPTY_LIST, arc_value(token))?,
+            )),
             FirstText::Name(token) => {
                 let name = token.text.as_slice();
                 if let Some(arc) = root_arc(name) {
-                    return Ok(Begin::List(self.arcs.extended(0, arc)?));
+                    return Ok(Begin::List(self.arcs.extended(EMPTY_LIST, arc)?));
                 }
                 match self.defined.get(name) {
                     Some(number) => Ok(Begin::Value(*number)),
@@ -108,8 +125,8 @@ impl<'a> FirstNames<'a> {
         Ok(ValueArcs::List(list))
     }
 
-    /// Finds out the arcs of an assignment's value, and of those with which they begin. A name that leads back to itself
-    /// has none.
+    /// Finds out the arcs of an assignment's value, and of those with which they begin. A name that leads back to
+    /// itself has none.
     pub fn find_out(&mut self, number: usize) -> Result<ValueArcs, AllocError> {
         let mut way = Vec::new(self.alloc);
         let mut at = number;
@@ -124,6 +141,9 @@ impl<'a> FirstNames<'a> {
                 Some(ValueArcs::Nothing) | None => break,
             }
             way.push(at)?;
+            if let Some(slot) = self.known.get_mut(at) {
+                *slot = ValueArcs::Nothing;
+            }
             match self.begin_value(at)? {
                 Begin::List(list) => {
                     begun = ValueArcs::List(list);

@@ -1,7 +1,7 @@
-//! Which values are OBJECT IDENTIFIERs: those whose types are, beneath names and tags (X.680, section 32; docs/PROFILE.md,
-//! section 12).
+//! Which values are OBJECT IDENTIFIERs: those whose types are, beneath names and tags (X.680, section 32;
+//! docs/PROFILE.md, section 12).
 
-use asn1_resolve::name_tables::{Meaning, NameTables};
+use asn1_names::name_tables::{Meaning, NameTables};
 use asn1_syntax::plain_type::PlainType;
 use asn1_syntax::type_text::TypeText;
 use std::alloc::{AllocError, Global};
@@ -76,7 +76,8 @@ fn find_out(
     Ok(())
 }
 
-/// Whether the type of each assignment is OBJECT IDENTIFIER, beneath names and tags. A type that contains itself is none.
+/// Whether the type of each assignment is OBJECT IDENTIFIER, beneath names and tags. A type that contains itself is
+/// none.
 pub fn identifier_types(
     alloc: Global,
     tables: &NameTables,

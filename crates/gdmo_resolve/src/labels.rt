@@ -53,8 +53,8 @@ pub fn reference_token<'a>(templates: &[Found<'a>], target: &Target<'a>) -> Opti
     }
 }
 
-/// The template that a reference in a document means, where it is of the kind that is wanted; else a fault. One that must
-/// be registered and isn't is a fault too.
+/// The template that a reference in a document means, where it is of the kind that is wanted; else a fault. One that
+/// must be registered and isn't is a fault too.
 pub fn meant_template<'a>(
     templates: &[Found<'a>],
     labels: &IndexMap<&'a [u8], usize>,
@@ -130,7 +130,8 @@ fn note_fixed_group<'a>(
     }
 }
 
-/// Notes the groups of a template that are FIXED and to which attributes are added. `targets` are those of its mentions.
+/// Notes the groups of a template that are FIXED and to which attributes are added. `targets` are those of its
+/// mentions.
 pub fn note_fixed_groups<'a>(
     templates: &[Found<'a>],
     found: &Found<'a>,

@@ -3,9 +3,10 @@
 
 use crate::first_fault::{FaultKind, Faults};
 use crate::found::Body;
-use asn1_resolve::standard_module::is_standard_module;
-use asn1_resolve::{Meaning, Types};
+use asn1_names::Meaning;
+use asn1_names::standard_module::is_standard_module;
 use asn1_syntax::module::Module;
+use asn1_types::Types;
 use gdmo_classes::package::PackageTemplate;
 use gdmo_classes::properties::PropertyValue;
 use gdmo_members::attribute::AttributeSyntax;
@@ -32,8 +33,8 @@ fn note_assigned_twice(
     Ok(())
 }
 
-/// The names of the modules. A name that two of them have, or that is CMIP-1's, is a fault at the later one, and so is a
-/// name that a module assigns twice.
+/// The names of the modules. A name that two of them have, or that is CMIP-1's, is a fault at the later one, and so is
+/// a name that a module assigns twice.
 pub fn module_names<'a>(
     alloc: Global,
     modules: &'a [Module],

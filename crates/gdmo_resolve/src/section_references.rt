@@ -1,5 +1,5 @@
-//! The templates that rules and instances name (docs/PROFILE.md, sections 9 and 12). A word alone behind REPLY isn't looked
-//! at here: whether it is a label depends on the types of the reply.
+//! The templates that rules and instances name (docs/PROFILE.md, sections 9 and 12). A word alone behind REPLY isn't
+//! looked at here: whether it is a label depends on the types of the reply.
 
 use crate::first_fault::{FaultKind, Faults};
 use crate::found::{Found, Mention, Target};
