@@ -168,12 +168,12 @@ limits_found ms document m of limits token kind stands is fault =
 constraint_found : (ms : List ModuleTerm) (document m : ℕ) (of : TypeTerm) (token : ℕ) (kind : FaultKind) →
     Stands ms document m of → ConstraintFaults ms m of token kind → HasFault ms kind document token
 constraint_found ms document m (Under tag mode of) token kind stands fault = absurd fault
-constraint_found ms document m (Structure word members limits) token kind stands fault =
+constraint_found ms document m (Structure word _ limits) token kind stands fault =
     limits_found ms document m _ limits token kind stands (λ limit h. structure_limit h) fault
 constraint_found ms document m (Repeated word None of) token kind stands fault = absurd fault
 constraint_found ms document m (Repeated word (Some ranges) of) token kind stands fault =
     ranges_found ms document m _ (SizeLimit ranges) token kind stands (list_size refl) fault
-constraint_found ms document m (Alternatives word members limits) token kind stands fault =
+constraint_found ms document m (Alternatives word _ limits) token kind stands fault =
     limits_found ms document m _ limits token kind stands (λ limit h. choice_limit h) fault
 constraint_found ms document m (Plain word plain limits) token kind stands fault =
     limits_found ms document m _ limits token kind stands (λ limit h. plain_limit h) fault
@@ -207,9 +207,9 @@ head_found : (ms : List ModuleTerm) (document m : ℕ) (of : TypeTerm) (token : 
     Stands ms document m of → HeadFaults ms m of token kind → HasFault ms kind document token
 head_found ms document m (Under tag mode of) token kind stands fault =
     tag_found ms document m tag mode of token kind stands fault
-head_found ms document m (Structure word members limits) token kind stands fault = absurd fault
+head_found ms document m (Structure word _ limits) token kind stands fault = absurd fault
 head_found ms document m (Repeated word size of) token kind stands fault = absurd fault
-head_found ms document m (Alternatives word members limits) token kind stands fault = absurd fault
+head_found ms document m (Alternatives word _ limits) token kind stands fault = absurd fault
 head_found ms document m (Plain word of limits) token kind stands fault =
     plain_found ms document m word of limits token kind stands fault
 head_found ms document m (Reference module_name name limits) token kind stands fault =

@@ -101,9 +101,9 @@ PlainFaults ms m word AnyTerm = NoFaults
 -- of a tag, a name, or a type that holds no other
 abbrev pub HeadFaults : List ModuleTerm → ℕ → TypeTerm → ℕ → FaultKind → Type 0
 HeadFaults ms m (Under tag mode of) = TagFaults ms m tag
-HeadFaults ms m (Structure word members limits) = NoFaults
+HeadFaults ms m (Structure word _ limits) = NoFaults
 HeadFaults ms m (Repeated word size of) = NoFaults
-HeadFaults ms m (Alternatives word members limits) = NoFaults
+HeadFaults ms m (Alternatives word _ limits) = NoFaults
 HeadFaults ms m (Plain word plain limits) = PlainFaults ms m word plain
 HeadFaults ms m (Reference module_name name limits) = NameFaults ms m module_name name
 
