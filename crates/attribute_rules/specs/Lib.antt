@@ -1,2 +1,3 @@
 pub mod MandatoryAttributes
+pub mod Places
 pub mod Weights

@@ -8,6 +8,7 @@ pub mod control_syntaxes;
 pub mod labels;
 pub mod lookups;
 pub mod permitted;
+pub mod places;
 pub mod sizes;
 
 pub use bound_logs::is_bound_log;

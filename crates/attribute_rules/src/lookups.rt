@@ -1,4 +1,4 @@
-//! What the records of a schema and the attributes of an object have under an identifier: X.722, section 8.4.
+//! What the records of a schema have under an identifier: X.722, section 8.4.
 
 ghost use Rattle.std.specs.Prelude.{◌≡◌, ◌++◌, ◌||◌, None, false, option_and_then};
 ghost use Rattle.std.specs.Option.{option_copied, option_map_or};
@@ -7,11 +7,10 @@ ghost use Rattle.term_model.specs.ClassAttributes.{property_among, property_of, 
 ghost use Rattle.term_model.specs.Comparing.{is_same_oid};
 ghost use Rattle.term_model.specs.Modifiable.{is_filled, is_operator, last_attribute, lets_modify, modifiable};
 ghost use Rattle.term_model.specs.Modifiable.{naming_attribute};
-ghost use Rattle.term_model.specs.Modifications.{attribute_of};
 
 use crate::labels::is_filled;
 use term_model::request::{ADD_VALUES, REMOVE_VALUES, REPLACE, SET_TO_DEFAULT};
-use term_model::{AttrRecs, Attribute, Properties, Property, Rdn, Set};
+use term_model::{AttrRecs, Properties, Property, Rdn, Set};
 use term_values::{Oid, Syntax};
 
 /// The syntax of an attribute's values.
@@ -44,18 +43,6 @@ fn property_of<'a>(schema: &'a Set, class: &Oid, id: &Oid) -> Option<&'a Propert
         Some(of_class) => property_among(&of_class.properties, id),
         None => None,
     }
-}
-
-/// The attribute with this identifier.
-pub fn attribute_of<'a>(attributes: &'a [Attribute], id: &Oid) -> Option<&'a Attribute>
-    ensures { option_copied result ≡ attribute_of attributes.now id.now }
-{
-    for attribute in attributes {
-        if attribute.id == *id {
-            return Some(attribute);
-        }
-    }
-    None
 }
 
 /// The operator is one of those that there are.

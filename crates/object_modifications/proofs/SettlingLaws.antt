@@ -12,8 +12,10 @@ use Rattle.term_model.specs.declared.schema.Set.{Set}
 use Rattle.term_model.specs.ClassAttributes.{is_labelled}
 use Rattle.term_model.specs.Modifications.{Modified, replaced, settled, without_full}
 use Rattle.object_modifications.specs.declared.settling.Modified.{Modified as Kept}
-use Rattle.object_modifications.specs.Settling.{given_by, made_of}
+use Rattle.object_modifications.specs.Settling.{ends_full_by, given_by, made_of}
 use Rattle.object_modifications.specs.Trying.{IsWeighed}
+use Rattle.attribute_rules.proofs.PlaceLaws.{mapped_rising}
+use Rattle.attribute_rules.specs.Places.{are_rising}
 use Rattle.attribute_rules.specs.Weights.{weight, weights}
 
 silent : (records : List AttrRec) (attribute : Attribute)
@@ -59,17 +61,39 @@ given_weights records bound id value attributes =
     by_label true false = refl
     by_label false b = refl
 
-pub settled_gives : (schema : Set) (bound : Bool) (before after : Kept) (change : Change) (id : List ℕ)
-    (value : TypedValue) (size : ℕ) (told : Result TypedValue ℤ) → IsWeighed schema bound before.object before.size
+-- that logFull is taken away leaves the identifiers
+full_id : (records : List AttrRec) (attribute : Attribute) → (without_full records attribute).id ≡ attribute.id
+full_id records attribute = by_test (is_labelled records (codes "availabilityStatus") attribute.id) refl
+  where
+    by_test : (b : Bool) → is_labelled records (codes "availabilityStatus") attribute.id ≡ b
+        → (without_full records attribute).id ≡ attribute.id
+    by_test true e = rw e refl
+    by_test false e = rw e refl
+
+given_rising : (records : List AttrRec) (bound : Bool) (id : List ℕ) (value : TypedValue) (attributes : List Attribute)
+    → are_rising (given_by records bound id value attributes) ≡ are_rising (replaced id value attributes)
+given_rising records bound id value attributes =
+    by_test (ends_full_by records bound id)
+  where
+    left : List Attribute
+    left = replaced id value attributes
+
+    by_test : (b : Bool) → are_rising (if b then map (without_full records) left else left) ≡ are_rising left
+    by_test true = mapped_rising (without_full records) (full_id records) left
+    by_test false = refl
+
+pub settled_gives : (schema : Set) (bound rising : Bool) (before after : Kept) (change : Change) (id : List ℕ)
+    (value : TypedValue) (size : ℕ) (told : Result TypedValue ℤ)
+    → IsWeighed schema bound rising before.object before.size
     → (told ≡ Ok value)
-    × IsWeighed schema bound (record before.object { attrs = replaced id value before.object.attrs }) size
-    → made_of after ≡ record (made_of before) {
+    × IsWeighed schema bound rising (record before.object { attrs = replaced id value before.object.attrs }) size
+    → ((rising ≡ true → are_rising before.object.attrs ≡ true) → made_of after ≡ record (made_of before) {
       object = record before.object { attrs = given_by schema.attributes bound id value before.object.attrs };
       done = before.done ++ id ∷ [];
-    }
-    → (made_of after ≡ settled schema (made_of before) change id told) × IsWeighed schema bound after.object size
-settled_gives schema bound before after change id value size told weighed (is, inner) h = (
-  h
+    })
+    → (made_of after ≡ settled schema (made_of before) change id told) × IsWeighed schema bound rising after.object size
+settled_gives schema bound rising before after change id value size told weighed (is, inner) h = (
+  h weighed.order
       ∙ ap
       (λ b. record (made_of before) {
         object = record before.object { attrs = given_by schema.attributes b id value before.object.attrs };
@@ -77,9 +101,11 @@ settled_gives schema bound before after change id value size told weighed (is, i
       })
       weighed.class
       ∙ ap (settled schema (made_of before) change id) (sym is),
-  subst (λ (x : Object). IsWeighed schema bound x size) (sym (ap (λ (m : Modified). m.object) h))
+  subst (λ (x : Object). IsWeighed schema bound rising x size)
+      (sym (ap (λ (m : Modified). m.object) (h weighed.order)))
       (record {
         class = weighed.class;
+        order = λ seen. given_rising schema.attributes bound id value before.object.attrs ∙ inner.order seen;
         sum = inner.sum ∙ sym (given_weights schema.attributes bound id value before.object.attrs);
         small = inner.small;
       }),

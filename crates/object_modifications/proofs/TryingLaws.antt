@@ -1,6 +1,6 @@
 -- One modification by the size that is kept.
-use Rattle.std.proofs.Common.{◌≡◌, ℕ, pos, ◌+◌, ◌-◌, Bool, true, false, ◌&&◌, List, length, Some, Ok, Err, refl, ap}
-use Rattle.std.proofs.Common.{◌∙◌, arith}
+use Rattle.std.proofs.Common.{◌≡◌, ℕ, pos, ◌+◌, ◌-◌, Bool, true, false, ◌&&◌, List, length, None, Some, Ok, Err}
+use Rattle.std.proofs.Common.{refl, ap, ◌∙◌, arith}
 use Rattle.std.specs.Prelude.{nat_le, IfOk, Result}
 use Rattle.term_values.specs.FitTest.{value_fits}
 use Rattle.term_values.specs.Lengths.{counted}
@@ -20,13 +20,14 @@ use Rattle.term_model.specs.ClassAttributes.{syntax_of}
 use Rattle.term_model.specs.Modifiable.{is_operator, modifiable}
 use Rattle.object_modifications.specs.declared.modifying.Trial.TheVariants.{Gives}
 use Rattle.object_modifications.specs.Trying.{IsWeighed, TellsTried}
+use Rattle.attribute_rules.proofs.PlaceLaws.{replaced_rising}
 use Rattle.attribute_rules.specs.Weights.{is_within, weight, weights}
 use Rattle.attribute_rules.proofs.WeightLaws.{counted_small, counted_within, held_weight, replaced_weights}
 use Rattle.attribute_rules.proofs.WeightLaws.{within_by_weights}
 
 module _ (schema : Set) (object : Object) (change : Change) (held : Attribute) (property : Property)
-    (syntax : TypeSyntax) (value : TypedValue) (bound : Bool) (total before now size : ℕ) (id : List ℕ)
-    (there : attribute_of object.attrs id ≡ Some held) (weighed : IsWeighed schema bound object total)
+    (syntax : TypeSyntax) (value : TypedValue) (bound rising : Bool) (total before now size : ℕ) (id : List ℕ)
+    (there : attribute_of object.attrs id ≡ Some held) (weighed : IsWeighed schema bound rising object total)
     (known : modified_value syntax property held.value change ≡ Some value)
     (stands : (value_fits syntax value && is_permitted property.permitted value
     && nat_le (length (der syntax value)) 8192) ≡ true)
@@ -57,16 +58,22 @@ module _ (schema : Set) (object : Object) (change : Change) (held : Attribute) (
   too_long h = rw (known, may ∙ h) refl
 
   pub is_given : is_within size ≡ true
-      → TellsTried schema bound object id (tried_value schema object change id held property syntax)
+      → TellsTried schema bound rising object id (tried_value schema object change id held property syntax)
       (Gives value size)
   is_given h = (
     rw (known, may ∙ h) refl,
     record {
       class = weighed.class;
+      order = λ seen. replaced_rising id value object.attrs ∙ weighed.order seen;
       sum = counted_small (total - before + now) size sum h ∙ whole;
       small = h;
     },
   )
+
+-- an attribute that isn't there
+pub tried_absent : (schema : Set) (name : List Rdn) (object : Object) (change : Change) (id : List ℕ)
+    → attribute_of object.attrs id ≡ None → tried schema name object change id ≡ Err (pos 5)
+tried_absent schema name object change id none = rw none refl
 
 pub tried_is : (schema : Set) (name : List Rdn) (object : Object) (change : Change) (id : List ℕ) (held : Attribute)
     (property : Property) (syntax : TypeSyntax) → attribute_of object.attrs id ≡ Some held

@@ -2,6 +2,7 @@
 #![tactic(auto)]
 
 pub(crate) mod held_values;
+pub(crate) mod id_sets;
 pub(crate) mod modified_values;
 pub(crate) mod modifying;
 pub mod object_set;

@@ -1,6 +1,6 @@
 //! One modification of an attribute: X.711, section 7.4, m-Set, and section 7.5, type ModifyOperator.
 
-ghost use Rattle.std.specs.Prelude.{◌≡◌, ℕ, List, Some, IfOk};
+ghost use Rattle.std.specs.Prelude.{◌≡◌, ℕ, Bool, List, Some, IfOk};
 ghost use Rattle.term_model.specs.declared.object.Attribute.{Attribute};
 ghost use Rattle.term_model.specs.declared.object.Object.{Object};
 ghost use Rattle.term_model.specs.declared.schema.Set.{Set};
@@ -9,7 +9,8 @@ ghost use Rattle.term_model.specs.Modifications.{attribute_of, replaced, tried, 
 ghost use Rattle.object_modifications.specs.Trying.{IsWeighed, TellsTried};
 
 use crate::modified_values::{may_stand, modified_value};
-use attribute_rules::lookups::{attribute_of, is_operator, modifiable, syntax_of};
+use attribute_rules::lookups::{is_operator, modifiable, syntax_of};
+use attribute_rules::places::attribute_of;
 use attribute_rules::sizes::{is_within, weight};
 use std::alloc::{AllocError, Global};
 use term_model::{AttrRecs, Attribute, Change, Object, Property, Rdn, Set};
@@ -48,9 +49,9 @@ fn tried_value(
     syntax: &Syntax,
     change: &Change,
 ) -> Result<Trial, AllocError>
-    ensures { IfOk result (λ came. (schema : Set) → (object : Object) → (id : List ℕ)
+    ensures { IfOk result (λ came. (schema : Set) → (object : Object) → (rising : Bool) → (id : List ℕ)
         → schema.attributes ≡ records.now → attribute_of object.attrs id ≡ Some held.now
-        → IsWeighed schema bound object total → TellsTried schema bound object id
+        → IsWeighed schema bound rising object total → TellsTried schema bound rising object id
         (tried_value schema object change.now id held.now property.now syntax.now) came) }
 {
     let value = match modified_value(alloc, syntax, property, &held.value, change)? {
@@ -77,15 +78,17 @@ pub(crate) fn tried(
     schema: &Set,
     name: &[Rdn],
     bound: bool,
+    rising: bool,
     total: u64,
     object: &Object,
     change: &Change,
     id: &Oid,
 ) -> Result<Trial, AllocError>
-    ensures { IfOk result (λ came. IsWeighed schema.now bound object.now total
-        → TellsTried schema.now bound object.now id.now (tried schema.now name.now object.now change.now id.now) came) }
+    ensures { IfOk result (λ came. IsWeighed schema.now bound rising object.now total
+        → TellsTried schema.now bound rising object.now id.now
+        (tried schema.now name.now object.now change.now id.now) came) }
 {
-    let held = match attribute_of(object.attrs.items.as_slice(), id) {
+    let held = match attribute_of(object.attrs.items.as_slice(), rising, id) {
         Some(held) => held,
         None => return Ok(Trial::Fails(NO_SUCH_ATTRIBUTE)),
     };

@@ -16,10 +16,11 @@ ghost use Rattle.term_values.specs.ResultSyntaxes.{attributes_result};
 ghost use Rattle.object_modifications.specs.Settling.{made_of, modified_among};
 
 use crate::held_values::{told, value_octets};
+use crate::id_sets::id_set;
 use crate::settling::{Modified, modify_all, unmodified};
 use attribute_rules::is_bound_log;
+use attribute_rules::places::are_rising;
 use attribute_rules::sizes::weights;
-use class_packages::is_among;
 use result_contents::errors::set_list_error;
 use result_contents::results::attributes_contents;
 use std::alloc::{AllocError, Global};
@@ -76,9 +77,10 @@ fn modified_attributes(
 ) -> Result<Vec<AttributeValue>, AllocError>
     ensures { IfOk result (λ told. told.items ≡ modified_among records.now made.now.done made.now.object.attrs) }
 {
+    let done = id_set(alloc, made.done.items.as_slice())?;
     let mut values = Vec::new(alloc);
     for attribute in &made.object.attrs.items {
-        if is_among(made.done.items.as_slice(), &attribute.id) {
+        if done.contains(&attribute.id) {
             values.push(told(alloc, records, attribute)?)?;
         }
     }
@@ -296,6 +298,7 @@ fn make_all(
 {
     let records = &schema.attributes;
     let bound = is_bound_log(alloc, schema, &object.class)?;
+    let rising = are_rising(object.attrs.items.as_slice());
     let size = weights(alloc, records, bound, object.attrs.items.as_slice())?;
     let mut made = unmodified(alloc, object, size)?;
     modify_all(
@@ -303,6 +306,7 @@ fn make_all(
         schema,
         name.parts.as_slice(),
         bound,
+        rising,
         changes,
         &mut made,
     )?;
@@ -331,7 +335,7 @@ fn set_at(
 /// each on what those before it left. Where none fails, the result has the attributes that they changed, with their
 /// values at the end. Where some fail, an atomic Set changes nothing and is answered by a setListError with their
 /// errors; one by best effort keeps what the others did, and has both in its setListError, or is refused where there is
-/// nothing to keep. A moment past the year 9999 is taken as its last second.
+/// nothing to keep. A moment past the year 9998 is taken as its last second.
 ///
 /// The object that is set must not be longer than 16,384 octets, as each object of the agent is.
 pub fn set_one(

@@ -1,6 +1,7 @@
 //! What modifications make of an object: X.711, section 7.4, m-Set. Each is made on what those before it left.
 
-ghost use Rattle.std.specs.Prelude.{◌≡◌, ◌∷◌, ◌++◌, [], pos, ℤ, Result, IfOk, OnOk, map};
+ghost use Rattle.std.specs.Prelude.{◌≡◌, ◌∷◌, ◌++◌, [], pos, ℤ, true, Result, IfOk, OnOk, map};
+ghost use Rattle.attribute_rules.specs.Places.{are_rising};
 ghost use Rattle.term_model.specs.Modifications.{failed, modified, modified_by, replaced, settled, unmodified};
 ghost use Rattle.term_model.specs.Modifications.{without_full};
 ghost use Rattle.term_values.specs.Typed.TypedValue.{Int, Many};
@@ -11,6 +12,7 @@ ghost use Rattle.object_modifications.specs.Settling.{ends_full_by, given_by, ma
 use crate::modifying::{NO_SUCH_ATTRIBUTE, Trial, tried};
 use attribute_rules::labels::is_labelled;
 use attribute_rules::lookups::syntax_of;
+use attribute_rules::places::place_of;
 use set_values::without_members;
 use std::alloc::{AllocError, Global};
 use term_model::{AttrRecs, Attribute, Change, IdRef, Object, Oids, Rdn, Set, SetInfoStatus};
@@ -73,16 +75,14 @@ pub(crate) fn unmodified(alloc: Global, object: &Object, size: u64) -> Result<Mo
     })
 }
 
-/// Gives the first attribute with the identifier another value.
-fn replace_value(attributes: &mut Vec<Attribute>, id: &Oid, value: Value)
-    ensures { attributes.new.items ≡ replaced id.now value attributes.old.items }
+/// Gives the attribute with the identifier another value.
+fn replace_value(attributes: &mut Vec<Attribute>, rising: bool, id: &Oid, value: Value)
+    ensures { (rising ≡ true → are_rising attributes.old.items ≡ true)
+        → attributes.new.items ≡ replaced id.now value attributes.old.items }
 {
-    let count = attributes.as_slice().len();
-    for i in 0..count {
-        if attributes[i].id == *id {
-            attributes[i].value = value;
-            return;
-        }
+    match place_of(attributes.as_slice(), rising, id) {
+        Some(place) => attributes[place].value = value,
+        None => {}
     }
 }
 
@@ -172,19 +172,21 @@ fn give(
     alloc: Global,
     records: &AttrRecs,
     bound: bool,
+    rising: bool,
     id: &Oid,
     value: Value,
     made: &mut Modified,
 ) -> Result<(), AllocError>
-    ensures given { OnOk result (made_of made.new ≡ record (made_of made.old) {
-      object = record made.old.object { attrs = given_by records.now bound id.now value made.old.object.attrs };
-      done = made.old.done ++ id.now ∷ [];
-    }) }
+    ensures given { OnOk result ((rising ≡ true → are_rising made.old.object.attrs ≡ true)
+        → made_of made.new ≡ record (made_of made.old) {
+          object = record made.old.object { attrs = given_by records.now bound id.now value made.old.object.attrs };
+          done = made.old.done ++ id.now ∷ [];
+        }) }
     ensures kept { made.new.size ≡ made.old.size }
 {
     let named = id.copy(alloc)?;
     made.done.items.push(named)?;
-    replace_value(&mut made.object.attrs.items, id, value);
+    replace_value(&mut made.object.attrs.items, rising, id, value);
     if ends_full(records, bound, id) {
         let left = all_without_full(alloc, records, made.object.attrs.items.as_slice())?;
         made.object.attrs.items = left;
@@ -197,19 +199,21 @@ fn settle(
     alloc: Global,
     schema: &Set,
     bound: bool,
+    rising: bool,
     change: &Change,
     id: &Oid,
     came: Trial,
     made: &mut Modified,
 ) -> Result<(), AllocError>
-    ensures { OnOk result ((told : Result TypedValue ℤ) → IsWeighed schema.now bound made.old.object made.old.size
-        → TellsTried schema.now bound made.old.object id.now told came
+    ensures { OnOk result ((told : Result TypedValue ℤ)
+        → IsWeighed schema.now bound rising made.old.object made.old.size
+        → TellsTried schema.now bound rising made.old.object id.now told came
         → (made_of made.new ≡ settled schema.now (made_of made.old) change.now id.now told)
-        × IsWeighed schema.now bound made.new.object made.new.size) }
+        × IsWeighed schema.now bound rising made.new.object made.new.size) }
 {
     match came {
         Trial::Gives(value, size) => {
-            give(alloc, &schema.attributes, bound, id, value, made)?;
+            give(alloc, &schema.attributes, bound, rising, id, value, made)?;
             made.size = size;
             Ok(())
         }
@@ -223,12 +227,13 @@ fn modify(
     schema: &Set,
     name: &[Rdn],
     bound: bool,
+    rising: bool,
     change: &Change,
     made: &mut Modified,
 ) -> Result<(), AllocError>
-    ensures { OnOk result (IsWeighed schema.now bound made.old.object made.old.size
+    ensures { OnOk result (IsWeighed schema.now bound rising made.old.object made.old.size
         → (made_of made.new ≡ modified_by schema.now name.now (made_of made.old) change.now change.now.id)
-        × IsWeighed schema.now bound made.new.object made.new.size) }
+        × IsWeighed schema.now bound rising made.new.object made.new.size) }
 {
     match &change.id {
         IdRef::Global(id) => {
@@ -237,12 +242,13 @@ fn modify(
                 schema,
                 name,
                 bound,
+                rising,
                 made.size,
                 &made.object,
                 change,
                 id,
             )?;
-            settle(alloc, schema, bound, change, id, came, made)
+            settle(alloc, schema, bound, rising, change, id, came, made)
         }
         IdRef::Local(_) => fail(alloc, change, NO_SUCH_ATTRIBUTE, made),
     }
@@ -254,15 +260,16 @@ pub(crate) fn modify_all(
     schema: &Set,
     name: &[Rdn],
     bound: bool,
+    rising: bool,
     changes: &[Change],
     made: &mut Modified,
 ) -> Result<(), AllocError>
-    ensures { OnOk result (IsWeighed schema.now bound made.old.object made.old.size
+    ensures { OnOk result (IsWeighed schema.now bound rising made.old.object made.old.size
         → (made_of made.new ≡ modified schema.now name.now (made_of made.old) changes.now)
-        × IsWeighed schema.now bound made.new.object made.new.size) }
+        × IsWeighed schema.now bound rising made.new.object made.new.size) }
 {
     for change in changes {
-        modify(alloc, schema, name, bound, change, made)?;
+        modify(alloc, schema, name, bound, rising, change, made)?;
     }
     Ok(())
 }

@@ -73,7 +73,9 @@ fn add_further(alloc: Global, into: &mut Properties) -> Result<(), RowFault> {
     add(alloc, into, 7, "gd")?;
     add(alloc, into, 8, "gr")?;
     add(alloc, into, 9, "gr")?;
-    add(alloc, into, 10, "gram")
+    add(alloc, into, 10, "gram")?;
+    add(alloc, into, 11, "gr")?;
+    add(alloc, into, 12, "gr")
 }
 
 /// Of elements.

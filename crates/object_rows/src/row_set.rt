@@ -55,7 +55,9 @@ fn add_further(alloc: Global, records: &mut AttrRecs) -> Result<(), RowFault> {
     add(alloc, records, 7, b"plain", Syntax::integer(alloc))?;
     add(alloc, records, 8, b"objectClass", Syntax::integer(alloc))?;
     add(alloc, records, 9, b"spare", Syntax::integer(alloc))?;
-    add(alloc, records, 10, b"pair", small_set(alloc)?)
+    add(alloc, records, 10, b"pair", small_set(alloc)?)?;
+    add(alloc, records, 11, b"nameBinding", Syntax::integer(alloc))?;
+    add(alloc, records, 12, b"packages", Syntax::integer(alloc))
 }
 
 fn oid_syntax() -> Syntax {

@@ -286,7 +286,7 @@ pub fn get_at(
 /// The Get of an object, granted at a moment in seconds since 1970: the result with the attributes that a list asks
 /// for, or where an identifier is of no attribute of the object or of one that managers may not read, a getListError
 /// with the errors and the other attributes. Without a list all attributes that may be read are given. A Get changes
-/// nothing. A moment past the year 9999 is taken as its last second.
+/// nothing. A moment past the year 9998 is taken as its last second.
 pub fn get_one(
     alloc: Global,
     set: &Set,

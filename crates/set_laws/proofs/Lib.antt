@@ -7,3 +7,13 @@ pub mod Sizes
 pub mod Values
 pub mod SetLawFacts
 pub mod FullLogFacts
+pub mod Found
+pub mod Records
+pub mod Properties
+pub mod LogStatus
+pub mod KeptValues
+pub mod KeptPermitted
+pub mod KeptObjects
+pub mod KeptNames
+pub mod StoredObjects
+pub mod KeptMapLaws

@@ -52,7 +52,7 @@ without_full_identifiers records (attribute ∷ others) =
     ap (λ first. first ∷ identifiers (map (without_full records) others)) (without_full_identifier records attribute)
     ∙ ap (λ found. attribute.id ∷ found) (without_full_identifiers records others)
 
-with_value_identifiers : (schema : Set) (object : Object) (id : List ℕ) (value : TypedValue)
+pub with_value_identifiers : (schema : Set) (object : Object) (id : List ℕ) (value : TypedValue)
     → identifiers (with_value schema object id value) ≡ identifiers object.attrs
 with_value_identifiers schema object id value =
     let stays = replaced_identifiers id value object.attrs in

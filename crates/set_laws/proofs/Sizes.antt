@@ -63,7 +63,7 @@ counted_same schema class (attribute ∷ others) log =
         (without_full_leaves schema.attributes attribute other)
         ∙ ap (λ rest. if counted schema class attribute then attribute ∷ rest else rest) later
 
-with_value_small : (schema : Set) (object : Object) (id : List ℕ) (value : TypedValue)
+pub with_value_small : (schema : Set) (object : Object) (id : List ℕ) (value : TypedValue)
     → object_size schema (record object { attrs = replaced id value object.attrs }) ≤ 16384
     → object_size schema (record object { attrs = with_value schema object id value }) ≤ 16384
 with_value_small schema object id value small =

@@ -48,7 +48,7 @@ without_full_leaves records attribute other =
     (lessened records attribute) attribute
     (λ labelled. absurd (false≢true (sym other ∙ labelled))) (λ differs. refl)
 
-with_value_leaves : (schema : Set) (object : Object) (id : List ℕ) (value : TypedValue) (attribute : Attribute)
+pub with_value_leaves : (schema : Set) (object : Object) (id : List ℕ) (value : TypedValue) (attribute : Attribute)
     → (attribute.id ≡ id → ⊥) → IsNoLogStatus schema object.class attribute.id → Contains object.attrs attribute
     → Contains (with_value schema object id value) attribute
 with_value_leaves schema object id value attribute other no_status at =

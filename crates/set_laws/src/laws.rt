@@ -1,5 +1,6 @@
 //! Laws of what modifications make of an object, as contracts: X.711, section 7.4.
 
+ghost use Rattle.set_laws.specs.KeptMaps.{MapStaysGood, NameStaysGood, ObjectStaysGood};
 ghost use Rattle.set_laws.specs.ModificationLaws.{IdentifiersStay, KindStays, MadeIsLeft, SizeStays, UnnamedStays};
 ghost use Rattle.set_laws.specs.ModificationLaws.{ValuesStayShort};
 
@@ -27,4 +28,17 @@ pub fn made_is_left()
 pub fn limits_stay()
     ensures size { SizeStays }
     ensures values { ValuesStayShort }
+{}
+
+/// An object that obeys its templates does so afterwards: it has exactly the attributes of its packages, with values
+/// that fit, are permitted and are not too long. One that may have its name may have it afterwards. Does nothing.
+pub fn objects_stay_good()
+    ensures object { ObjectStaysGood }
+    ensures name { NameStaysGood }
+{}
+
+/// A Set of an object of a well-formed map leaves a well-formed map: what it changes is installed in place of what
+/// stood there. Does nothing.
+pub fn map_stays_good()
+    ensures { MapStaysGood }
 {}

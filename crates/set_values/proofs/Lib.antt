@@ -1,4 +1,4 @@
 mod HaveLaws
 mod LoopLaws
-mod SetLaws
+pub mod SetLaws
 mod StandardFacts

@@ -1,4 +1,4 @@
-mod FitLaws
+pub mod FitLaws
 mod KeptLaws
 mod LeafLaws
 mod LoopLaws

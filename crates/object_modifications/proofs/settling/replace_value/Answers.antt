@@ -1,21 +1,27 @@
--- The attribute stands here.
-use Rattle.std.proofs.Common.{rules, ◌≡◌, ◌<◌, true, length, get_or, set, sym, ap, ◌∙◌, arith}
-use Rattle.term_model.specs.Comparing.{is_same_oid}
-use Rattle.object_modifications.proofs.ListEnds.{replaced_here}
+-- The attribute stands at the place, or nowhere.
+use Rattle.std.proofs.Common.{rules, ◌≡◌, Some, None, set, sym, ap, ◌∙◌}
+use Rattle.attribute_rules.specs.Places.{are_rising, place_of}
+use Rattle.attribute_rules.proofs.PlaceLaws.{stands_at, stands_nowhere}
+use Rattle.term_model.specs.declared.object.Attribute.{Attribute}
 use Rattle.object_modifications.proofs.settling.replace_value.Goals as goal
 
-pub returns-then-eq : goal.returns-then-eq
-returns-then-eq c =
-    let old = c.args.attributes.now.items in
-    let i = c.loop-i.i in
-    let x = c.index.result.now in
-    let y = c.index_mut.result.now in
-    let same = c.loop-i.invariant.same in
-    let within : i < length old =
-    omega (arith, c.loop-i-test.true, ap length c.as_slice-count.ensures.value, ap length same) in
-    let first : x ≡ get_or c.loop-i.attributes.items i x = search rules in
-    let second : y ≡ get_or c.loop-i.attributes.items i y = c.index_mut.ensures.value in
-    let found : is_same_oid x.id c.args.id.now ≡ true = sym c.eq.ensures ∙ c.if-eq.true in
-    ap (λ xs. set xs i (record y { value = c.args.value })) same
-    ∙ replaced_here c.args.id.now c.args.value old i x y within
-    (first ∙ ap (λ xs. get_or xs i x) same) (second ∙ ap (λ xs. get_or xs i y) same) found c.loop-i.invariant.rest
+pub returns-in-Some : goal.returns-in-Some
+returns-in-Some c = λ rise.
+    let xs = c.args.attributes.now.items in
+    let id = c.args.id.now in
+    let place = c.in-Some.place in
+    let slice : c.as_slice.result.now ≡ xs = search rules in
+    let is : place_of xs id ≡ Some place =
+    ap (λ ys. place_of ys id) (sym slice) ∙ sym (c.in-Some.ensures.place (λ seen. ap are_rising slice ∙ rise seen)) in
+    let at = stands_at xs id place is in
+    ap (λ (y : Attribute). set xs place (record y { value = c.args.value })) c.index_mut.ensures.value
+    ∙ sym (at.given c.index_mut.result.now c.args.value)
+
+pub returns-in-None : goal.returns-in-None
+returns-in-None c = λ rise.
+    let xs = c.args.attributes.now.items in
+    let id = c.args.id.now in
+    let slice : c.as_slice.result.now ≡ xs = search rules in
+    let is : place_of xs id ≡ None =
+    ap (λ ys. place_of ys id) (sym slice) ∙ sym (c.in-None.ensures.place (λ seen. ap are_rising slice ∙ rise seen)) in
+    sym ((stands_nowhere xs id is).left c.args.value)
