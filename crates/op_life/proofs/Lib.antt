@@ -1,4 +1,5 @@
--- Lemmas of this crate.
-pub mod AttributeLaws
-pub mod IdentifierLaws
-mod OctetLaws
+-- The lemmas of this crate.
+pub mod AttemptLaws
+pub mod MakingLaws
+pub mod PlacingLaws
+pub mod ValueLaws

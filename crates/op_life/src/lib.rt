@@ -1,9 +1,18 @@
-//! What the creation of one object is made of: the values that its attributes take and which of them may stand. X.711,
-//! section 7.4, m-Create; X.720, section 5.
+//! What the creation of an object does: X.711, section 7.4, m-Create; X.720, section 5.
 #![tactic(auto)]
 
-pub mod attribute_tests;
-pub mod identifier_lists;
-pub mod member_checks;
-pub mod octet_values;
-pub mod value_sources;
+pub mod asking;
+pub(crate) mod attempts;
+pub(crate) mod copies;
+pub mod create_effect;
+pub(crate) mod created_values;
+pub mod creating;
+pub(crate) mod last_parts;
+pub(crate) mod licensing;
+pub(crate) mod making;
+pub(crate) mod outlines;
+pub(crate) mod references;
+
+pub use asking::Asking;
+pub use create_effect::create_one;
+pub use creating::{create_named, create_root};

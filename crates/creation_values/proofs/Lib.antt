@@ -1,0 +1,4 @@
+-- Lemmas of this crate.
+pub mod AttributeLaws
+pub mod IdentifierLaws
+mod OctetLaws

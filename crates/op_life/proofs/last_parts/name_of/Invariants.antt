@@ -1,0 +1,7 @@
+-- The parts so far.
+use Rattle.std.proofs.Common.{◌≡◌, take}
+use Rattle.op_life.proofs.last_parts.name_of.Given as goal
+
+abbrev pub invariant-loop-part : goal.invariant-loop-part
+invariant-loop-part l =
+    l.copies.items ≡ take l.part-index l.parts
