@@ -1,0 +1,6 @@
+pub mod CountLaws
+pub mod LogLaws
+pub mod NameParts
+pub mod RecordLaws
+pub mod SizeLaws
+pub mod WalkLaws

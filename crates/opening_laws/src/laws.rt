@@ -1,0 +1,41 @@
+//! Laws of the objects at the opening.
+
+ghost use Rattle.opening_laws.specs.OpeningLaws.{OpenedAreByName, OpenedAreFew, OpenedHaveAttributes};
+ghost use Rattle.opening_laws.specs.OpeningLaws.{OpenedHaveObjects, OpenedHaveRoot, OpenedHaveSuperiors};
+ghost use Rattle.opening_laws.specs.OpeningLaws.{WholeHasRecordOnce};
+
+/// The names rise, each once.
+pub fn opened_are_by_name()
+    ensures { OpenedAreByName }
+{}
+
+/// The root is there.
+pub fn opened_have_root()
+    ensures { OpenedHaveRoot }
+{}
+
+/// There are at most 100,000.
+pub fn opened_are_few()
+    ensures { OpenedAreFew }
+{}
+
+/// Each other object has its superior there, and a name of at most 32 parts.
+pub fn opened_have_superiors()
+    ensures { OpenedHaveSuperiors }
+{}
+
+/// Each object is of a class of the schema, has attributes of its packages, each once and by rising identifier, and
+/// has at most 16,384 octets.
+pub fn opened_have_objects()
+    ensures { OpenedHaveObjects }
+{}
+
+/// Each object has every attribute of its packages, where no class has two records.
+pub fn opened_have_attributes()
+    ensures { OpenedHaveAttributes }
+{}
+
+/// No class of a whole schema has two records.
+pub fn whole_schemas_have_records_once()
+    ensures { WholeHasRecordOnce }
+{}
