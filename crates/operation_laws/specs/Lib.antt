@@ -1,0 +1,3 @@
+-- The laws that the contracts of this crate state.
+pub mod KeptMaps
+pub mod LinkedContents
