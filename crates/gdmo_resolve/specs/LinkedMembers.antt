@@ -15,15 +15,15 @@ use Rattle.gdmo_resolve.specs.declared.linked.LinkedSyntax.{LinkedSyntax}
 use Rattle.gdmo_resolve.specs.declared.linked.LinkedSyntax.TheVariants.{OfType as LinkedType, OfAttribute as LinkedBase}
 use Rattle.gdmo_resolve.specs.LinkedNames.{IsLinkedName, IsOptionalName}
 use Rattle.gdmo_resolve.specs.LinkedTables.{Links, AreLinked}
-use Rattle.gdmo_resolve.specs.Mentions.Role.{SubordinateClass, SuperiorClass, NamingAttribute, BaseAttribute}
-use Rattle.gdmo_resolve.specs.Mentions.Role.{GroupElement, FieldAttribute}
-use Rattle.gdmo_resolve.specs.PartTerms.{PartTerms}
-use Rattle.gdmo_resolve.specs.TemplateTerms.{ReferenceTerm, BodyTerm, SyntaxTerm, LifeTerm, FieldTerms}
-use Rattle.gdmo_resolve.specs.TemplateTerms.BodyTerm.{BindingBody, AttributeBody, GroupBody, ActionBody}
-use Rattle.gdmo_resolve.specs.TemplateTerms.BodyTerm.{NotificationBody}
-use Rattle.gdmo_resolve.specs.TemplateTerms.SyntaxTerm.{OfType, OfAttribute}
-use Rattle.gdmo_resolve.specs.TemplateTerms.LifeTerm.{NoLife, Life}
-use Rattle.gdmo_resolve.specs.TemplateTerms.FieldTerms.{NoFields, Field}
+use Rattle.gdmo_names.specs.Mentions.Role.{SubordinateClass, SuperiorClass, NamingAttribute, BaseAttribute}
+use Rattle.gdmo_names.specs.Mentions.Role.{GroupElement, FieldAttribute}
+use Rattle.gdmo_names.specs.PartTerms.{PartTerms}
+use Rattle.gdmo_names.specs.TemplateTerms.{ReferenceTerm, BodyTerm, SyntaxTerm, LifeTerm, FieldTerms}
+use Rattle.gdmo_names.specs.TemplateTerms.BodyTerm.{BindingBody, AttributeBody, GroupBody, ActionBody}
+use Rattle.gdmo_names.specs.TemplateTerms.BodyTerm.{NotificationBody}
+use Rattle.gdmo_names.specs.TemplateTerms.SyntaxTerm.{OfType, OfAttribute}
+use Rattle.gdmo_names.specs.TemplateTerms.LifeTerm.{NoLife, Life}
+use Rattle.gdmo_names.specs.TemplateTerms.FieldTerms.{NoFields, Field}
 
 -- ---- name bindings
 

@@ -12,11 +12,11 @@ use Rattle.gdmo_resolve.specs.declared.linked.LinkedHead.{LinkedHead}
 use Rattle.gdmo_resolve.specs.declared.linked.LinkedName.{LinkedName}
 use Rattle.gdmo_resolve.specs.declared.linked.NamedMeaning.{NamedMeaning}
 use Rattle.gdmo_resolve.specs.declared.linked.NamedMeaning.TheVariants.{Assigned, Standard}
-use Rattle.gdmo_resolve.specs.FirstNames.{IsIdentifier}
-use Rattle.gdmo_resolve.specs.PartTerms.{Placed, PartTerms, identifier_of, label_of, module_terms_of}
-use Rattle.gdmo_resolve.specs.TemplateTerms.{IdentifierTerm, StatedTerm}
-use Rattle.gdmo_resolve.specs.TemplateTerms.StatedTerm.{NotStated, StatedValue, ByRule}
-use Rattle.gdmo_resolve.specs.TypeMeaning.{qualified_meaning}
+use Rattle.gdmo_names.specs.FirstNames.{IsIdentifier}
+use Rattle.gdmo_names.specs.PartTerms.{Placed, PartTerms, identifier_of, label_of, module_terms_of}
+use Rattle.gdmo_names.specs.TemplateTerms.{IdentifierTerm, StatedTerm}
+use Rattle.gdmo_names.specs.TemplateTerms.StatedTerm.{NotStated, StatedValue, ByRule}
+use Rattle.gdmo_names.specs.TypeMeaning.{qualified_meaning}
 
 -- the identifier under which a template is registered, its first name replaced
 abbrev pub IsLinkedIdentifier : PartTerms → Option IdentifierTerm → Option (List ℕ) → Type 0

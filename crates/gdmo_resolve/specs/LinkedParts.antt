@@ -10,10 +10,10 @@ use Rattle.gdmo_resolve.specs.LinkedNames.{IsHead}
 use Rattle.gdmo_resolve.specs.LinkedSections.{IsRule, IsInstance}
 use Rattle.gdmo_resolve.specs.LinkedTables.{TellFirstNames, table}
 use Rattle.gdmo_resolve.specs.LinkedTemplates.{IsClassOf, IsPackageOf}
-use Rattle.gdmo_resolve.specs.PartTerms.{Placed, PartTerms, body_of}
-use Rattle.gdmo_resolve.specs.TemplateTerms.{BodyTerm}
-use Rattle.gdmo_resolve.specs.TemplateTerms.TemplateKind.{ClassKind, PackageKind, BindingKind, AttributeKind}
-use Rattle.gdmo_resolve.specs.TemplateTerms.TemplateKind.{GroupKind, ActionKind, NotificationKind}
+use Rattle.gdmo_names.specs.PartTerms.{Placed, PartTerms, body_of}
+use Rattle.gdmo_names.specs.TemplateTerms.{BodyTerm}
+use Rattle.gdmo_names.specs.TemplateTerms.TemplateKind.{ClassKind, PackageKind, BindingKind, AttributeKind}
+use Rattle.gdmo_names.specs.TemplateTerms.TemplateKind.{GroupKind, ActionKind, NotificationKind}
 
 -- each of these is linked as the one at its place
 abbrev pub AreEach : {A B : Type 0} → (A → B → Type 0) → List A → List B → Type 0

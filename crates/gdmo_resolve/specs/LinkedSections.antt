@@ -13,15 +13,15 @@ use Rattle.gdmo_resolve.specs.declared.linked.LinkedStep.{LinkedStep}
 use Rattle.gdmo_resolve.specs.declared.linked.LinkedStep.TheVariants.{SetArgument, SetValue, Add, Emit, ReplyArgument}
 use Rattle.gdmo_resolve.specs.declared.linked.LinkedStep.TheVariants.{ReplyAttribute, ReplyValue}
 use Rattle.gdmo_resolve.specs.LinkedTables.{Links}
-use Rattle.gdmo_resolve.specs.Mentions.{Role}
-use Rattle.gdmo_resolve.specs.Mentions.Role.{RuleClass, RuleAction, StepAttribute, StepNotification, InstanceClass}
-use Rattle.gdmo_resolve.specs.Mentions.Role.{NameAttribute, GivenAttribute, ChosenPackage}
-use Rattle.gdmo_resolve.specs.PartTerms.{TakenTerm, StepTerm, RuleTerm, PairTerm, InstanceTerm, PartTerms}
-use Rattle.gdmo_resolve.specs.PartTerms.TakenTerm.{TheArgument, OneWord, OtherValue}
-use Rattle.gdmo_resolve.specs.PartTerms.StepTerm.{SetTo, AddTo, EmitOf, ReplyWith}
-use Rattle.gdmo_resolve.specs.PartViews.{optional_value, taken_term}
-use Rattle.gdmo_resolve.specs.RuleWords.{IsReplyLabel}
-use Rattle.gdmo_resolve.specs.TemplateTerms.ReferenceTerm.{ByLabel}
+use Rattle.gdmo_names.specs.Mentions.{Role}
+use Rattle.gdmo_names.specs.Mentions.Role.{RuleClass, RuleAction, StepAttribute, StepNotification, InstanceClass}
+use Rattle.gdmo_names.specs.Mentions.Role.{NameAttribute, GivenAttribute, ChosenPackage}
+use Rattle.gdmo_names.specs.PartTerms.{TakenTerm, StepTerm, RuleTerm, PairTerm, InstanceTerm, PartTerms}
+use Rattle.gdmo_names.specs.PartTerms.TakenTerm.{TheArgument, OneWord, OtherValue}
+use Rattle.gdmo_names.specs.PartTerms.StepTerm.{SetTo, AddTo, EmitOf, ReplyWith}
+use Rattle.gdmo_names.specs.PartViews.{optional_value, taken_term}
+use Rattle.gdmo_names.specs.RuleWords.{IsReplyLabel}
+use Rattle.gdmo_names.specs.TemplateTerms.ReferenceTerm.{ByLabel}
 
 -- a step is linked; a word alone behind REPLY is an attribute's label, or a value
 pub data IsStep (parts : PartTerms) (rule : RuleTerm) : StepTerm → LinkedStep → Type 0 where

@@ -3,18 +3,18 @@
 -- texts of DEFAULT in types they tell nothing: resolved modules do (ResolvedTypes of asn1_names).
 use Rattle.std.specs.Prelude.{◌≡◌, ◌==◌, ◌≤◌, ℕ, List, [], ◌∷◌, Bool, None, Some, Contains, length, slice_get}
 use Rattle.std.specs.Prelude.{if◌then◌else◌}
-use Rattle.gdmo_resolve.specs.BegunNames.{BeginsOne}
-use Rattle.gdmo_resolve.specs.DocumentTemplates.{templates}
-use Rattle.gdmo_resolve.specs.DoubleNames.{ValueHasArcs}
-use Rattle.gdmo_resolve.specs.FirstNames.{DefinesNameFirst, root_arc}
-use Rattle.gdmo_resolve.specs.LabelMeaning.{Means}
-use Rattle.gdmo_resolve.specs.Mentions.{Role, wanted_kind}
-use Rattle.gdmo_resolve.specs.PartTerms.{Placed, PartTerms, kind_of}
-use Rattle.gdmo_resolve.specs.TemplateTerms.{TemplateKind, ReferenceTerm, ReferenceTerms}
-use Rattle.gdmo_resolve.specs.TemplateTerms.ReferenceTerms.{NoReferences, Reference}
-use Rattle.gdmo_resolve.specs.TemplateTerms.TemplateKind.{ClassKind, PackageKind, ParameterKind, BindingKind}
-use Rattle.gdmo_resolve.specs.TemplateTerms.TemplateKind.{AttributeKind, GroupKind, BehaviourKind, ActionKind}
-use Rattle.gdmo_resolve.specs.TemplateTerms.TemplateKind.{NotificationKind}
+use Rattle.gdmo_names.specs.BegunNames.{BeginsOne}
+use Rattle.gdmo_names.specs.DocumentTemplates.{templates}
+use Rattle.gdmo_names.specs.DoubleNames.{ValueHasArcs}
+use Rattle.gdmo_names.specs.FirstNames.{DefinesNameFirst, root_arc}
+use Rattle.gdmo_names.specs.LabelMeaning.{Means}
+use Rattle.gdmo_names.specs.Mentions.{Role, wanted_kind}
+use Rattle.gdmo_names.specs.PartTerms.{Placed, PartTerms, kind_of}
+use Rattle.gdmo_names.specs.TemplateTerms.{TemplateKind, ReferenceTerm, ReferenceTerms}
+use Rattle.gdmo_names.specs.TemplateTerms.ReferenceTerms.{NoReferences, Reference}
+use Rattle.gdmo_names.specs.TemplateTerms.TemplateKind.{ClassKind, PackageKind, ParameterKind, BindingKind}
+use Rattle.gdmo_names.specs.TemplateTerms.TemplateKind.{AttributeKind, GroupKind, BehaviourKind, ActionKind}
+use Rattle.gdmo_names.specs.TemplateTerms.TemplateKind.{NotificationKind}
 
 -- a number for each kind, by which two kinds are told apart
 abbrev pub kind_number : TemplateKind → ℕ

@@ -9,18 +9,18 @@ use Rattle.gdmo_resolve.specs.declared.linked.LinkedClass.{LinkedClass}
 use Rattle.gdmo_resolve.specs.declared.linked.LinkedGroupUse.{LinkedGroupUse}
 use Rattle.gdmo_resolve.specs.declared.linked.LinkedPackage.{LinkedPackage}
 use Rattle.gdmo_resolve.specs.declared.linked.LinkedUse.{LinkedUse}
-use Rattle.gdmo_resolve.specs.LabelMeaning.{reference_token}
+use Rattle.gdmo_names.specs.LabelMeaning.{reference_token}
 use Rattle.gdmo_resolve.specs.LinkedNames.{IsOptionalName, stated_name, has_either, first_of}
 use Rattle.gdmo_resolve.specs.LinkedTables.{Links, AreLinked}
-use Rattle.gdmo_resolve.specs.Mentions.{Role}
-use Rattle.gdmo_resolve.specs.Mentions.Role.{Superclass, MandatoryPackage, ConditionalPackage, PackageAttribute}
-use Rattle.gdmo_resolve.specs.Mentions.Role.{PackageGroup, AddedAttribute, PackageAction, PackageNotification}
-use Rattle.gdmo_resolve.specs.PartTerms.{PartTerms}
-use Rattle.gdmo_resolve.specs.TemplateTerms.{ReferenceTerm, ReferenceTerms, BodyTerm, StatedTerm}
-use Rattle.gdmo_resolve.specs.TemplateTerms.{UseTerms, RowTerms}
-use Rattle.gdmo_resolve.specs.TemplateTerms.BodyTerm.{ClassBody, PackageBody}
-use Rattle.gdmo_resolve.specs.TemplateTerms.UseTerms.{NoUses, Use}
-use Rattle.gdmo_resolve.specs.TemplateTerms.RowTerms.{NoRows, Row}
+use Rattle.gdmo_names.specs.Mentions.{Role}
+use Rattle.gdmo_names.specs.Mentions.Role.{Superclass, MandatoryPackage, ConditionalPackage, PackageAttribute}
+use Rattle.gdmo_names.specs.Mentions.Role.{PackageGroup, AddedAttribute, PackageAction, PackageNotification}
+use Rattle.gdmo_names.specs.PartTerms.{PartTerms}
+use Rattle.gdmo_names.specs.TemplateTerms.{ReferenceTerm, ReferenceTerms, BodyTerm, StatedTerm}
+use Rattle.gdmo_names.specs.TemplateTerms.{UseTerms, RowTerms}
+use Rattle.gdmo_names.specs.TemplateTerms.BodyTerm.{ClassBody, PackageBody}
+use Rattle.gdmo_names.specs.TemplateTerms.UseTerms.{NoUses, Use}
+use Rattle.gdmo_names.specs.TemplateTerms.RowTerms.{NoRows, Row}
 
 -- ---- classes
 

@@ -1,12 +1,12 @@
 //! By which number each template is told: its place among the templates of its kind (docs/PROFILE.md, section 12); and
 //! what linked parts tell of names.
 
-use crate::found::{Found, kind_of};
-use crate::linkage::Linkage;
 use crate::linked::{LinkedHead, LinkedName, NamedMeaning};
-use crate::roles::{Role, TemplateKind};
 use asn1_names::name_tables::{Meaning, NameTables};
 use gdmo_classes::properties::PropertyValue;
+use gdmo_names::found::{Found, kind_of};
+use gdmo_names::roles::{Role, TemplateKind};
+use gdmo_types::linkage::Linkage;
 use std::alloc::{AllocError, Global};
 use term_values::Oid;
 use token_grammar::Token;

@@ -5,12 +5,12 @@ use crate::linked::{
     LinkedBinding, LinkedClass, LinkedGroupUse, LinkedHead, LinkedPackage, LinkedUse,
 };
 use crate::linking::Linker;
-use crate::roles::Role;
 use gdmo_classes::attribute_use::AttributeUse;
 use gdmo_classes::creation::{CreateModifiers, Creation, Deletion, ModifierRow};
 use gdmo_classes::name_binding::NameBindingTemplate;
 use gdmo_classes::package::PackageTemplate;
 use gdmo_members::attribute::AttributeReference;
+use gdmo_names::roles::Role;
 use std::alloc::AllocError;
 use token_grammar::Token;
 use token_grammar::token_tests::is_word_of;

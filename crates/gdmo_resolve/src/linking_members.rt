@@ -6,9 +6,9 @@ use crate::linked::{
     LinkedSyntax,
 };
 use crate::linking::Linker;
-use crate::roles::Role;
 use gdmo_members::attribute::AttributeSyntax;
 use gdmo_members::{ActionTemplate, AttributeTemplate, GroupTemplate, NotificationTemplate};
+use gdmo_names::roles::Role;
 use std::alloc::AllocError;
 use token_grammar::Token;
 

@@ -1,10 +1,7 @@
 //! Rules and instances with the targets of their references (docs/PROFILE.md, sections 9 and 12).
 
-use crate::first_names::arc_value;
 use crate::linked::{Linked, LinkedInstance, LinkedPair, LinkedRule, LinkedStep};
 use crate::linking::Linker;
-use crate::rule_faults::{Taken, labelled_attribute, taken_reply, taken_value};
-use crate::section_references::{InstanceTargets, RuleTargets, SectionTargets};
 use crate::value_copies::copy_value;
 use asn1_values_syntax::value::{NamedValue, ValueText};
 use extra_syntax::assignment::Assignment;
@@ -12,6 +9,9 @@ use extra_syntax::instance::{Instance, InstanceKind};
 use extra_syntax::rule::Rule;
 use extra_syntax::section::Section;
 use extra_syntax::step::{Reply, SetStep, Step};
+use gdmo_identifiers::first_names::arc_value;
+use gdmo_names::section_references::{InstanceTargets, RuleTargets, SectionTargets};
+use gdmo_rules::rule_faults::{Taken, labelled_attribute, taken_reply, taken_value};
 use std::alloc::AllocError;
 
 /// SET; `attribute` is the one that is set.

@@ -1,32 +1,32 @@
 //! The call that replaces references by their targets, or tells the first fault (X.722, section 8; docs/PROFILE.md,
 //! section 12).
 
-use crate::attribute_types::attribute_types;
-use crate::begun_names::BegunNames;
-use crate::class_members::class_graph;
-use crate::finding_classes::find_templates;
-use crate::first_fault::{Faults, refusal_of};
-use crate::found::Found;
-use crate::identifiers::{assigned_names, first_names, judge_modules, judge_templates};
-use crate::labels::{label_table, note_fixed_groups, targets_of};
-use crate::linkage::Linkage;
 use crate::linked::Linked;
 use crate::linking::{Linker, assignment_places, kind_places};
 use crate::linking_sections::link_sections;
 use crate::linking_templates::{link_templates, nothing_linked};
-use crate::module_names::{NamedThings, module_names};
-use crate::module_values::mark_module_values;
-use crate::notification_fields::note_fields;
-use crate::parsed::Parsed;
-use crate::refusal::LabelRefusal;
-use crate::rule_faults::RuleJudge;
-use crate::section_references::{Labelled, SectionTargets, note_stated_twice};
-use crate::section_values::mark_section_values;
-use crate::type_numbers::TypeNumbers;
-use crate::type_texts::TypeTexts;
 use crate::unequal_names::{linked_first_names, note_unequal};
 use asn1_names::name_tables::NameTables;
 use asn1_types::Types;
+use gdmo_identifiers::begun_names::BegunNames;
+use gdmo_identifiers::identifiers::{assigned_names, first_names, judge_modules, judge_templates};
+use gdmo_identifiers::module_values::mark_module_values;
+use gdmo_identifiers::section_values::mark_section_values;
+use gdmo_names::finding_classes::find_templates;
+use gdmo_names::first_fault::{Faults, refusal_of};
+use gdmo_names::found::Found;
+use gdmo_names::labels::{label_table, note_double_labels, note_fixed_groups, targets_of};
+use gdmo_names::parsed::Parsed;
+use gdmo_names::refusal::LabelRefusal;
+use gdmo_names::section_references::{Labelled, SectionTargets, note_stated_twice};
+use gdmo_rules::class_members::class_graph;
+use gdmo_rules::rule_faults::RuleJudge;
+use gdmo_types::attribute_types::attribute_types;
+use gdmo_types::linkage::Linkage;
+use gdmo_types::module_names::{NamedThings, module_names};
+use gdmo_types::notification_fields::note_fields;
+use gdmo_types::type_numbers::TypeNumbers;
+use gdmo_types::type_texts::TypeTexts;
 use indexmap::IndexMap;
 use std::alloc::{AllocError, Global};
 
@@ -163,7 +163,8 @@ fn resolve_found<'a>(
     templates: &[Found<'a>],
     faults: &mut Faults,
 ) -> Result<Linked, LabelRefusal> {
-    let labels = label_table(alloc, templates, faults)?;
+    let labels = label_table(alloc, templates)?;
+    note_double_labels(templates, &labels, faults);
     resolve_labelled(alloc, parts, types, templates, &labels, faults)
 }
 

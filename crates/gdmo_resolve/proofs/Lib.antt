@@ -1,9 +1,0 @@
--- The lemmas of this crate.
-pub mod Texts
-pub mod StandardFacts
-pub mod FurtherFacts
-pub mod TypeFacts
-pub mod LabelLaws
-pub mod RuleFacts
-pub mod FaultFacts
-pub mod NameFacts

@@ -1,0 +1,381 @@
+//! What rules may not say: steps that name attributes by which objects are named, or which the class hasn't, ADD of
+//! what isn't INTEGER, and ARGUMENT or REPLY of another type than the target (docs/PROFILE.md, sections 9 and 12).
+
+ghost use Rattle.std.specs.Prelude.{◌≡◌};
+ghost use Rattle.gdmo_names.specs.PartViews.{reply_term, taken_term, word_taken};
+ghost use Rattle.gdmo_rules.specs.TakenViews.{taken_view};
+
+use crate::class_members::{ClassFacts, ClassGraph};
+use asn1_values_syntax::value::{NamedValue, ValueText};
+use extra_syntax::rule::Rule;
+use extra_syntax::section::Section;
+use extra_syntax::step::{Reply, Step};
+use gdmo_names::first_fault::{FaultKind, Faults};
+use gdmo_names::found::{Body, Found, Mention, Target, kind_of};
+use gdmo_names::labels::meant_template;
+use gdmo_names::roles::{Role, TemplateKind};
+use gdmo_names::section_references::RuleTargets;
+use gdmo_types::compared_types::{ComparedType, are_other, attribute_type, stated_type};
+use gdmo_types::linkage::Linkage;
+use gdmo_types::type_numbers::TypeNumbers;
+use indexmap::IndexMap;
+use std::alloc::AllocError;
+use token_grammar::Token;
+use token_grammar::token_tests::{is_label, is_word_of};
+
+/// What SET or REPLY takes.
+#[derive(Clone, Copy)]
+pub enum Taken<'a> {
+    /// The one word ARGUMENT.
+    Argument(&'a Token),
+    /// Any other word alone.
+    Word(&'a Token),
+    /// Any other value.
+    Value(&'a ValueText),
+}
+
+/// What a word alone is that SET or REPLY takes.
+fn taken_word<'a>(word: &'a Token) -> Taken<'a>
+    ensures { taken_view result ≡ word_taken word.now }
+{
+    if is_word_of(word, "ARGUMENT") {
+        Taken::Argument(word)
+    } else {
+        Taken::Word(word)
+    }
+}
+
+/// What a value is that SET or REPLY takes.
+pub fn taken_value<'a>(value: &'a ValueText) -> Taken<'a>
+    ensures { taken_view result ≡ taken_term value.now }
+{
+    match value {
+        ValueText::Named(NamedValue::Name(word)) => taken_word(word),
+        ValueText::Literal(_)
+        | ValueText::Number(_)
+        | ValueText::Named(NamedValue::Choice { .. })
+        | ValueText::Braces { .. } => Taken::Value(value),
+    }
+}
+
+/// What REPLY takes.
+pub fn taken_reply<'a>(reply: &'a Reply) -> Taken<'a>
+    ensures { taken_view result ≡ reply_term reply.now }
+{
+    match reply {
+        Reply::Value(value) => taken_value(value),
+        Reply::Label(label) => Taken::Word(label),
+    }
+}
+
+/// The attribute that a label means, where it means one.
+pub fn labelled_attribute<'a>(
+    templates: &[Found<'a>],
+    labels: &IndexMap<&'a [u8], usize>,
+    label: &Token,
+) -> Option<usize> {
+    let number = labels.get(label.text.as_slice()).copied()?;
+    let found = templates.get(number)?;
+    if kind_of(&found.body) == TemplateKind::Attribute {
+        Some(number)
+    } else {
+        None
+    }
+}
+
+/// A step names an attribute.
+#[derive(Clone, Copy)]
+struct Naming<'a> {
+    document: u32,
+    label: &'a Token,
+    attribute: usize,
+}
+
+/// The types of an action.
+#[derive(Clone, Copy)]
+struct ActionTypes {
+    information: ComparedType,
+    reply: ComparedType,
+}
+
+/// What judges the steps of rules.
+#[derive(Drop)]
+pub struct RuleJudge<'a, 't, 'n> {
+    linkage: Linkage<'a, 't>,
+    numbers: &'n mut TypeNumbers<'a, 't>,
+    /// The attributes that steps name, by the classes of their rules.
+    by_class: IndexMap<usize, Vec<Naming<'a>>>,
+}
+
+impl<'a, 't, 'n> RuleJudge<'a, 't, 'n> {
+    /// What judges the rules over these templates.
+    pub fn new(
+        linkage: Linkage<'a, 't>,
+        numbers: &'n mut TypeNumbers<'a, 't>,
+    ) -> RuleJudge<'a, 't, 'n> {
+        RuleJudge {
+            linkage,
+            numbers,
+            by_class: IndexMap::new(linkage.alloc),
+        }
+    }
+
+    /// The types of an action; none where the action is missing.
+    fn action_types(&mut self, action: Option<usize>) -> Result<Option<ActionTypes>, AllocError> {
+        let Some(number) = action else {
+            return Ok(None);
+        };
+        let Some(found) = self.linkage.templates.get(number) else {
+            return Ok(None);
+        };
+        let Body::Action(action) = found.body else {
+            return Ok(None);
+        };
+        let information = stated_type(&self.linkage, self.numbers, &action.information)?;
+        let reply = stated_type(&self.linkage, self.numbers, &action.reply)?;
+        Ok(Some(ActionTypes { information, reply }))
+    }
+
+    /// Keeps the attribute that a step of a rule names.
+    fn keep(&mut self, class: Option<usize>, naming: Naming<'a>) -> Result<(), AllocError> {
+        let Some(class) = class else {
+            return Ok(());
+        };
+        if let Some(row) = self.by_class.get_mut(&class) {
+            row.push(naming)?;
+            return Ok(());
+        }
+        let mut row = Vec::new(self.linkage.alloc);
+        row.push(naming)?;
+        self.by_class.insert(class, row)?;
+        Ok(())
+    }
+
+    /// Notes that an attribute is of another type than what it is set to, or than the reply that it is.
+    fn note_other(
+        &mut self,
+        attribute: usize,
+        other: ComparedType,
+        document: u32,
+        word: &Token,
+        faults: &mut Faults,
+    ) -> Result<(), AllocError> {
+        let own = attribute_type(&self.linkage, self.numbers, attribute)?;
+        if are_other(own, other) {
+            faults.note(document, word, FaultKind::WrongKind);
+        }
+        Ok(())
+    }
+
+    /// Notes that ADD names an attribute that isn't INTEGER.
+    fn note_added(&mut self, naming: Naming<'a>, faults: &mut Faults) -> Result<(), AllocError> {
+        let is_fault = match attribute_type(&self.linkage, self.numbers, naming.attribute)? {
+            ComparedType::Missing => false,
+            ComparedType::Nothing => true,
+            ComparedType::Number(number) => !self.numbers.is_integer(number),
+        };
+        if is_fault {
+            faults.note(naming.document, naming.label, FaultKind::WrongKind);
+        }
+        Ok(())
+    }
+
+    /// Whether a word alone behind REPLY that means no attribute is a label.
+    fn is_label_of_nothing(
+        &mut self,
+        types: Option<ActionTypes>,
+        word: &Token,
+    ) -> Result<bool, AllocError> {
+        let Some(types) = types else {
+            return Ok(false);
+        };
+        match types.reply {
+            ComparedType::Missing => Ok(false),
+            ComparedType::Nothing => Ok(is_label(word)),
+            ComparedType::Number(number) => {
+                Ok(is_label(word) && !self.numbers.names_number(number, word.text.as_slice())?)
+            }
+        }
+    }
+
+    /// Judges an attribute that is replied.
+    fn judge_replied(
+        &mut self,
+        class: Option<usize>,
+        types: Option<ActionTypes>,
+        naming: Naming<'a>,
+        faults: &mut Faults,
+    ) -> Result<(), AllocError> {
+        self.keep(class, naming)?;
+        match types {
+            Some(types) => {
+                let document = naming.document;
+                self.note_other(
+                    naming.attribute,
+                    types.reply,
+                    document,
+                    naming.label,
+                    faults,
+                )
+            }
+            None => Ok(()),
+        }
+    }
+
+    /// Notes what is wrong with a label that should be an attribute's.
+    fn note_label(&self, document: u32, label: &'a Token, faults: &mut Faults) {
+        let mention = Mention {
+            role: Role::StepAttribute,
+            target: Target::Label(label),
+        };
+        let templates = self.linkage.templates;
+        let _target = meant_template(templates, self.linkage.labels, document, &mention, faults);
+    }
+
+    /// Judges a word alone behind REPLY.
+    fn judge_word(
+        &mut self,
+        own: &RuleTargets,
+        types: Option<ActionTypes>,
+        word: &'a Token,
+        faults: &mut Faults,
+    ) -> Result<(), AllocError> {
+        let templates = self.linkage.templates;
+        let labels = self.linkage.labels;
+        if let Some(attribute) = labelled_attribute(templates, labels, word) {
+            let naming = Naming {
+                document: own.document,
+                label: word,
+                attribute,
+            };
+            return self.judge_replied(own.class, types, naming, faults);
+        }
+        if self.is_label_of_nothing(types, word)? {
+            self.note_label(own.document, word, faults);
+        }
+        Ok(())
+    }
+
+    fn judge_reply(
+        &mut self,
+        own: &RuleTargets,
+        types: Option<ActionTypes>,
+        reply: &'a Reply,
+        faults: &mut Faults,
+    ) -> Result<(), AllocError> {
+        match taken_reply(reply) {
+            Taken::Argument(word) => {
+                if let Some(types) = types {
+                    if are_other(types.information, types.reply) {
+                        faults.note(own.document, word, FaultKind::WrongKind);
+                    }
+                }
+                Ok(())
+            }
+            Taken::Word(word) => self.judge_word(own, types, word, faults),
+            Taken::Value(_) => Ok(()),
+        }
+    }
+
+    /// Judges a step; `target` is the attribute that it names.
+    fn judge_step(
+        &mut self,
+        own: &RuleTargets,
+        types: Option<ActionTypes>,
+        step: &'a Step,
+        target: Option<usize>,
+        faults: &mut Faults,
+    ) -> Result<(), AllocError> {
+        let document = own.document;
+        match step {
+            Step::Set(set) => {
+                let Some(attribute) = target else {
+                    return Ok(());
+                };
+                let label = &set.attribute;
+                self.keep(
+                    own.class,
+                    Naming {
+                        document,
+                        label,
+                        attribute,
+                    },
+                )?;
+                if let (Taken::Argument(word), Some(types)) = (taken_value(&set.value), types) {
+                    self.note_other(attribute, types.information, document, word, faults)?;
+                }
+                Ok(())
+            }
+            Step::Add(add) => {
+                let Some(attribute) = target else {
+                    return Ok(());
+                };
+                let naming = Naming {
+                    document,
+                    label: &add.attribute,
+                    attribute,
+                };
+                self.keep(own.class, naming)?;
+                self.note_added(naming, faults)
+            }
+            Step::Emit(_) => Ok(()),
+            Step::Reply(reply) => self.judge_reply(own, types, reply, faults),
+        }
+    }
+
+    fn judge_rule(
+        &mut self,
+        rule: &'a Rule,
+        own: &RuleTargets,
+        faults: &mut Faults,
+    ) -> Result<(), AllocError> {
+        let types = self.action_types(own.action)?;
+        for (k, step) in rule.steps.iter().enumerate() {
+            let target = own.steps.get(k).copied().flatten();
+            self.judge_step(own, types, step, target, faults)?;
+        }
+        Ok(())
+    }
+
+    /// Notes the attributes that steps name and may not, since they name objects, or aren't the class's.
+    fn judge_classes(&self, graph: &ClassGraph, faults: &mut Faults) -> Result<(), AllocError> {
+        for (class, row) in self.by_class.iter() {
+            let facts = graph.facts(&self.linkage, *class)?;
+            for naming in row.iter() {
+                if may_not_be_named(&facts, naming.attribute) {
+                    faults.note(naming.document, naming.label, FaultKind::WrongKind);
+                }
+            }
+        }
+        Ok(())
+    }
+
+    /// Notes what the rules may not say. `targets` tells what they name.
+    pub fn judge_rules(
+        &mut self,
+        sections: &'a [Section],
+        targets: &[RuleTargets],
+        graph: &ClassGraph,
+        faults: &mut Faults,
+    ) -> Result<(), AllocError> {
+        let mut rules = targets.iter();
+        for section in sections.iter() {
+            let Section::Rules(section) = section else {
+                continue;
+            };
+            for rule in section.rules.iter() {
+                let Some(own) = rules.next() else {
+                    return Ok(());
+                };
+                self.judge_rule(rule, own, faults)?;
+            }
+        }
+        self.judge_classes(graph, faults)
+    }
+}
+
+/// Whether a step of a class's rule may not name an attribute.
+fn may_not_be_named(facts: &ClassFacts, attribute: usize) -> bool {
+    facts.naming.contains(&attribute)
+        || (!facts.has_missing && !facts.attributes.contains(&attribute))
+}
