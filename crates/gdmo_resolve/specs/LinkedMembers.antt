@@ -5,14 +5,14 @@ use Rattle.std.specs.declared.alloc.Global.{Global}
 use Rattle.std.specs.declared.vec.Vec.{Vec}
 use Rattle.token_grammar.specs.declared.qualified_name.QualifiedName.{QualifiedName}
 use Rattle.token_grammar.specs.declared.token.Token.{Token}
-use Rattle.gdmo_resolve.specs.declared.linked.LinkedAction.{LinkedAction}
-use Rattle.gdmo_resolve.specs.declared.linked.LinkedAttribute.{LinkedAttribute}
-use Rattle.gdmo_resolve.specs.declared.linked.LinkedBinding.{LinkedBinding}
-use Rattle.gdmo_resolve.specs.declared.linked.LinkedField.{LinkedField}
-use Rattle.gdmo_resolve.specs.declared.linked.LinkedGroup.{LinkedGroup}
-use Rattle.gdmo_resolve.specs.declared.linked.LinkedNotification.{LinkedNotification}
-use Rattle.gdmo_resolve.specs.declared.linked.LinkedSyntax.{LinkedSyntax}
-use Rattle.gdmo_resolve.specs.declared.linked.LinkedSyntax.TheVariants.{OfType as LinkedType, OfAttribute as LinkedBase}
+use Rattle.linked_parts.specs.declared.linked.LinkedAction.{LinkedAction}
+use Rattle.linked_parts.specs.declared.linked.LinkedAttribute.{LinkedAttribute}
+use Rattle.linked_parts.specs.declared.linked.LinkedBinding.{LinkedBinding}
+use Rattle.linked_parts.specs.declared.linked.LinkedField.{LinkedField}
+use Rattle.linked_parts.specs.declared.linked.LinkedGroup.{LinkedGroup}
+use Rattle.linked_parts.specs.declared.linked.LinkedNotification.{LinkedNotification}
+use Rattle.linked_parts.specs.declared.linked.LinkedSyntax.{LinkedSyntax}
+use Rattle.linked_parts.specs.declared.linked.LinkedSyntax.TheVariants.{OfType as LinkedType, OfAttribute as LinkedBase}
 use Rattle.gdmo_resolve.specs.LinkedNames.{IsLinkedName, IsOptionalName}
 use Rattle.gdmo_resolve.specs.LinkedTables.{Links, AreLinked}
 use Rattle.gdmo_names.specs.Mentions.Role.{SubordinateClass, SuperiorClass, NamingAttribute, BaseAttribute}

@@ -8,10 +8,10 @@ use Rattle.token_grammar.specs.TokenTests.{is_word_of}
 use Rattle.term_values.specs.Syntaxes.{TypeSyntax}
 use Rattle.asn1_names.specs.NameMeaning.{Meaning}
 use Rattle.asn1_names.specs.NameMeaning.Meaning.{TypeAt, ValueAt, StandardType}
-use Rattle.gdmo_resolve.specs.declared.linked.LinkedHead.{LinkedHead}
-use Rattle.gdmo_resolve.specs.declared.linked.LinkedName.{LinkedName}
-use Rattle.gdmo_resolve.specs.declared.linked.NamedMeaning.{NamedMeaning}
-use Rattle.gdmo_resolve.specs.declared.linked.NamedMeaning.TheVariants.{Assigned, Standard}
+use Rattle.linked_parts.specs.declared.linked.LinkedHead.{LinkedHead}
+use Rattle.linked_parts.specs.declared.linked.LinkedName.{LinkedName}
+use Rattle.linked_parts.specs.declared.linked.NamedMeaning.{NamedMeaning}
+use Rattle.linked_parts.specs.declared.linked.NamedMeaning.TheVariants.{Assigned, Standard}
 use Rattle.gdmo_names.specs.FirstNames.{IsIdentifier}
 use Rattle.gdmo_names.specs.PartTerms.{Placed, PartTerms, identifier_of, label_of, module_terms_of}
 use Rattle.gdmo_names.specs.TemplateTerms.{IdentifierTerm, StatedTerm}

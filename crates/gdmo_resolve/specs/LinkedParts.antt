@@ -2,9 +2,9 @@
 -- the rules and the instances stand as in the documents, and the first names are told (X.722, section 8;
 -- docs/PROFILE.md, section 12).
 use Rattle.std.specs.Prelude.{ℕ, List, [], ◌∷◌, map}
-use Rattle.gdmo_resolve.specs.declared.linked.Linked.{Linked}
-use Rattle.gdmo_resolve.specs.declared.linked.LinkedFirstName.{LinkedFirstName}
-use Rattle.gdmo_resolve.specs.declared.linked.LinkedHead.{LinkedHead}
+use Rattle.linked_parts.specs.declared.linked.Linked.{Linked}
+use Rattle.linked_parts.specs.declared.linked.LinkedFirstName.{LinkedFirstName}
+use Rattle.linked_parts.specs.declared.linked.LinkedHead.{LinkedHead}
 use Rattle.gdmo_resolve.specs.LinkedMembers.{IsBindingOf, IsAttributeOf, IsGroupOf, IsActionOf, IsNotificationOf}
 use Rattle.gdmo_resolve.specs.LinkedNames.{IsHead}
 use Rattle.gdmo_resolve.specs.LinkedSections.{IsRule, IsInstance}

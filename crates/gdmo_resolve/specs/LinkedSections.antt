@@ -6,12 +6,12 @@ use Rattle.token_grammar.specs.declared.token.Token.{Token}
 use Rattle.token_grammar.specs.Form.{Tree}
 use Rattle.asn1_values_syntax.specs.declared.value.ValueText.{ValueText}
 use Rattle.asn1_values_syntax.specs.ValueTrees.{value_tree}
-use Rattle.gdmo_resolve.specs.declared.linked.LinkedInstance.{LinkedInstance}
-use Rattle.gdmo_resolve.specs.declared.linked.LinkedPair.{LinkedPair}
-use Rattle.gdmo_resolve.specs.declared.linked.LinkedRule.{LinkedRule}
-use Rattle.gdmo_resolve.specs.declared.linked.LinkedStep.{LinkedStep}
-use Rattle.gdmo_resolve.specs.declared.linked.LinkedStep.TheVariants.{SetArgument, SetValue, Add, Emit, ReplyArgument}
-use Rattle.gdmo_resolve.specs.declared.linked.LinkedStep.TheVariants.{ReplyAttribute, ReplyValue}
+use Rattle.linked_parts.specs.declared.linked.LinkedInstance.{LinkedInstance}
+use Rattle.linked_parts.specs.declared.linked.LinkedPair.{LinkedPair}
+use Rattle.linked_parts.specs.declared.linked.LinkedRule.{LinkedRule}
+use Rattle.linked_parts.specs.declared.linked.LinkedStep.{LinkedStep}
+use Rattle.linked_parts.specs.declared.linked.LinkedStep.TheVariants.{SetArgument, SetValue, Add, Emit, ReplyArgument}
+use Rattle.linked_parts.specs.declared.linked.LinkedStep.TheVariants.{ReplyAttribute, ReplyValue}
 use Rattle.gdmo_resolve.specs.LinkedTables.{Links}
 use Rattle.gdmo_names.specs.Mentions.{Role}
 use Rattle.gdmo_names.specs.Mentions.Role.{RuleClass, RuleAction, StepAttribute, StepNotification, InstanceClass}

@@ -5,10 +5,10 @@ use Rattle.std.specs.List.{list_any}
 use Rattle.token_grammar.specs.declared.qualified_name.QualifiedName.{QualifiedName}
 use Rattle.token_grammar.specs.declared.token.Token.{Token}
 use Rattle.token_grammar.specs.TokenTests.{is_word_of}
-use Rattle.gdmo_resolve.specs.declared.linked.LinkedClass.{LinkedClass}
-use Rattle.gdmo_resolve.specs.declared.linked.LinkedGroupUse.{LinkedGroupUse}
-use Rattle.gdmo_resolve.specs.declared.linked.LinkedPackage.{LinkedPackage}
-use Rattle.gdmo_resolve.specs.declared.linked.LinkedUse.{LinkedUse}
+use Rattle.linked_parts.specs.declared.linked.LinkedClass.{LinkedClass}
+use Rattle.linked_parts.specs.declared.linked.LinkedGroupUse.{LinkedGroupUse}
+use Rattle.linked_parts.specs.declared.linked.LinkedPackage.{LinkedPackage}
+use Rattle.linked_parts.specs.declared.linked.LinkedUse.{LinkedUse}
 use Rattle.gdmo_names.specs.LabelMeaning.{reference_token}
 use Rattle.gdmo_resolve.specs.LinkedNames.{IsOptionalName, stated_name, has_either, first_of}
 use Rattle.gdmo_resolve.specs.LinkedTables.{Links, AreLinked}

@@ -2,7 +2,6 @@
 //! one (X.722, section 8; docs/PROFILE.md, section 12).
 #![tactic(auto)]
 
-pub mod linked;
 pub mod linking;
 pub mod linking_classes;
 pub mod linking_members;
@@ -13,5 +12,5 @@ pub mod unequal_names;
 pub mod value_copies;
 
 pub use gdmo_names::{LabelRefusal, Parsed};
-pub use linked::Linked;
+pub use linked_parts::Linked;
 pub use resolving::resolve_labels;

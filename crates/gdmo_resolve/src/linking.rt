@@ -1,7 +1,7 @@
 //! By which number each template is told: its place among the templates of its kind (docs/PROFILE.md, section 12); and
 //! what linked parts tell of names.
 
-use crate::linked::{LinkedHead, LinkedName, NamedMeaning};
+use linked_parts::linked::{LinkedHead, LinkedName, NamedMeaning};
 use asn1_names::name_tables::{Meaning, NameTables};
 use gdmo_classes::properties::PropertyValue;
 use gdmo_names::found::{Found, kind_of};

@@ -1,7 +1,7 @@
 //! Classes, packages and name bindings with the targets of their references (X.722, sections 8.3, 8.4 and 8.6;
 //! docs/PROFILE.md, section 12).
 
-use crate::linked::{
+use linked_parts::linked::{
     LinkedBinding, LinkedClass, LinkedGroupUse, LinkedHead, LinkedPackage, LinkedUse,
 };
 use crate::linking::Linker;

@@ -1,7 +1,7 @@
 //! Attributes, groups, actions and notifications with the targets of their references (X.722, sections 8.7 to 8.11;
 //! docs/PROFILE.md, section 12).
 
-use crate::linked::{
+use linked_parts::linked::{
     LinkedAction, LinkedAttribute, LinkedField, LinkedGroup, LinkedHead, LinkedNotification,
     LinkedSyntax,
 };

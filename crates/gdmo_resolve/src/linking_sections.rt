@@ -1,6 +1,6 @@
 //! Rules and instances with the targets of their references (docs/PROFILE.md, sections 9 and 12).
 
-use crate::linked::{Linked, LinkedInstance, LinkedPair, LinkedRule, LinkedStep};
+use linked_parts::linked::{Linked, LinkedInstance, LinkedPair, LinkedRule, LinkedStep};
 use crate::linking::Linker;
 use crate::value_copies::copy_value;
 use asn1_values_syntax::value::{NamedValue, ValueText};

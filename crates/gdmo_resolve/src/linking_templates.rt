@@ -1,6 +1,6 @@
 //! All templates with the targets of their references (X.722, section 8; docs/PROFILE.md, section 12).
 
-use crate::linked::Linked;
+use linked_parts::linked::Linked;
 use crate::linking::Linker;
 use crate::linking_classes::{linked_binding, linked_class, linked_package};
 use crate::linking_members::{linked_action, linked_attribute, linked_group, linked_notification};

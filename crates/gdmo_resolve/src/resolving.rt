@@ -1,7 +1,7 @@
 //! The call that replaces references by their targets, or tells the first fault (X.722, section 8; docs/PROFILE.md,
 //! section 12).
 
-use crate::linked::Linked;
+use linked_parts::linked::Linked;
 use crate::linking::{Linker, assignment_places, kind_places};
 use crate::linking_sections::link_sections;
 use crate::linking_templates::{link_templates, nothing_linked};

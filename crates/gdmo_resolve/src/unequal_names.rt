@@ -1,7 +1,7 @@
 //! First names to which modules give unequal values, and what first names stand for (X.680, section 32;
 //! docs/PROFILE.md, section 12).
 
-use crate::linked::LinkedFirstName;
+use linked_parts::linked::LinkedFirstName;
 use asn1_names::name_tables::NameTables;
 use asn1_syntax::module::Module;
 use gdmo_identifiers::first_names::{FirstNames, ValueArcs};

@@ -2,7 +2,7 @@
 
 use asn1_values_syntax::ValueText;
 use gdmo_resolve::Linked;
-use gdmo_resolve::linked::{
+use linked_parts::linked::{
     LinkedAction, LinkedAttribute, LinkedBinding, LinkedClass, LinkedGroup, LinkedHead,
     LinkedInstance, LinkedName, LinkedNotification, LinkedPackage, LinkedPair, LinkedRule,
     LinkedStep, LinkedSyntax, LinkedUse, NamedMeaning,
