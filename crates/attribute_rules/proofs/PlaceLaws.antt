@@ -29,11 +29,11 @@ behind_has : (x : Attribute) (xs : List Attribute) (id : List ℕ) → is_same_o
     → (place_of (x ∷ xs) id ≡ option_map suc (place_of xs id)) × (attribute_of (x ∷ xs) id ≡ attribute_of xs id)
 behind_has x xs id h = (rw h refl, rw h refl)
 
-first_replaced : (x : Attribute) (xs : List Attribute) (id : List ℕ) (value : TypedValue)
+pub first_replaced : (x : Attribute) (xs : List Attribute) (id : List ℕ) (value : TypedValue)
     → is_same_oid x.id id ≡ true → replaced id value (x ∷ xs) ≡ record x { value = value } ∷ xs
 first_replaced x xs id value h = rw h refl
 
-behind_replaced : (x : Attribute) (xs : List Attribute) (id : List ℕ) (value : TypedValue)
+pub behind_replaced : (x : Attribute) (xs : List Attribute) (id : List ℕ) (value : TypedValue)
     → is_same_oid x.id id ≡ false → replaced id value (x ∷ xs) ≡ x ∷ replaced id value xs
 behind_replaced x xs id value h = rw h refl
 

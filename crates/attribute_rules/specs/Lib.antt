@@ -1,3 +1,4 @@
 pub mod MandatoryAttributes
 pub mod Places
+pub mod PropertyPlaces
 pub mod Weights

@@ -9,6 +9,7 @@ pub mod labels;
 pub mod lookups;
 pub mod permitted;
 pub mod places;
+pub mod property_places;
 pub mod sizes;
 
 pub use bound_logs::is_bound_log;

@@ -2,15 +2,16 @@
 
 ghost use Rattle.std.specs.Prelude.{◌≡◌, ◌++◌, ◌||◌, None, false, option_and_then};
 ghost use Rattle.std.specs.Option.{option_copied, option_map_or};
-ghost use Rattle.term_model.specs.declared.schema.ClassRec.{ClassRec};
-ghost use Rattle.term_model.specs.ClassAttributes.{property_among, property_of, syntax_of};
+ghost use Rattle.term_model.specs.ClassAttributes.{property_of, syntax_of};
 ghost use Rattle.term_model.specs.Comparing.{is_same_oid};
 ghost use Rattle.term_model.specs.Modifiable.{is_filled, is_operator, last_attribute, lets_modify, modifiable};
 ghost use Rattle.term_model.specs.Modifiable.{naming_attribute};
+ghost use Rattle.attribute_rules.specs.PropertyPlaces.{HasPropertyPlaces};
 
 use crate::labels::is_filled;
+use crate::property_places::{PropertyPlaces, property_of};
 use term_model::request::{ADD_VALUES, REMOVE_VALUES, REPLACE, SET_TO_DEFAULT};
-use term_model::{AttrRecs, Properties, Property, Rdn, Set};
+use term_model::{AttrRecs, Property, Rdn, Set};
 use term_values::{Oid, Syntax};
 
 /// The syntax of an attribute's values.
@@ -19,28 +20,6 @@ pub fn syntax_of<'a>(records: &'a AttrRecs, id: &Oid) -> Option<&'a Syntax>
 {
     match records.find(id) {
         Some(of_attribute) => Some(&of_attribute.syntax),
-        None => None,
-    }
-}
-
-/// The properties of an attribute among these.
-fn property_among<'a>(properties: &'a Properties, id: &Oid) -> Option<&'a Property>
-    ensures { option_copied result ≡ property_among properties.now id.now }
-{
-    for property in &properties.items {
-        if property.attribute == *id {
-            return Some(property);
-        }
-    }
-    None
-}
-
-/// The properties that an attribute has in a class.
-fn property_of<'a>(schema: &'a Set, class: &Oid, id: &Oid) -> Option<&'a Property>
-    ensures { option_copied result ≡ property_of schema.now class.now id.now }
-{
-    match schema.classes.find(class) {
-        Some(of_class) => property_among(&of_class.properties, id),
         None => None,
     }
 }
@@ -98,20 +77,23 @@ fn names_object(schema: &Set, name: &[Rdn], id: &Oid) -> bool
     }
 }
 
-/// The properties by which managers may modify the attribute of an object of the class by the operator.
+/// The properties by which managers may modify the attribute of an object of the class by the operator. `places` are
+/// those of the properties of the class.
 pub fn modifiable<'a>(
     schema: &'a Set,
+    places: &PropertyPlaces,
     name: &[Rdn],
     class: &Oid,
     operator: i64,
     id: &Oid,
 ) -> Option<&'a Property>
-    ensures { option_copied result ≡ modifiable schema.now name.now class.now operator id.now }
+    ensures { HasPropertyPlaces schema.now class.now places.now
+        → option_copied result ≡ modifiable schema.now name.now class.now operator id.now }
 {
     if names_object(schema, name, id) || is_filled(&schema.attributes, id) {
         return None;
     }
-    let property = property_of(schema, class, id)?;
+    let property = property_of(schema, places, class, id)?;
     if lets_modify(operator, property) {
         Some(property)
     } else {

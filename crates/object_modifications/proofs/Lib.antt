@@ -2,4 +2,5 @@
 pub mod ListEnds
 pub mod SettlingLaws
 pub mod StartLaws
+pub mod StatusLaws
 pub mod TryingLaws

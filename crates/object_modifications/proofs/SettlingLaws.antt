@@ -13,7 +13,10 @@ use Rattle.term_model.specs.ClassAttributes.{is_labelled}
 use Rattle.term_model.specs.Modifications.{Modified, replaced, settled, without_full}
 use Rattle.object_modifications.specs.declared.settling.Modified.{Modified as Kept}
 use Rattle.object_modifications.specs.Settling.{ends_full_by, given_by, made_of}
-use Rattle.object_modifications.specs.Trying.{IsWeighed}
+use Rattle.object_modifications.specs.declared.seen_once.Seen.{Seen}
+use Rattle.object_modifications.specs.StatusPlaces.{status_places}
+use Rattle.object_modifications.specs.Trying.{IsSeen, IsWeighed}
+use Rattle.object_modifications.proofs.StatusLaws.{mapped_places}
 use Rattle.attribute_rules.proofs.PlaceLaws.{mapped_rising}
 use Rattle.attribute_rules.specs.Places.{are_rising}
 use Rattle.attribute_rules.specs.Weights.{weight, weights}
@@ -70,6 +73,20 @@ full_id records attribute = by_test (is_labelled records (codes "availabilitySta
     by_test true e = rw e refl
     by_test false e = rw e refl
 
+given_places : (records : List AttrRec) (bound : Bool) (id : List ℕ) (value : TypedValue) (attributes : List Attribute)
+    → status_places records 0 (given_by records bound id value attributes)
+    ≡ status_places records 0 (replaced id value attributes)
+given_places records bound id value attributes =
+    by_test (ends_full_by records bound id)
+  where
+    left : List Attribute
+    left = replaced id value attributes
+
+    by_test : (b : Bool)
+        → status_places records 0 (if b then map (without_full records) left else left) ≡ status_places records 0 left
+    by_test true = mapped_places records (without_full records) (full_id records) 0 left
+    by_test false = refl
+
 given_rising : (records : List AttrRec) (bound : Bool) (id : List ℕ) (value : TypedValue) (attributes : List Attribute)
     → are_rising (given_by records bound id value attributes) ≡ are_rising (replaced id value attributes)
 given_rising records bound id value attributes =
@@ -82,31 +99,43 @@ given_rising records bound id value attributes =
     by_test true = mapped_rising (without_full records) (full_id records) left
     by_test false = refl
 
-pub settled_gives : (schema : Set) (bound rising : Bool) (before after : Kept) (change : Change) (id : List ℕ)
+-- what was seen is so of the object that is left
+given_seen : (schema : Set) (seen : Seen) (id : List ℕ) (value : TypedValue) (object : Object)
+    → IsSeen schema (record object { attrs = replaced id value object.attrs }) seen
+    → IsSeen schema (record object { attrs = given_by schema.attributes seen.bound id value object.attrs }) seen
+given_seen schema seen id value object is = record {
+  class = is.class;
+  order = λ rise. given_rising schema.attributes seen.bound id value object.attrs ∙ is.order rise;
+  properties = is.properties;
+  statuses = is.statuses ∙ sym (given_places schema.attributes seen.bound id value object.attrs);
+}
+
+pub settled_gives : (schema : Set) (seen : Seen) (before after : Kept) (change : Change) (id : List ℕ)
     (value : TypedValue) (size : ℕ) (told : Result TypedValue ℤ)
-    → IsWeighed schema bound rising before.object before.size
+    → IsWeighed schema seen before.object before.size
     → (told ≡ Ok value)
-    × IsWeighed schema bound rising (record before.object { attrs = replaced id value before.object.attrs }) size
-    → ((rising ≡ true → are_rising before.object.attrs ≡ true) → made_of after ≡ record (made_of before) {
-      object = record before.object { attrs = given_by schema.attributes bound id value before.object.attrs };
+    × IsWeighed schema seen (record before.object { attrs = replaced id value before.object.attrs }) size
+    → ((seen.rising ≡ true → are_rising before.object.attrs ≡ true)
+    → seen.statuses.items ≡ status_places schema.attributes 0 before.object.attrs
+    → made_of after ≡ record (made_of before) {
+      object = record before.object { attrs = given_by schema.attributes seen.bound id value before.object.attrs };
       done = before.done ++ id ∷ [];
     })
-    → (made_of after ≡ settled schema (made_of before) change id told) × IsWeighed schema bound rising after.object size
-settled_gives schema bound rising before after change id value size told weighed (is, inner) h = (
-  h weighed.order
-      ∙ ap
-      (λ b. record (made_of before) {
-        object = record before.object { attrs = given_by schema.attributes b id value before.object.attrs };
-        done = before.done ++ id ∷ [];
-      })
-      weighed.class
-      ∙ ap (settled schema (made_of before) change id) (sym is),
-  subst (λ (x : Object). IsWeighed schema bound rising x size)
-      (sym (ap (λ (m : Modified). m.object) (h weighed.order)))
-      (record {
-        class = weighed.class;
-        order = λ seen. given_rising schema.attributes bound id value before.object.attrs ∙ inner.order seen;
-        sum = inner.sum ∙ sym (given_weights schema.attributes bound id value before.object.attrs);
-        small = inner.small;
-      }),
-)
+    → (made_of after ≡ settled schema (made_of before) change id told) × IsWeighed schema seen after.object size
+settled_gives schema seen before after change id value size told weighed (is, inner) h =
+    let made = h weighed.is_seen.order weighed.is_seen.statuses in (
+      made
+          ∙ ap
+          (λ b. record (made_of before) {
+            object = record before.object { attrs = given_by schema.attributes b id value before.object.attrs };
+            done = before.done ++ id ∷ [];
+          })
+          weighed.is_seen.class
+          ∙ ap (settled schema (made_of before) change id) (sym is),
+      subst (λ (x : Object). IsWeighed schema seen x size) (sym (ap (λ (m : Modified). m.object) made))
+          (record {
+            is_seen = given_seen schema seen id value before.object inner.is_seen;
+            sum = inner.sum ∙ sym (given_weights schema.attributes seen.bound id value before.object.attrs);
+            small = inner.small;
+          }),
+    )

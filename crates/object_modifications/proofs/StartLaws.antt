@@ -5,7 +5,6 @@ use Rattle.term_values.specs.Lengths.{counted}
 use Rattle.term_model.specs.declared.object.Object.{Object}
 use Rattle.term_model.specs.declared.schema.Set.{Set}
 use Rattle.term_model.specs.BoundClasses.{is_bound_log, object_size}
-use Rattle.attribute_rules.specs.Places.{are_rising}
 use Rattle.attribute_rules.specs.Weights.{is_within, weights}
 use Rattle.attribute_rules.proofs.WeightLaws.{counted_small, counted_within, within_by_weights}
 use Rattle.term_model.specs.declared.name.Rdn.{Rdn}
@@ -13,37 +12,32 @@ use Rattle.term_model.specs.declared.request.Change.{Change}
 use Rattle.term_model.specs.Modifications.{Modified, modified, unmodified}
 use Rattle.object_modifications.specs.declared.settling.Modified.{Modified as Kept}
 use Rattle.object_modifications.specs.Settling.{made_of}
-use Rattle.object_modifications.specs.Trying.{IsWeighed}
+use Rattle.object_modifications.specs.declared.seen_once.Seen.{Seen}
+use Rattle.object_modifications.specs.Trying.{IsSeen, IsWeighed}
 
-pub weighed : (schema : Set) (object : Object) (bound rising : Bool) (size : ℕ)
-    → bound ≡ is_bound_log schema object.class → rising ≡ are_rising object.attrs
-    → size ≡ counted (weights schema.attributes bound object.attrs) → object_size schema object ≤ 16384
-    → IsWeighed schema bound rising object size
-weighed schema object bound rising size class order sum small =
-    let octets : ℕ = weights schema.attributes bound object.attrs in
+pub weighed : (schema : Set) (object : Object) (seen : Seen) (size : ℕ) → IsSeen schema object seen
+    → size ≡ counted (weights schema.attributes seen.bound object.attrs) → object_size schema object ≤ 16384
+    → IsWeighed schema seen object size
+weighed schema object seen size is sum small =
+    let octets : ℕ = weights schema.attributes seen.bound object.attrs in
     let same : octets ≡ weights schema.attributes (is_bound_log schema object.class) object.attrs =
-    ap (λ b. weights schema.attributes b object.attrs) class in
+    ap (λ b. weights schema.attributes b object.attrs) is.class in
     let whole : is_within octets ≡ true =
     sym (within_by_weights schema object octets same) ∙ le-leb (object_size schema object) 16384 small in
     let within : is_within size ≡ true = sym (counted_within octets size sum) ∙ whole in
-    record {
-      class = class;
-      order = λ seen. sym order ∙ seen;
-      sum = counted_small octets size sum within;
-      small = within;
-    }
+    record { is_seen = is; sum = counted_small octets size sum within; small = within }
 
 -- from there the modifications are made
-pub made_all : {X : Type 0} (schema : Set) (name given : List Rdn) (object : Object) (bound rising : Bool)
+pub made_all : {X : Type 0} (schema : Set) (name given : List Rdn) (object : Object) (seen : Seen)
     (size : ℕ) (made : Kept) (changes : List Change) (after : Modified) → given ≡ name
     → (made_of made ≡ unmodified object) × (made.size ≡ size)
-    → IsWeighed schema bound rising object size
-    → (IsWeighed schema bound rising made.object made.size → (after ≡ modified schema given (made_of made) changes) × X)
+    → IsWeighed schema seen object size
+    → (IsWeighed schema seen made.object made.size → (after ≡ modified schema given (made_of made) changes) × X)
     → after ≡ modified schema name (unmodified object) changes
-made_all schema name given object bound rising size made changes after same begun start makes =
+made_all schema name given object seen size made changes after same begun start makes =
     let here : made.object ≡ object = ap (λ (m : Modified). m.object) begun.0 in
-    let small : IsWeighed schema bound rising made.object made.size =
-    subst (λ (o : Object). IsWeighed schema bound rising o made.size) (sym here)
-    (subst (λ (n : ℕ). IsWeighed schema bound rising object n) (sym begun.1) start) in
+    let small : IsWeighed schema seen made.object made.size =
+    subst (λ (o : Object). IsWeighed schema seen o made.size) (sym here)
+    (subst (λ (n : ℕ). IsWeighed schema seen object n) (sym begun.1) start) in
     (makes small).0 ∙ ap (λ (m : Modified). modified schema given m changes) begun.0
     ∙ ap (λ n. modified schema n (unmodified object) changes) same

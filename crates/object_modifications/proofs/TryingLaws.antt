@@ -1,5 +1,5 @@
 -- One modification by the size that is kept.
-use Rattle.std.proofs.Common.{◌≡◌, ℕ, pos, ◌+◌, ◌-◌, Bool, true, false, ◌&&◌, List, length, None, Some, Ok, Err}
+use Rattle.std.proofs.Common.{◌≡◌, ℕ, pos, ◌+◌, ◌-◌, true, false, ◌&&◌, List, length, None, Some, Ok, Err, sym}
 use Rattle.std.proofs.Common.{refl, ap, ◌∙◌, arith}
 use Rattle.std.specs.Prelude.{nat_le, IfOk, Result}
 use Rattle.term_values.specs.FitTest.{value_fits}
@@ -19,35 +19,47 @@ use Rattle.term_model.specs.declared.name.Rdn.{Rdn}
 use Rattle.term_model.specs.ClassAttributes.{syntax_of}
 use Rattle.term_model.specs.Modifiable.{is_operator, modifiable}
 use Rattle.object_modifications.specs.declared.modifying.Trial.TheVariants.{Gives}
-use Rattle.object_modifications.specs.Trying.{IsWeighed, TellsTried}
+use Rattle.object_modifications.specs.declared.seen_once.Seen.{Seen}
+use Rattle.object_modifications.specs.Trying.{IsSeen, IsWeighed, TellsTried}
+use Rattle.object_modifications.proofs.StatusLaws.{replaced_places}
 use Rattle.attribute_rules.proofs.PlaceLaws.{replaced_rising}
 use Rattle.attribute_rules.specs.Weights.{is_within, weight, weights}
 use Rattle.attribute_rules.proofs.WeightLaws.{counted_small, counted_within, held_weight, replaced_weights}
 use Rattle.attribute_rules.proofs.WeightLaws.{within_by_weights}
 
+-- what was seen is so of an object in which an attribute has another value
+pub still_seen : (schema : Set) (object : Object) (seen : Seen) (id : List ℕ) (value : TypedValue)
+    → IsSeen schema object seen → IsSeen schema (record object { attrs = replaced id value object.attrs }) seen
+still_seen schema object seen id value is = record {
+  class = is.class;
+  order = λ rise. replaced_rising id value object.attrs ∙ is.order rise;
+  properties = is.properties;
+  statuses = is.statuses ∙ sym (replaced_places schema.attributes 0 id value object.attrs);
+}
+
 module _ (schema : Set) (object : Object) (change : Change) (held : Attribute) (property : Property)
-    (syntax : TypeSyntax) (value : TypedValue) (bound rising : Bool) (total before now size : ℕ) (id : List ℕ)
-    (there : attribute_of object.attrs id ≡ Some held) (weighed : IsWeighed schema bound rising object total)
+    (syntax : TypeSyntax) (value : TypedValue) (seen : Seen) (total before now size : ℕ) (id : List ℕ)
+    (there : attribute_of object.attrs id ≡ Some held) (weighed : IsWeighed schema seen object total)
     (known : modified_value syntax property held.value change ≡ Some value)
     (stands : (value_fits syntax value && is_permitted property.permitted value
     && nat_le (length (der syntax value)) 8192) ≡ true)
-    (was : before ≡ weight schema.attributes bound held)
-    (now_is : now ≡ weight schema.attributes bound (record held { value = value }))
+    (was : before ≡ weight schema.attributes seen.bound held)
+    (now_is : now ≡ weight schema.attributes seen.bound (record held { value = value }))
     (sum : size ≡ counted (total - before + now)) where
   abbrev after : Object
   after = record object { attrs = replaced id value object.attrs }
 
-  whole : total - before + now ≡ weights schema.attributes bound (replaced id value object.attrs)
+  whole : total - before + now ≡ weights schema.attributes seen.bound (replaced id value object.attrs)
   whole =
-      let changed = replaced_weights schema.attributes bound id value held object.attrs there in
-      let within = held_weight schema.attributes bound id held object.attrs there in
+      let changed = replaced_weights schema.attributes seen.bound id value held object.attrs there in
+      let within = held_weight schema.attributes seen.bound id held object.attrs there in
       let all = weighed.sum in
       omega arith
 
   size_told : nat_le (object_size schema after) 16384 ≡ is_within size
   size_told =
       within_by_weights schema after (total - before + now)
-      (whole ∙ ap (λ b. weights schema.attributes b (replaced id value object.attrs)) weighed.class)
+      (whole ∙ ap (λ b. weights schema.attributes b (replaced id value object.attrs)) weighed.is_seen.class)
       ∙ counted_within (total - before + now) size sum
 
   may : may_have schema object syntax property id value ≡ is_within size
@@ -58,13 +70,12 @@ module _ (schema : Set) (object : Object) (change : Change) (held : Attribute) (
   too_long h = rw (known, may ∙ h) refl
 
   pub is_given : is_within size ≡ true
-      → TellsTried schema bound rising object id (tried_value schema object change id held property syntax)
+      → TellsTried schema seen object id (tried_value schema object change id held property syntax)
       (Gives value size)
   is_given h = (
     rw (known, may ∙ h) refl,
     record {
-      class = weighed.class;
-      order = λ seen. replaced_rising id value object.attrs ∙ weighed.order seen;
+      is_seen = still_seen schema object seen id value weighed.is_seen;
       sum = counted_small (total - before + now) size sum h ∙ whole;
       small = h;
     },

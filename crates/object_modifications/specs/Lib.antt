@@ -1,2 +1,3 @@
-pub mod Trying
 pub mod Settling
+pub mod StatusPlaces
+pub mod Trying

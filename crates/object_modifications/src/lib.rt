@@ -3,9 +3,11 @@
 
 pub(crate) mod held_values;
 pub(crate) mod id_sets;
+pub(crate) mod log_status;
 pub(crate) mod modified_values;
 pub(crate) mod modifying;
 pub mod object_set;
+pub(crate) mod seen_once;
 pub(crate) mod settling;
 
 pub use object_set::set_one;

@@ -1,6 +1,6 @@
 //! One modification of an attribute: X.711, section 7.4, m-Set, and section 7.5, type ModifyOperator.
 
-ghost use Rattle.std.specs.Prelude.{◌≡◌, ℕ, Bool, List, Some, IfOk};
+ghost use Rattle.std.specs.Prelude.{◌≡◌, ℕ, List, Some, IfOk};
 ghost use Rattle.term_model.specs.declared.object.Attribute.{Attribute};
 ghost use Rattle.term_model.specs.declared.object.Object.{Object};
 ghost use Rattle.term_model.specs.declared.schema.Set.{Set};
@@ -9,6 +9,7 @@ ghost use Rattle.term_model.specs.Modifications.{attribute_of, replaced, tried, 
 ghost use Rattle.object_modifications.specs.Trying.{IsWeighed, TellsTried};
 
 use crate::modified_values::{may_stand, modified_value};
+use crate::seen_once::Seen;
 use attribute_rules::lookups::{is_operator, modifiable, syntax_of};
 use attribute_rules::places::attribute_of;
 use attribute_rules::sizes::{is_within, weight};
@@ -42,16 +43,16 @@ pub(crate) enum Trial {
 fn tried_value(
     alloc: Global,
     records: &AttrRecs,
-    bound: bool,
+    seen: &Seen,
     total: u64,
     held: &Attribute,
     property: &Property,
     syntax: &Syntax,
     change: &Change,
 ) -> Result<Trial, AllocError>
-    ensures { IfOk result (λ came. (schema : Set) → (object : Object) → (rising : Bool) → (id : List ℕ)
+    ensures { IfOk result (λ came. (schema : Set) → (object : Object) → (id : List ℕ)
         → schema.attributes ≡ records.now → attribute_of object.attrs id ≡ Some held.now
-        → IsWeighed schema bound rising object total → TellsTried schema bound rising object id
+        → IsWeighed schema seen.now object total → TellsTried schema seen.now object id
         (tried_value schema object change.now id held.now property.now syntax.now) came) }
 {
     let value = match modified_value(alloc, syntax, property, &held.value, change)? {
@@ -63,8 +64,8 @@ fn tried_value(
     }
     let id = held.id.copy(alloc)?;
     let changed = Attribute { id, value };
-    let before = weight(alloc, records, bound, held)?;
-    let now = weight(alloc, records, bound, &changed)?;
+    let before = weight(alloc, records, seen.bound, held)?;
+    let now = weight(alloc, records, seen.bound, &changed)?;
     let size = plus(total.saturating_sub(before), now);
     if !is_within(size) {
         return Ok(Trial::Fails(INVALID_ATTRIBUTE_VALUE));
@@ -77,31 +78,31 @@ pub(crate) fn tried(
     alloc: Global,
     schema: &Set,
     name: &[Rdn],
-    bound: bool,
-    rising: bool,
+    seen: &Seen,
     total: u64,
     object: &Object,
     change: &Change,
     id: &Oid,
 ) -> Result<Trial, AllocError>
-    ensures { IfOk result (λ came. IsWeighed schema.now bound rising object.now total
-        → TellsTried schema.now bound rising object.now id.now
+    ensures { IfOk result (λ came. IsWeighed schema.now seen.now object.now total
+        → TellsTried schema.now seen.now object.now id.now
         (tried schema.now name.now object.now change.now id.now) came) }
 {
-    let held = match attribute_of(object.attrs.items.as_slice(), rising, id) {
+    let held = match attribute_of(object.attrs.items.as_slice(), seen.rising, id) {
         Some(held) => held,
         None => return Ok(Trial::Fails(NO_SUCH_ATTRIBUTE)),
     };
     if !is_operator(change.operator) {
         return Ok(Trial::Fails(INVALID_OPERATOR));
     }
-    let property = match modifiable(schema, name, &object.class, change.operator, id) {
+    let places = &seen.properties;
+    let property = match modifiable(schema, places, name, &object.class, change.operator, id) {
         Some(property) => property,
         None => return Ok(Trial::Fails(INVALID_OPERATION)),
     };
     let records = &schema.attributes;
     match syntax_of(records, id) {
-        Some(syntax) => tried_value(alloc, records, bound, total, held, property, syntax, change),
+        Some(syntax) => tried_value(alloc, records, seen, total, held, property, syntax, change),
         None => Ok(Trial::Fails(INVALID_ATTRIBUTE_VALUE)),
     }
 }

@@ -17,9 +17,8 @@ ghost use Rattle.object_modifications.specs.Settling.{made_of, modified_among};
 
 use crate::held_values::{told, value_octets};
 use crate::id_sets::id_set;
+use crate::seen_once::seen_of;
 use crate::settling::{Modified, modify_all, unmodified};
-use attribute_rules::is_bound_log;
-use attribute_rules::places::are_rising;
 use attribute_rules::sizes::weights;
 use result_contents::errors::set_list_error;
 use result_contents::results::attributes_contents;
@@ -297,16 +296,14 @@ fn make_all(
     ensures { IfOk result (λ made. made_of made ≡ modified schema.now name.now (unmodified object.now) changes.now) }
 {
     let records = &schema.attributes;
-    let bound = is_bound_log(alloc, schema, &object.class)?;
-    let rising = are_rising(object.attrs.items.as_slice());
-    let size = weights(alloc, records, bound, object.attrs.items.as_slice())?;
+    let seen = seen_of(alloc, schema, object)?;
+    let size = weights(alloc, records, seen.bound, object.attrs.items.as_slice())?;
     let mut made = unmodified(alloc, object, size)?;
     modify_all(
         alloc,
         schema,
         name.parts.as_slice(),
-        bound,
-        rising,
+        &seen,
         changes,
         &mut made,
     )?;

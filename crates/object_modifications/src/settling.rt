@@ -1,25 +1,20 @@
 //! What modifications make of an object: X.711, section 7.4, m-Set. Each is made on what those before it left.
 
-ghost use Rattle.std.specs.Prelude.{◌≡◌, ◌∷◌, ◌++◌, [], pos, ℤ, true, Result, IfOk, OnOk, map};
+ghost use Rattle.std.specs.Prelude.{◌≡◌, ◌∷◌, ◌++◌, [], ℤ, true, Result, IfOk, OnOk};
 ghost use Rattle.attribute_rules.specs.Places.{are_rising};
 ghost use Rattle.term_model.specs.Modifications.{failed, modified, modified_by, replaced, settled, unmodified};
-ghost use Rattle.term_model.specs.Modifications.{without_full};
-ghost use Rattle.term_values.specs.Typed.TypedValue.{Int, Many};
-ghost use Rattle.term_values.specs.Typed.{TypedValue, listed};
+ghost use Rattle.term_values.specs.Typed.{TypedValue};
 ghost use Rattle.object_modifications.specs.Trying.{IsWeighed, TellsTried};
-ghost use Rattle.object_modifications.specs.Settling.{ends_full_by, given_by, made_of};
+ghost use Rattle.object_modifications.specs.Settling.{given_by, made_of};
+ghost use Rattle.object_modifications.specs.StatusPlaces.{status_places};
 
+use crate::log_status::{ends_full, take_full};
 use crate::modifying::{NO_SUCH_ATTRIBUTE, Trial, tried};
-use attribute_rules::labels::is_labelled;
-use attribute_rules::lookups::syntax_of;
+use crate::seen_once::Seen;
 use attribute_rules::places::place_of;
-use set_values::without_members;
 use std::alloc::{AllocError, Global};
 use term_model::{AttrRecs, Attribute, Change, IdRef, Object, Oids, Rdn, Set, SetInfoStatus};
-use term_values::{Oid, Value, ValueForm, Values};
-
-/// logFull, one of the numbers of availabilityStatus: X.721.
-const LOG_FULL: i64 = 8;
+use term_values::{Oid, Value};
 
 /// An object on its way through modifications.
 #[derive(Drop)]
@@ -86,63 +81,6 @@ fn replace_value(attributes: &mut Vec<Attribute>, rising: bool, id: &Oid, value:
     }
 }
 
-/// The value { logFull }.
-fn full_value(alloc: Global) -> Result<Value, AllocError>
-    ensures { IfOk result (λ value. value ≡ Many (listed (Int (pos 8) ∷ []))) }
-{
-    let mut items = Vec::new(alloc);
-    items.push(Value {
-        form: ValueForm::Int(LOG_FULL),
-    })?;
-    Ok(Value {
-        form: ValueForm::Many(Values { items }),
-    })
-}
-
-/// The attribute without logFull, where it is availabilityStatus.
-fn without_full(
-    alloc: Global,
-    records: &AttrRecs,
-    attribute: &Attribute,
-) -> Result<Attribute, AllocError>
-    ensures { IfOk result (λ left. left ≡ without_full records.now attribute.now) }
-{
-    if !is_labelled(records, b"availabilityStatus", &attribute.id) {
-        return attribute.copy(alloc);
-    }
-    match syntax_of(records, &attribute.id) {
-        Some(syntax) => {
-            let full = full_value(alloc)?;
-            let value = without_members(alloc, syntax, &attribute.value, &full)?;
-            let id = attribute.id.copy(alloc)?;
-            Ok(Attribute { id, value })
-        }
-        None => attribute.copy(alloc),
-    }
-}
-
-/// The attributes, availabilityStatus without logFull.
-fn all_without_full(
-    alloc: Global,
-    records: &AttrRecs,
-    attributes: &[Attribute],
-) -> Result<Vec<Attribute>, AllocError>
-    ensures { IfOk result (λ left. left.items ≡ map (without_full records.now) attributes.now) }
-{
-    let mut left = Vec::new(alloc);
-    for attribute in attributes {
-        left.push(without_full(alloc, records, attribute)?)?;
-    }
-    Ok(left)
-}
-
-/// Setting the attribute of a bound log takes logFull away.
-fn ends_full(records: &AttrRecs, bound: bool, id: &Oid) -> bool
-    ensures { result ≡ ends_full_by records.now bound id.now }
-{
-    (is_labelled(records, b"maxLogSize", id) || is_labelled(records, b"logFullAction", id)) && bound
-}
-
 /// A copy of an identifier.
 fn copy_id(alloc: Global, id: &IdRef) -> Result<IdRef, AllocError>
     ensures { IfOk result (λ copy. copy ≡ id.now) }
@@ -167,30 +105,55 @@ fn fail(alloc: Global, change: &Change, status: i64, made: &mut Modified) -> Res
     Ok(())
 }
 
+/// Gives the attribute with the identifier another value, and takes logFull away where that ends it.
+fn give_value(
+    alloc: Global,
+    records: &AttrRecs,
+    seen: &Seen,
+    id: &Oid,
+    value: Value,
+    attributes: &mut Vec<Attribute>,
+) -> Result<(), AllocError>
+    ensures { OnOk result ((seen.now.rising ≡ true → are_rising attributes.old.items ≡ true)
+        → seen.now.statuses.items ≡ status_places records.now 0 attributes.old.items
+        → attributes.new.items ≡ given_by records.now seen.now.bound id.now value attributes.old.items) }
+{
+    replace_value(attributes, seen.rising, id, value);
+    if ends_full(records, seen.bound, id) {
+        take_full(alloc, records, seen.statuses.as_slice(), attributes)?;
+    }
+    Ok(())
+}
+
 /// Gives an attribute the value of a modification.
 fn give(
     alloc: Global,
     records: &AttrRecs,
-    bound: bool,
-    rising: bool,
+    seen: &Seen,
     id: &Oid,
     value: Value,
     made: &mut Modified,
 ) -> Result<(), AllocError>
-    ensures given { OnOk result ((rising ≡ true → are_rising made.old.object.attrs ≡ true)
+    ensures given { OnOk result ((seen.now.rising ≡ true → are_rising made.old.object.attrs ≡ true)
+        → seen.now.statuses.items ≡ status_places records.now 0 made.old.object.attrs
         → made_of made.new ≡ record (made_of made.old) {
-          object = record made.old.object { attrs = given_by records.now bound id.now value made.old.object.attrs };
+          object = record made.old.object {
+            attrs = given_by records.now seen.now.bound id.now value made.old.object.attrs;
+          };
           done = made.old.done ++ id.now ∷ [];
         }) }
     ensures kept { made.new.size ≡ made.old.size }
 {
+    give_value(
+        alloc,
+        records,
+        seen,
+        id,
+        value,
+        &mut made.object.attrs.items,
+    )?;
     let named = id.copy(alloc)?;
     made.done.items.push(named)?;
-    replace_value(&mut made.object.attrs.items, rising, id, value);
-    if ends_full(records, bound, id) {
-        let left = all_without_full(alloc, records, made.object.attrs.items.as_slice())?;
-        made.object.attrs.items = left;
-    }
     Ok(())
 }
 
@@ -198,22 +161,21 @@ fn give(
 fn settle(
     alloc: Global,
     schema: &Set,
-    bound: bool,
-    rising: bool,
+    seen: &Seen,
     change: &Change,
     id: &Oid,
     came: Trial,
     made: &mut Modified,
 ) -> Result<(), AllocError>
     ensures { OnOk result ((told : Result TypedValue ℤ)
-        → IsWeighed schema.now bound rising made.old.object made.old.size
-        → TellsTried schema.now bound rising made.old.object id.now told came
+        → IsWeighed schema.now seen.now made.old.object made.old.size
+        → TellsTried schema.now seen.now made.old.object id.now told came
         → (made_of made.new ≡ settled schema.now (made_of made.old) change.now id.now told)
-        × IsWeighed schema.now bound rising made.new.object made.new.size) }
+        × IsWeighed schema.now seen.now made.new.object made.new.size) }
 {
     match came {
         Trial::Gives(value, size) => {
-            give(alloc, &schema.attributes, bound, rising, id, value, made)?;
+            give(alloc, &schema.attributes, seen, id, value, made)?;
             made.size = size;
             Ok(())
         }
@@ -226,14 +188,13 @@ fn modify(
     alloc: Global,
     schema: &Set,
     name: &[Rdn],
-    bound: bool,
-    rising: bool,
+    seen: &Seen,
     change: &Change,
     made: &mut Modified,
 ) -> Result<(), AllocError>
-    ensures { OnOk result (IsWeighed schema.now bound rising made.old.object made.old.size
+    ensures { OnOk result (IsWeighed schema.now seen.now made.old.object made.old.size
         → (made_of made.new ≡ modified_by schema.now name.now (made_of made.old) change.now change.now.id)
-        × IsWeighed schema.now bound rising made.new.object made.new.size) }
+        × IsWeighed schema.now seen.now made.new.object made.new.size) }
 {
     match &change.id {
         IdRef::Global(id) => {
@@ -241,14 +202,13 @@ fn modify(
                 alloc,
                 schema,
                 name,
-                bound,
-                rising,
+                seen,
                 made.size,
                 &made.object,
                 change,
                 id,
             )?;
-            settle(alloc, schema, bound, rising, change, id, came, made)
+            settle(alloc, schema, seen, change, id, came, made)
         }
         IdRef::Local(_) => fail(alloc, change, NO_SUCH_ATTRIBUTE, made),
     }
@@ -259,17 +219,16 @@ pub(crate) fn modify_all(
     alloc: Global,
     schema: &Set,
     name: &[Rdn],
-    bound: bool,
-    rising: bool,
+    seen: &Seen,
     changes: &[Change],
     made: &mut Modified,
 ) -> Result<(), AllocError>
-    ensures { OnOk result (IsWeighed schema.now bound rising made.old.object made.old.size
+    ensures { OnOk result (IsWeighed schema.now seen.now made.old.object made.old.size
         → (made_of made.new ≡ modified schema.now name.now (made_of made.old) changes.now)
-        × IsWeighed schema.now bound rising made.new.object made.new.size) }
+        × IsWeighed schema.now seen.now made.new.object made.new.size) }
 {
     for change in changes {
-        modify(alloc, schema, name, bound, rising, change, made)?;
+        modify(alloc, schema, name, seen, change, made)?;
     }
     Ok(())
 }

@@ -5,6 +5,8 @@ use Rattle.term_model.specs.Modifiable.{is_operator, modifiable}
 use Rattle.term_model.specs.Modifications.{attribute_of}
 use Rattle.object_modifications.specs.Trying.{TellsTried}
 use Rattle.attribute_rules.specs.Places.{are_rising}
+use Rattle.attribute_rules.specs.PropertyPlaces.{HasPropertyPlaces}
+use Rattle.term_model.specs.declared.object.Object.{Object}
 use Rattle.object_modifications.proofs.TryingLaws.{if_ok_then, tried_absent, tried_is}
 use Rattle.object_modifications.proofs.modifying.tried.Goals as goal
 
@@ -20,16 +22,22 @@ returns-in-Some-syntax_of c =
     let syntax = c.in-Some-syntax_of.syntax.now in
     let slice : c.as_slice.result.now ≡ object.attrs = search rules in
     let o : is_operator change.operator ≡ true = search rules in
-    let m : modifiable schema name object.class change.operator id ≡ Some property = search rules in
     let s : syntax_of schema.attributes id ≡ Some syntax = sym c.in-Some-syntax_of.ensures in
     if_ok_then c.tried_value.result
     (λ came told weighed.
+    let m : modifiable schema name object.class change.operator id ≡ Some property =
+    search (
+      rules,
+      c.in-Some-modifiable.ensures
+          (subst (λ (o : Object). HasPropertyPlaces schema o.class c.args.seen.now.properties) (sym c.object.view_is)
+          weighed.is_seen.properties),
+    ) in
     let a : attribute_of object.attrs id ≡ Some held =
     ap (λ xs. attribute_of xs id) (sym slice)
-    ∙ sym (c.in-Some.ensures (λ seen. ap are_rising slice ∙ weighed.order seen)) in
-    subst (λ r. TellsTried schema c.args.bound c.args.rising object id r came)
+    ∙ sym (c.in-Some.ensures (λ seen. ap are_rising slice ∙ weighed.is_seen.order seen)) in
+    subst (λ r. TellsTried schema c.args.seen.now object id r came)
     (sym (tried_is schema name object change id held property syntax a o m s))
-    (told schema object c.args.rising id (λ i. schema.attributes) a weighed))
+    (told schema object id (λ i. schema.attributes) a weighed))
     c.tried_value.ensures
 
 pub returns-in-None : goal.returns-in-None
@@ -39,4 +47,4 @@ returns-in-None c = λ weighed.
     let slice : c.as_slice.result.now ≡ object.attrs = search rules in
     tried_absent c.args.schema.now c.args.name.now object c.args.change.now id
     (ap (λ xs. attribute_of xs id) (sym slice)
-    ∙ sym (c.in-None.ensures (λ seen. ap are_rising slice ∙ weighed.order seen)))
+    ∙ sym (c.in-None.ensures (λ seen. ap are_rising slice ∙ weighed.is_seen.order seen)))

@@ -1,22 +1,18 @@
--- The object is weighed, and then each modification is made.
+-- The object is seen and weighed, and then each modification is made.
 use Rattle.std.proofs.Common.{rules, ◌≡◌}
 use Rattle.term_values.specs.Lengths.{counted}
-use Rattle.term_model.specs.BoundClasses.{is_bound_log}
-use Rattle.attribute_rules.specs.Places.{are_rising}
 use Rattle.attribute_rules.specs.Weights.{weights}
 use Rattle.object_modifications.proofs.StartLaws.{made_all, weighed}
 use Rattle.object_modifications.proofs.object_set.make_all.Goals as goal
 
 pub returns : goal.returns
 returns c =
-    let class : c.in_ok-bound.bound ≡ is_bound_log c.args.schema.now c.args.object.now.class = search rules in
     let sum : c.in_ok-size.size
-    ≡ counted (weights c.args.schema.now.attributes c.in_ok-bound.bound c.args.object.now.attrs) =
+    ≡ counted (weights c.args.schema.now.attributes c.in_ok-seen.seen.bound c.args.object.now.attrs) =
     search rules in
-    let order : c.are_rising-rising.result ≡ are_rising c.args.object.now.attrs = search rules in
-    let named : c.as_slice-3.result.now ≡ c.args.name.now = search rules in
-    made_all c.args.schema.now c.args.name.now c.as_slice-3.result.now c.args.object.now c.in_ok-bound.bound
-    c.are_rising-rising.result c.in_ok-size.size c.in_ok-made.made c.args.changes.now _ named c.in_ok-made.ensures
-    (weighed c.args.schema.now c.args.object.now c.in_ok-bound.bound c.are_rising-rising.result c.in_ok-size.size class
-    order sum c.requires.small)
+    let named : c.as_slice-2.result.now ≡ c.args.name.now = search rules in
+    made_all c.args.schema.now c.args.name.now c.as_slice-2.result.now c.args.object.now c.in_ok-seen.seen
+    c.in_ok-size.size c.in_ok-made.made c.args.changes.now _ named c.in_ok-made.ensures
+    (weighed c.args.schema.now c.args.object.now c.in_ok-seen.seen c.in_ok-size.size c.in_ok-seen.ensures sum
+    c.requires.small)
     c.in_ok-modify_all.ensures

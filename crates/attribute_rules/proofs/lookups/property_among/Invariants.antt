@@ -1,8 +1,0 @@
--- The rest has the same first one.
-use Rattle.std.proofs.Common.{◌≡◌, drop}
-use Rattle.term_model.specs.ClassAttributes.{property_among}
-use Rattle.attribute_rules.proofs.lookups.property_among.Given as goal
-
-abbrev pub invariant-loop-property : goal.invariant-loop-property
-invariant-loop-property l =
-    property_among (drop l.property-index l.property-items) l.id ≡ property_among l.property-items l.id
