@@ -1,11 +1,14 @@
 -- The sets of groups and of their members that a Get goes by: X.722, sections 8.4 and 8.8.
-use Rattle.std.specs.Prelude.{◌≡◌, ◌||◌, ◌&&◌, ℕ, List, Bool}
+use Rattle.std.specs.Prelude.{◌≡◌, ◌||◌, ◌&&◌, ◌++◌, ℕ, List, [], Bool, false, filter}
 use Rattle.std.specs.List.{list_any}
+use Rattle.std.specs.Option.{option_map_or}
 use Rattle.std.specs.BTreeSet.{BTreeSet}
 use Rattle.term_model.specs.declared.packages.GroupUse.{GroupUse}
-use Rattle.term_model.specs.declared.request.IdRef.{IdRef}
+use Rattle.term_model.specs.declared.packages.PackageRec.{PackageRec}
+use Rattle.term_model.specs.declared.schema.ClassRec.{ClassRec}
 use Rattle.term_model.specs.declared.schema.GroupRec.{GroupRec}
-use Rattle.term_model.specs.ObjectGet.{is_used, lists_by_use}
+use Rattle.term_model.specs.ObjectGet.{is_used}
+use Rattle.term_model.specs.ObjectOperation.{class_record}
 use Rattle.term_model.specs.PresentPackages.{is_among}
 use Rattle.op_object.specs.IdSets.{has_id}
 
@@ -26,3 +29,14 @@ has_template_member asked used groups attribute =
     list_any
     (λ (of_group : GroupRec).
     has_id asked of_group.id && has_id used of_group.id && is_among of_group.members attribute) groups
+
+-- the package is registered, and its identifier in the set of those that a creation chose
+abbrev pub has_package : BTreeSet (List ℕ) → PackageRec → Bool
+has_package chosen of_package = option_map_or (has_id chosen) of_package.id false
+
+-- the packages that an object has by what a class itself states
+abbrev pub packages_stated : BTreeSet (List ℕ) → ClassRec → List PackageRec
+packages_stated chosen of_class = of_class.mandatory ++ filter (has_package chosen) of_class.conditional
+
+abbrev pub packages_stated_by : List ClassRec → BTreeSet (List ℕ) → List ℕ → List PackageRec
+packages_stated_by records chosen class = option_map_or (packages_stated chosen) (class_record records class) []

@@ -4,12 +4,13 @@
 ghost use Rattle.std.specs.Prelude.{◌≡◌, ◌&&◌, ◌||◌, ◌∷◌, [], ℕ, List, IfOk, OnOk, filter, flat_map};
 ghost use Rattle.term_model.specs.declared.packages.PackageRec.{PackageRec};
 ghost use Rattle.term_model.specs.ObjectGet.{is_used, uses_of};
-ghost use Rattle.term_model.specs.PresentPackages.{is_among, is_chosen, packages_by, packages_in};
-ghost use Rattle.op_object.specs.GroupSets.{AddsUses, adds_member, has_template_member};
+ghost use Rattle.term_model.specs.PresentPackages.{is_among, packages_by};
+ghost use Rattle.op_object.specs.GroupSets.{AddsUses, adds_member, has_package, has_template_member};
+ghost use Rattle.op_object.specs.GroupSets.{packages_stated, packages_stated_by};
 ghost use Rattle.op_object.specs.IdSets.{Adds, has_id};
 
-use crate::id_sets::{add_id, add_ids};
-use class_packages::{classes_above, is_chosen};
+use crate::id_sets::{add_id, add_ids, id_set};
+use class_packages::classes_above;
 use std::alloc::{AllocError, Global};
 use std::collections::BTreeSet;
 use term_model::{ClassRec, ClassRecs, GroupRec, GroupUse, Object, Oids, PackageRec, Set};
@@ -74,17 +75,27 @@ fn add_packages(
     Ok(())
 }
 
+/// The package is registered, and its identifier among these.
+fn is_chosen(chosen: &BTreeSet<Oid>, of_package: &PackageRec) -> bool
+    ensures { result ≡ has_package chosen.now of_package.now }
+{
+    match &of_package.id {
+        Some(id) => chosen.contains(id),
+        None => false,
+    }
+}
+
 /// Adds the uses of the conditional packages that the creation chose.
 fn add_chosen(
     alloc: Global,
     asked: &BTreeSet<Oid>,
-    chosen: &Oids,
+    chosen: &BTreeSet<Oid>,
     packages: &[PackageRec],
     into: &mut GroupSets,
 ) -> Result<(), AllocError>
     ensures { OnOk result
         (AddsUses asked.now (flat_map (λ (of_package : PackageRec). of_package.groups)
-        (filter (is_chosen chosen.now) packages.now))
+        (filter (has_package chosen.now) packages.now))
         into.old.used into.new.used into.old.members into.new.members) }
 {
     for of_package in packages {
@@ -99,13 +110,13 @@ fn add_chosen(
 fn add_class(
     alloc: Global,
     asked: &BTreeSet<Oid>,
-    chosen: &Oids,
+    chosen: &BTreeSet<Oid>,
     of_class: &ClassRec,
     into: &mut GroupSets,
 ) -> Result<(), AllocError>
     ensures { OnOk result
         (AddsUses asked.now (flat_map (λ (of_package : PackageRec). of_package.groups)
-        (packages_in chosen.now of_class.now))
+        (packages_stated chosen.now of_class.now))
         into.old.used into.new.used into.old.members into.new.members) }
 {
     add_packages(alloc, asked, of_class.mandatory.items.as_slice(), into)?;
@@ -122,14 +133,14 @@ fn add_class(
 fn add_class_by(
     alloc: Global,
     asked: &BTreeSet<Oid>,
-    chosen: &Oids,
+    chosen: &BTreeSet<Oid>,
     records: &ClassRecs,
     class: &Oid,
     into: &mut GroupSets,
 ) -> Result<(), AllocError>
     ensures { OnOk result
         (AddsUses asked.now (flat_map (λ (of_package : PackageRec). of_package.groups)
-        (packages_by records.now chosen.now class.now))
+        (packages_stated_by records.now chosen.now class.now))
         into.old.used into.new.used into.old.members into.new.members) }
 {
     match records.find(class) {
@@ -142,6 +153,26 @@ fn add_class_by(
 fn add_classes(
     alloc: Global,
     asked: &BTreeSet<Oid>,
+    chosen: &BTreeSet<Oid>,
+    records: &ClassRecs,
+    classes: &[Oid],
+    into: &mut GroupSets,
+) -> Result<(), AllocError>
+    ensures { OnOk result
+        (AddsUses asked.now (flat_map (λ (of_package : PackageRec). of_package.groups)
+        (flat_map (packages_stated_by records.now chosen.now) classes.now))
+        into.old.used into.new.used into.old.members into.new.members) }
+{
+    for class in classes {
+        add_class_by(alloc, asked, chosen, records, class, into)?;
+    }
+    Ok(())
+}
+
+/// The same where the packages that the creation chose are a list.
+fn add_by_list(
+    alloc: Global,
+    asked: &BTreeSet<Oid>,
     chosen: &Oids,
     records: &ClassRecs,
     classes: &[Oid],
@@ -152,10 +183,8 @@ fn add_classes(
         (flat_map (packages_by records.now chosen.now) classes.now))
         into.old.used into.new.used into.old.members into.new.members) }
 {
-    for class in classes {
-        add_class_by(alloc, asked, chosen, records, class, into)?;
-    }
-    Ok(())
+    let ids = id_set(alloc, chosen.items.as_slice())?;
+    add_classes(alloc, asked, &ids, records, classes, into)
 }
 
 /// Adds the members of a group by its template, where it is asked for and used.
@@ -211,7 +240,7 @@ pub(crate) fn group_sets(
         used: BTreeSet::new(alloc),
         members: BTreeSet::new(alloc),
     };
-    add_classes(
+    add_by_list(
         alloc,
         asked,
         &object.chosen,

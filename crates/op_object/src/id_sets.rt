@@ -1,6 +1,6 @@
 //! Sets of identifiers: X.711, types AttributeId and Attribute; X.722, REGISTERED AS.
 
-ghost use Rattle.std.specs.Prelude.{◌≡◌, IfOk, OnOk, false};
+ghost use Rattle.std.specs.Prelude.{◌≡◌, ℕ, List, IfOk, OnOk, false};
 ghost use Rattle.std.specs.BTreeSet.{contains};
 ghost use Rattle.term_model.specs.Comparing.{is_same_oid};
 ghost use Rattle.term_model.specs.PresentPackages.{is_among};
@@ -31,4 +31,13 @@ pub(crate) fn add_ids(
         add_id(alloc, id, ids)?;
     }
     Ok(())
+}
+
+/// The identifiers of a list.
+pub(crate) fn id_set(alloc: Global, listed: &[Oid]) -> Result<BTreeSet<Oid>, AllocError>
+    ensures { IfOk result (λ ids. (q : List ℕ) → has_id ids q ≡ is_among listed.now q) }
+{
+    let mut ids = BTreeSet::new(alloc);
+    add_ids(alloc, listed, &mut ids)?;
+    Ok(ids)
 }

@@ -1,6 +1,6 @@
 //! What a Get does to one object: X.711, section 7.4.
 
-ghost use Rattle.std.specs.Prelude.{◌≡◌, ◌++◌, ◌||◌, [], None, Some, ℕ, List, IfOk, OnOk, map, min};
+ghost use Rattle.std.specs.Prelude.{◌≡◌, ◌++◌, ◌&&◌, ◌||◌, [], None, Some, ℕ, List, IfOk, OnOk, map, min};
 ghost use Rattle.term_model.specs.declared.request.IdRef.{IdRef};
 ghost use Rattle.term_model.specs.declared.results.GetInfoStatus.TheVariants as get_info;
 ghost use Rattle.term_model.specs.CmisErrors.{get_list_error};
@@ -8,7 +8,7 @@ ghost use Rattle.term_model.specs.Effects.{TellsEffect};
 ghost use Rattle.term_model.specs.ObjectGet.{get_effect, got, got_with, is_same_id, told};
 ghost use Rattle.term_values.specs.Moment.{moment_text};
 ghost use Rattle.term_model.specs.ObjectOperation.{is_readable, readable};
-ghost use Rattle.op_object.specs.IdSets.{has_ref};
+ghost use Rattle.op_object.specs.IdSets.{has_id, has_ref};
 ghost use Rattle.op_object.specs.GetSteps.{absent_errors, absent_of, denied_errors, is_there, values_given};
 
 use crate::asked_ids::{SeenIds, asked_sets, attribute_ids, note_id};
@@ -123,6 +123,13 @@ fn add_denied(
     Ok(())
 }
 
+/// The attribute is wanted, and managers may read it.
+fn is_given(wanted: &BTreeSet<Oid>, readable: &BTreeSet<Oid>, attribute: &Attribute) -> bool
+    ensures { result ≡ (has_id wanted.now attribute.now.id && has_id readable.now attribute.now.id) }
+{
+    wanted.contains(&attribute.id) && readable.contains(&attribute.id)
+}
+
 /// The attributes that are wanted and may be read, with their values.
 fn values_given(
     alloc: Global,
@@ -136,7 +143,7 @@ fn values_given(
 {
     let mut given = Vec::new(alloc);
     for attribute in attributes {
-        if wanted.contains(&attribute.id) && readable.contains(&attribute.id) {
+        if is_given(wanted, readable, attribute) {
             given.push(told(alloc, records, attribute)?)?;
         }
     }

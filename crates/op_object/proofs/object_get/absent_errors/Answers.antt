@@ -1,9 +1,7 @@
 -- One more identifier.
-use Rattle.std.proofs.Common.{rules, ◌≡◌, ◌||◌, ◌<◌, ◌+◌, ◌∷◌, List, drop, length, sym, ap, ◌∙◌, arith}
+use Rattle.std.proofs.Common.{rules, ◌≡◌, ◌||◌, ◌+◌, ◌∷◌, drop, ap, ◌∙◌, arith}
 use Rattle.std.proofs.lemmas.List.{drop_more}
-use Rattle.term_model.specs.declared.request.IdRef.{IdRef}
 use Rattle.term_model.specs.ObjectGet.{is_same_id}
-use Rattle.op_object.specs.GetSteps.{absent_errors}
 use Rattle.op_object.specs.IdSets.{has_ref}
 use Rattle.op_object.proofs.GetLaws.{absent_more}
 use Rattle.op_object.proofs.object_get.absent_errors.Goals as goal
