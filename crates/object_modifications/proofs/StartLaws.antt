@@ -1,5 +1,5 @@
 -- Before the first modification: the object is weighed.
-use Rattle.std.proofs.Common.{◌≡◌, ◌≤◌, ℕ, Bool, true, List, sym, ap, subst, ◌∙◌}
+use Rattle.std.proofs.Common.{◌≡◌, ◌≤◌, ℕ, true, List, sym, ap, subst, ◌∙◌}
 use Rattle.std.proofs.lemmas.Bool.{le-leb}
 use Rattle.term_values.specs.Lengths.{counted}
 use Rattle.term_model.specs.declared.object.Object.{Object}

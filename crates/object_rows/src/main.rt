@@ -7,6 +7,7 @@ mod reading;
 mod row_changes;
 mod row_fault;
 mod row_object;
+mod row_packages;
 mod row_properties;
 mod row_set;
 mod row_syntaxes;

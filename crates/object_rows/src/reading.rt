@@ -49,12 +49,25 @@ fn letters(alloc: Global, text: &str) -> Result<Bytes, RowFault> {
     Ok(Bytes { items })
 }
 
+/// A number, or all from one to another with `~` between them.
+fn add_members(word: &str, items: &mut Vec<Value>) -> Result<(), RowFault> {
+    match word.split_once('~') {
+        Some((first, last)) => {
+            for number in arc(first)?..=arc(last)? {
+                items.push(Value::integer(i64::from(number)))?;
+            }
+            Ok(())
+        }
+        None => Ok(items.push(Value::integer(integer(word)?))?),
+    }
+}
+
 /// Numbers with points between them.
 fn members(alloc: Global, text: &str) -> Result<Values, RowFault> {
     let mut items = Vec::new(alloc);
     for word in text.split('.') {
         if !word.is_empty() {
-            items.push(Value::integer(integer(word)?))?;
+            add_members(word, &mut items)?;
         }
     }
     Ok(Values { items })

@@ -27,16 +27,27 @@ fn attributes(alloc: Global, text: &str) -> Result<Attrs, RowFault> {
     Ok(Attrs { items })
 }
 
-/// An object of the class with the number and its attributes.
+/// The packages that the creation of an object named, by their numbers.
+fn chosen(alloc: Global, text: &str) -> Result<Oids, RowFault> {
+    let mut items = Vec::new(alloc);
+    for word in text.split('+') {
+        if !word.is_empty() {
+            items.push(reading::identifier(alloc, 4, reading::arc(word)?)?)?;
+        }
+    }
+    Ok(Oids { items })
+}
+
+/// An object of a class and with packages, the number of each behind `+`, and its attributes.
 pub fn object(alloc: Global, class: &str, text: &str) -> Result<Object, RowFault> {
     let attrs = attributes(alloc, text)?;
+    let (class, packages) = class.split_once('+').unwrap_or((class, ""));
+    let chosen = chosen(alloc, packages)?;
     let class = reading::identifier(alloc, 3, reading::arc(class)?)?;
     Ok(Object {
         class,
         binding: None,
-        chosen: Oids {
-            items: Vec::new(alloc),
-        },
+        chosen,
         attrs,
     })
 }

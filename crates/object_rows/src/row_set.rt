@@ -1,14 +1,17 @@
 //! The schema of rows: its attributes, groups and classes by numbers. Attribute 2.999.7.N, class 2.999.3.N.
 
-use crate::reading::{arc, identifier};
+use crate::reading::identifier;
 use crate::row_fault::RowFault;
+use crate::row_packages::{
+    branch_packages, group_uses, ids, mandatory, no_ids, no_packages, no_uses,
+};
 use crate::row_properties::{log_properties, odd_log_properties, properties};
 use crate::row_syntaxes::{bounded, octets, set_of_whole, small_set};
 use attribute_rules::control_syntaxes;
 use std::alloc::Global;
 use term_model::{
-    ActRecs, AttrRec, AttrRecs, BindRecs, ClassRec, ClassRecs, GroupRec, GroupRecs, GroupUse,
-    GroupUses, InstRecs, Name, NoteRecs, Oids, PackageRec, PackageRecs, Properties, RuleRecs, Set,
+    ActRecs, AttrRec, AttrRecs, BindRecs, ClassRec, ClassRecs, GroupRec, GroupRecs, InstRecs, Name,
+    NoteRecs, PackageRecs, Properties, RuleRecs, Set,
 };
 use term_values::{Bytes, Rules, Syntax, SyntaxForm};
 
@@ -134,6 +137,14 @@ fn add_limits(alloc: Global, records: &mut AttrRecs) -> Result<(), RowFault> {
     )
 }
 
+/// And what has the label of availabilityStatus in other documents.
+fn add_more_statuses(alloc: Global, records: &mut AttrRecs) -> Result<(), RowFault> {
+    let status = control_syntaxes::availability_status(alloc)?;
+    add(alloc, records, 43, b"availabilityStatus", status)?;
+    let whole = Syntax::integer(alloc);
+    add(alloc, records, 44, b"availabilityStatus", whole)
+}
+
 /// And what logs have as each object does.
 fn add_of_top(alloc: Global, records: &mut AttrRecs) -> Result<(), RowFault> {
     add(alloc, records, 40, b"objectClass", oid_syntax())?;
@@ -152,22 +163,14 @@ fn add_records(alloc: Global, records: &mut AttrRecs) -> Result<(), RowFault> {
     add_further(alloc, records)?;
     add_states(alloc, records)?;
     add_limits(alloc, records)?;
-    add_of_top(alloc, records)
+    add_of_top(alloc, records)?;
+    add_more_statuses(alloc, records)
 }
 
 fn records(alloc: Global) -> Result<AttrRecs, RowFault> {
     let mut records = AttrRecs::new(alloc);
     add_records(alloc, &mut records)?;
     Ok(records)
-}
-
-/// Attributes by their numbers.
-fn ids(alloc: Global, text: &str) -> Result<Oids, RowFault> {
-    let mut items = Vec::new(alloc);
-    for word in text.split_whitespace() {
-        items.push(identifier(alloc, 7, arc(word)?)?)?;
-    }
-    Ok(Oids { items })
 }
 
 /// A group with the members of its template.
@@ -191,52 +194,6 @@ fn groups(alloc: Global) -> Result<GroupRecs, RowFault> {
     Ok(GroupRecs { items })
 }
 
-/// The use of a group with what it adds.
-fn group_use(alloc: Global, number: u32, added: &str) -> Result<GroupUse, RowFault> {
-    let group = identifier(alloc, 7, number)?;
-    let added = ids(alloc, added)?;
-    Ok(GroupUse { group, added })
-}
-
-/// Elements use the group 20, to which 4 is added, and the group 22.
-fn group_uses(alloc: Global) -> Result<GroupUses, RowFault> {
-    let mut items = Vec::new(alloc);
-    items.push(group_use(alloc, 20, "4")?)?;
-    items.push(group_use(alloc, 22, "")?)?;
-    Ok(GroupUses { items })
-}
-
-fn no_uses(alloc: Global) -> GroupUses {
-    GroupUses {
-        items: Vec::new(alloc),
-    }
-}
-
-fn no_ids(alloc: Global) -> Oids {
-    Oids {
-        items: Vec::new(alloc),
-    }
-}
-
-/// The one mandatory package of a class.
-fn mandatory(
-    alloc: Global,
-    attributes: Properties,
-    groups: GroupUses,
-) -> Result<PackageRecs, RowFault> {
-    let of_package = PackageRec {
-        id: None,
-        label: Bytes::new(alloc),
-        attributes,
-        groups,
-        actions: no_ids(alloc),
-        notifications: no_ids(alloc),
-    };
-    let mut items = Vec::new(alloc);
-    items.push(of_package)?;
-    Ok(PackageRecs { items })
-}
-
 /// Adds a class with one mandatory package, whose properties are the class's.
 fn add_class(
     alloc: Global,
@@ -255,9 +212,7 @@ fn add_class(
             label,
             superclasses: no_ids(alloc),
             mandatory,
-            conditional: PackageRecs {
-                items: Vec::new(alloc),
-            },
+            conditional: no_packages(alloc),
             properties,
         },
     )?)
@@ -288,10 +243,32 @@ fn add_odd_log(alloc: Global, classes: &mut ClassRecs) -> Result<(), RowFault> {
     )
 }
 
+/// Class 4 derives from elements, and has packages that an object need not have.
+fn add_branch(alloc: Global, classes: &mut ClassRecs) -> Result<(), RowFault> {
+    let id = identifier(alloc, 3, 4)?;
+    let label = Bytes::from_slice(alloc, b"branch")?;
+    let mut above = no_ids(alloc);
+    above.items.push(identifier(alloc, 3, 1)?)?;
+    let conditional = branch_packages(alloc)?;
+    let properties = properties(alloc)?;
+    Ok(classes.push(
+        alloc,
+        ClassRec {
+            id,
+            label,
+            superclasses: above,
+            mandatory: no_packages(alloc),
+            conditional,
+            properties,
+        },
+    )?)
+}
+
 fn add_classes(alloc: Global, classes: &mut ClassRecs) -> Result<(), RowFault> {
     add_element(alloc, classes)?;
     add_log(alloc, classes)?;
-    add_odd_log(alloc, classes)
+    add_odd_log(alloc, classes)?;
+    add_branch(alloc, classes)
 }
 
 fn classes(alloc: Global) -> Result<ClassRecs, RowFault> {
