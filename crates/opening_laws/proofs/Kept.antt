@@ -1,12 +1,12 @@
 -- Facts of the entries of a map that storing another one, and the counting of logs, keep.
-use Rattle.std.proofs.Common.{◌≡◌, suc, ◌+◌, ◌≤◌, Bool, true, false, List, [], ◌∷◌, Some}
+use Rattle.std.proofs.Common.{◌≡◌, ℕ, suc, ◌+◌, ◌≤◌, Bool, true, false, List, [], ◌∷◌, Some}
 use Rattle.std.proofs.Common.{length, refl, sym, ap, ◌∙◌, subst, arith, is_some}
 use Rattle.std.specs.Prelude.{if◌then◌else◌}
 use Rattle.std.specs.List.{AllByRecursion}
 use Rattle.std.specs.declared.cmp.Ordering.{Ordering}
 use Rattle.std.specs.declared.cmp.Ordering.TheVariants.{Less, Equal, Greater}
 use Rattle.std.proofs.lemmas.Bool.{false≢true}
-use Rattle.std.proofs.lemmas.Option.{none-some}
+use Rattle.std.proofs.lemmas.Option.{none-some, same_Some}
 use Rattle.term_model.specs.declared.name.Rdn.{Rdn}
 use Rattle.term_model.specs.declared.object.Object.{Object}
 use Rattle.term_model.specs.declared.objects.NamedObject.{NamedObject}
@@ -75,6 +75,17 @@ entry_named schema entry behind = by (is_bound_log schema entry.object.class)
     by true = refl
     by false = refl
 
+pub entry_class : (schema : Set) (entry : NamedObject) (behind : List NamedObject)
+    → (counted_entry schema entry behind).object.class ≡ entry.object.class
+entry_class schema entry behind = by (is_bound_log schema entry.object.class)
+  where
+    by : (b : Bool)
+        → ◌≡◌ {A = List ℕ} (if b
+        then record entry { object = counted_log schema (records_of schema entry.name behind) entry.object }
+        else entry).object.class entry.object.class
+    by true = refl
+    by false = refl
+
 pub same_names : (schema : Set) (objects : List NamedObject) → names (counted schema objects) ≡ names objects
 same_names schema [] = refl
 same_names schema (entry ∷ others) = λ i.
@@ -84,10 +95,10 @@ pub same_length : (schema : Set) (objects : List NamedObject) → length (counte
 same_length schema [] = refl
 same_length schema (entry ∷ others) = ap suc (same_length schema others)
 
--- an object that was there is there, as it tells of its records
+-- an object that was there is there, of the same class, as it tells of its records
 pub still_there : (schema : Set) (objects : List NamedObject) (name : List Rdn) (object : Object)
     → object_at objects name ≡ Some object
-    → (told : Object) × (object_at (counted schema objects) name ≡ Some told)
+    → (told : Object) × (object_at (counted schema objects) name ≡ Some told) × (told.class ≡ object.class)
 still_there schema [] name object e = absurd (none-some object e)
 still_there schema (entry ∷ others) name object e =
     by (still_there schema others name object) (is_same_name entry.name name) refl
@@ -98,17 +109,22 @@ still_there schema (entry ∷ others) name object e =
     named : is_same_name last.name name ≡ is_same_name entry.name name
     named = ap (λ n. is_same_name n name) (entry_named schema entry (counted schema others))
 
-    by : (object_at others name ≡ Some object → (told : Object) × (object_at (counted schema others) name ≡ Some told))
+    by : (object_at others name ≡ Some object
+        → (told : Object) × (object_at (counted schema others) name ≡ Some told) × (told.class ≡ object.class))
         → (b : Bool) → is_same_name entry.name name ≡ b
         → (told : Object) × (object_at (counted schema (entry ∷ others)) name ≡ Some told)
+        × (told.class ≡ object.class)
     by again true same = (
       last.object,
       here last (counted schema others) name (named ∙ same),
+      entry_class schema entry (counted schema others)
+          ∙ ap (λ (o : Object). o.class) (same_Some entry.object object (sym (here entry others name same) ∙ e)),
     )
     by again false other =
         let found = again (sym (later entry others name other) ∙ e) in (
           found.0,
           later last (counted schema others) name (named ∙ other) ∙ found.1,
+          found.2,
         )
 
 -- what holds of names holds of them counted

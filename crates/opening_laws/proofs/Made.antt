@@ -23,11 +23,11 @@ use Rattle.term_model.specs.WellFormedMib.{identifiers}
 
 -- ---- the errors that there aren't
 
-second_none : (one other : Option StepError) → first_error one other ≡ None → other ≡ None
+pub second_none : (one other : Option StepError) → first_error one other ≡ None → other ≡ None
 second_none (Some error) other e = absurd (cc)
 second_none None other e = e
 
-first_none : (one other : Option StepError) → first_error one other ≡ None → one ≡ None
+pub first_none : (one other : Option StepError) → first_error one other ≡ None → one ≡ None
 first_none (Some error) other e = absurd (cc)
 first_none None other e = refl
 

@@ -92,7 +92,7 @@ either false false true e = refl
 either false false false e = absurd (cc)
 
 -- a count doesn't count for the size of a bound log
-not_measured : (schema : Set) (class id : List ℕ) → is_bound_log schema class ≡ true → is_counter schema true id ≡ true
+pub not_measured : (schema : Set) (class id : List ℕ) → is_bound_log schema class ≡ true → is_counter schema true id ≡ true
     → counts schema class id ≡ false
 not_measured schema class id bound told =
     ap (λ b. not (b && tells_of_records schema.attributes id)) bound
@@ -144,7 +144,7 @@ log_well_made schema records object bound of = record {
       of.small;
 }
 
-entry_well_made : (schema : Set) (entry : NamedObject) (behind : List NamedObject) → IsWellMade schema entry.object
+pub entry_well_made : (schema : Set) (entry : NamedObject) (behind : List NamedObject) → IsWellMade schema entry.object
     → IsWellMade schema (counted_entry schema entry behind).object
 entry_well_made schema entry behind of = by (is_bound_log schema entry.object.class) refl
   where
@@ -239,7 +239,7 @@ all_from : (P : List ℕ → Type 0) (xs : List (List ℕ)) → ((x : List ℕ) 
 all_from P [] f = tt
 all_from P (x ∷ xs) f = (f x (here x xs), all_from P xs (λ y at. f y (there x y xs at)))
 
-good_object : (schema : Set) (object : Object) → IsWellMade schema object → IsOpenedObject schema object
+pub good_object : (schema : Set) (object : Object) → IsWellMade schema object → IsOpenedObject schema object
 good_object schema object of = record {
   class = of.class;
   known = of.known;

@@ -1,2 +1,3 @@
 -- The laws that the contracts of this crate state.
+pub mod Encodable
 pub mod OpeningLaws

@@ -14,7 +14,9 @@ use Rattle.term_model.specs.Inheritance.{HasAttribute, HasRecord}
 use Rattle.term_model.specs.NamedObjects.{IsByName, names, object_at}
 use Rattle.term_model.specs.Opening.{opened}
 use Rattle.term_model.specs.WellFormedMib.{identifiers}
+use Rattle.term_model.specs.WellFormedObjects.{AreGood}
 use Rattle.term_model.specs.WholeSet.{IsWhole}
+use Rattle.opening_laws.specs.Encodable.{IsEncodable}
 use Rattle.package_laws.specs.PackageLaws.{HasRecordOnce}
 
 -- the names rise, each once
@@ -69,3 +71,10 @@ OpenedHaveAttributes = (schema : Set) (objects : List NamedObject) → HasRecord
 -- as it is in a whole schema
 abbrev pub WholeHasRecordOnce : Type 0
 WholeHasRecordOnce = (schema : Set) → IsWhole schema → HasRecordOnce schema
+
+-- The objects are well-formed, where the schema is whole and everything in it has an encoding. Its identifiers are
+-- values of objectClass, nameBinding and packages; a value in a name is read from its octets; and a log tells how many
+-- octets its records have, of which an availabilityStatus that a class states is bounded by nothing else.
+abbrev pub OpenedAreGood : Type 0
+OpenedAreGood = (schema : Set) (objects : List NamedObject) → IsWhole schema → IsEncodable schema →
+    opened schema ≡ Ok objects → AreGood schema objects

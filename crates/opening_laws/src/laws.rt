@@ -1,6 +1,6 @@
 //! Laws of the objects at the opening.
 
-ghost use Rattle.opening_laws.specs.OpeningLaws.{OpenedAreByName, OpenedAreFew, OpenedHaveAttributes};
+ghost use Rattle.opening_laws.specs.OpeningLaws.{OpenedAreByName, OpenedAreFew, OpenedAreGood, OpenedHaveAttributes};
 ghost use Rattle.opening_laws.specs.OpeningLaws.{OpenedHaveObjects, OpenedHaveRoot, OpenedHaveSuperiors};
 ghost use Rattle.opening_laws.specs.OpeningLaws.{WholeHasRecordOnce};
 
@@ -38,4 +38,9 @@ pub fn opened_have_attributes()
 /// No class of a whole schema has two records.
 pub fn whole_schemas_have_records_once()
     ensures { WholeHasRecordOnce }
+{}
+
+/// The objects are a well-formed map, where the schema is whole and everything in it has an encoding. Does nothing.
+pub fn opened_are_good()
+    ensures { OpenedAreGood }
 {}

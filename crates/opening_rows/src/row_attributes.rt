@@ -50,7 +50,9 @@ fn add_of_nodes(alloc: Global, records: &mut AttrRecs) -> Result<(), RowFault> {
 fn add_further(alloc: Global, records: &mut AttrRecs) -> Result<(), RowFault> {
     add(alloc, records, 7, b"extra", Syntax::integer(alloc))?;
     add(alloc, records, 11, b"logRecordId", Syntax::integer(alloc))?;
-    add(alloc, records, 12, b"late", Syntax::integer(alloc))
+    add(alloc, records, 12, b"late", Syntax::integer(alloc))?;
+    add(alloc, records, 13, b"longest", octets(alloc))?;
+    add(alloc, records, 14, b"tooLong", octets(alloc))
 }
 
 /// The attributes of top.

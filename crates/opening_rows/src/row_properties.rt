@@ -1,6 +1,6 @@
 //! What the classes of rows say of their attributes: X.722, section 8.4.
 
-use crate::reading::identifier;
+use crate::reading::{identifier, value};
 use crate::row_fault::RowFault;
 use crate::row_syntaxes::bounded;
 use std::alloc::Global;
@@ -20,19 +20,29 @@ fn permitted(alloc: Global) -> Result<Syntaxes, RowFault> {
     Ok(Syntaxes { items })
 }
 
-/// The DEFAULT VALUE of an attribute of these rows, where it has one: 7 for the load, none octets for texts, 1 for
-/// extra, 60 for late; for logs the empty `and`, unlocked and enabled, no status, wrap and no limit.
+/// logFull and another status.
+fn full_status(alloc: Global) -> Result<ValueForm, RowFault> {
+    let mut items = Vec::new(alloc);
+    items.push(Value::integer(7))?;
+    items.push(Value::integer(8))?;
+    Ok(ValueForm::Many(Values { items }))
+}
+
+/// The DEFAULT VALUE of an attribute of these rows, where it has one: 7 for the load, 4 for the kind, no octets for
+/// texts, 1 for extra, 60 for late, as many octets as a value may have, and one more; for logs the empty `and`, unlocked
+/// and enabled, the statuses 7 and logFull, wrap and no limit.
 fn default_of(alloc: Global, number: u32) -> Result<Option<Value>, RowFault> {
     let form = match number {
         2 => ValueForm::Int(7),
+        3 => ValueForm::Int(4),
         5 | 6 => ValueForm::Octets(Bytes::new(alloc)),
         7 => ValueForm::Int(1),
         12 => ValueForm::Int(60),
+        13 => return Ok(Some(value(alloc, "x8188")?)),
+        14 => return Ok(Some(value(alloc, "x8189")?)),
         32 => ValueForm::Raw(Bytes::from_slice(alloc, b"\xA9\x00")?),
         33 | 34 => ValueForm::Int(1),
-        35 => ValueForm::Many(Values {
-            items: Vec::new(alloc),
-        }),
+        35 => full_status(alloc)?,
         36 | 37 => ValueForm::Int(0),
         _ => return Ok(None),
     };

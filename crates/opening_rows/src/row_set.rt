@@ -98,6 +98,12 @@ fn add_of_two(alloc: Global, classes: &mut ClassRecs) -> Result<(), RowFault> {
     add_class(alloc, classes, 7, b"long", &long, &long)
 }
 
+/// Class 8 of the longest default, class 10 of one that is an octet longer.
+fn add_of_limit(alloc: Global, classes: &mut ClassRecs) -> Result<(), RowFault> {
+    add_class(alloc, classes, 8, b"longest", &[1, 13], &[1, 13])?;
+    add_class(alloc, classes, 10, b"tooLong", &[1, 14], &[1, 14])
+}
+
 /// Class 4 log, class 5 record.
 fn add_logs(alloc: Global, classes: &mut ClassRecs) -> Result<(), RowFault> {
     let log = [8, 9, 10, 31, 32, 33, 34, 35, 36, 37, 38, 39];
@@ -109,6 +115,7 @@ fn classes(alloc: Global) -> Result<ClassRecs, RowFault> {
     let mut classes = ClassRecs::new(alloc);
     add_nodes(alloc, &mut classes)?;
     add_of_two(alloc, &mut classes)?;
+    add_of_limit(alloc, &mut classes)?;
     add_logs(alloc, &mut classes)?;
     Ok(classes)
 }
@@ -153,6 +160,8 @@ fn bindings(alloc: Global) -> Result<BindRecs, RowFault> {
     items.push(binding(alloc, 5, 5, 4, 11)?)?;
     items.push(binding(alloc, 6, 6, 1, 1)?)?;
     items.push(binding(alloc, 7, 7, 1, 1)?)?;
+    items.push(binding(alloc, 8, 8, 1, 1)?)?;
+    items.push(binding(alloc, 10, 10, 1, 1)?)?;
     Ok(BindRecs { items })
 }
 
