@@ -32,7 +32,8 @@ use Rattle.set_laws.proofs.Records.{record_is}
 use Rattle.opening_laws.specs.Encodable.{IsEncodable, IsIdentifier}
 use Rattle.opening_laws.proofs.Creations.{IsBindingOf}
 use Rattle.opening_laws.proofs.EncodingLengths.{encoded_short, whole_contents_short}
-use Rattle.opening_laws.proofs.AttributeKinds.{IsIdentifierChoice, attribute_so, class_choice, identifier_set, identifier_type}
+use Rattle.opening_laws.proofs.AttributeKinds.{IsIdentifierChoice, attribute_so, class_choice, identifier_set}
+use Rattle.opening_laws.proofs.AttributeKinds.{identifier_type}
 use Rattle.opening_laws.proofs.AttributeKinds.{labelled_so, log_syntax, number_fits, number_form}
 use Rattle.opening_laws.proofs.Listed.{listed_is, IsMadeWhole, stands_short}
 use Rattle.opening_laws.proofs.Making.{IsHeld, IsMaking, agent_held, binding_identifier, choice_short}

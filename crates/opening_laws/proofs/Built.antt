@@ -46,7 +46,8 @@ root_built object = record {
   below = (inl refl, tt);
 }
 
-pub whole_name : (first : Rdn) (rest : List Rdn) → (first ∷ rest) ≡ superior_of (first ∷ rest) ++ last_of first rest ∷ []
+pub whole_name : (first : Rdn) (rest : List Rdn)
+    → (first ∷ rest) ≡ superior_of (first ∷ rest) ++ last_of first rest ∷ []
 whole_name first [] = refl
 whole_name first (second ∷ rest) = ap (λ parts. first ∷ parts) (whole_name second rest)
 

@@ -1,4 +1,5 @@
--- A network of which everything has an encoding, and one in which a class has an identifier of one arc: X.660, clause 7.
+-- A network of which everything has an encoding, and one in which a class has an identifier of one arc: X.660,
+-- clause 7.
 use Rattle.std.proofs.Common.{◌≡◌, ℕ, ◌<◌, ◌^◌, true, List, [], ◌∷◌, None, Some, refl, sym, ap, ◌∙◌, subst}
 use Rattle.std.proofs.Common.{arith, inl, inr, length}
 use Rattle.std.proofs.lemmas.Bool.{false≢true}

@@ -100,7 +100,7 @@ all_arcs_short (arc ∷ arcs) =
     let others = all_arcs_short arcs in
     omega (arith, whole, one, others)
 
-at_most : (a b : ℕ) → nat_le a b ≡ true → a ≤ b
+pub at_most : (a b : ℕ) → nat_le a b ≡ true → a ≤ b
 at_most a b e = grind (arith, e)
 
 pub identifier_contents_short : (arcs : List ℕ) → is_oid arcs ≡ true → length (oid_contents arcs) ≤ 315

@@ -1,5 +1,5 @@
--- Of the values of an object, as it is created: they fit and aren't too long, and those that the agent doesn't write are
--- permitted.
+-- Of the values of an object, as it is created: they fit and aren't too long, and those that the agent doesn't write
+-- are permitted.
 use Rattle.std.proofs.Common.{◌≡◌, ℕ, ◌<◌, true, false, List, [], ◌∷◌, Some}
 use Rattle.std.proofs.Common.{sym, ap, ◌∙◌, subst, arith, length}
 use Rattle.std.proofs.lemmas.Bool.{and_parts}

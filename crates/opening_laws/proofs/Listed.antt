@@ -40,12 +40,10 @@ use Rattle.package_laws.proofs.Members.{first_or_later, map_from, nowhere, same_
 use Rattle.set_laws.proofs.Records.{one_attribute, record_is}
 use Rattle.opening_laws.specs.Encodable.{IsIdentifier}
 use Rattle.opening_laws.proofs.AttributeKinds.{attribute_so, identifier_set, octets_are}
+use Rattle.opening_laws.proofs.EncodingLengths.{at_most}
 use Rattle.opening_laws.proofs.Made.{IsMadeOf}
 use Rattle.opening_laws.proofs.Making.{IsMaking, outline_for}
 use Rattle.opening_laws.proofs.Tested.{GivesIt, each_given_good, listed_from}
-
-at_most : (a b : ℕ) → nat_le a b ≡ true → a ≤ b
-at_most a b e = grind (arith, e)
 
 -- ---- a SET OF identifiers, by rising encodings
 
@@ -160,7 +158,8 @@ given_fits schema instance object made template id given value known at gives_it
 
 -- ---- and they were tested
 
-abbrev pub IsMadeWhole : (schema : Set) (instance : InstRec) (object : Object) → IsMaking schema instance object → Type 0
+abbrev pub IsMadeWhole : (schema : Set) (instance : InstRec) (object : Object) → IsMaking schema instance object
+    → Type 0
 IsMadeWhole schema instance object made =
     IsMadeOf schema made.created.creation (outline_for schema instance made.created.class) object
 

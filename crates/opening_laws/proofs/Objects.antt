@@ -92,8 +92,8 @@ either false false true e = refl
 either false false false e = absurd (cc)
 
 -- a count doesn't count for the size of a bound log
-pub not_measured : (schema : Set) (class id : List ℕ) → is_bound_log schema class ≡ true → is_counter schema true id ≡ true
-    → counts schema class id ≡ false
+pub not_measured : (schema : Set) (class id : List ℕ) → is_bound_log schema class ≡ true
+    → is_counter schema true id ≡ true → counts schema class id ≡ false
 not_measured schema class id bound told =
     ap (λ b. not (b && tells_of_records schema.attributes id)) bound
     ∙ ap not

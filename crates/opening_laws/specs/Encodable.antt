@@ -1,5 +1,6 @@
--- Schemas of which everything has an encoding: X.660, clause 7; X.690, sections 8.1.2, 8.1.3 and 8.19. An identifier has at
--- most 64 arcs of 32 bits, octets are below 256, no tag stands for the end of contents, and lengths end at 2 ^ 32 - 1.
+-- Schemas of which everything has an encoding: X.660, clause 7; X.690, sections 8.1.2, 8.1.3 and 8.19; docs/PROFILE.md,
+-- section 3. An identifier has at most 64 arcs of 32 bits, octets are below 256, no tag stands for the end of contents,
+-- and lengths end at 2 ^ 32 - 1.
 use Rattle.std.specs.Prelude.{◌≡◌, ◌<◌, ◌^◌, ◌⊎◌, ℕ, List, true, Some, All, Contains, length}
 use Rattle.term_values.specs.Fits.{Fits}
 use Rattle.term_values.specs.SpellingLaws.{AreOctets}

@@ -29,8 +29,8 @@ fn full_status(alloc: Global) -> Result<ValueForm, RowFault> {
 }
 
 /// The DEFAULT VALUE of an attribute of these rows, where it has one: 7 for the load, 4 for the kind, no octets for
-/// texts, 1 for extra, 60 for late, as many octets as a value may have, and one more; for logs the empty `and`, unlocked
-/// and enabled, the statuses 7 and logFull, wrap and no limit.
+/// texts, 1 for extra, 60 for late, as many octets as a value may have, and one more. For logs it is the empty `and`,
+/// unlocked and enabled, the statuses 7 and logFull, wrap and no limit.
 fn default_of(alloc: Global, number: u32) -> Result<Option<Value>, RowFault> {
     let form = match number {
         2 => ValueForm::Int(7),
