@@ -1,4 +1,5 @@
 pub mod CountLaws
+pub mod GoodOpening
 pub mod LogLaws
 pub mod NameParts
 pub mod RecordLaws

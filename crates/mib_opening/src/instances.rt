@@ -4,6 +4,9 @@
 ghost use Rattle.std.specs.Prelude.{◌≡◌, ◌+◌, [], drop, IfErr, IfOk, Ok, OnOk};
 ghost use Rattle.term_model.specs.Opening.{bad, create_instance, opened, opened_from, opened_instances, opened_one};
 ghost use Rattle.term_model.specs.Opening.{opened_root, placed, root_place, asking_of, create_root};
+ghost use Rattle.term_model.specs.WellFormedObjects.{AreGood};
+ghost use Rattle.term_model.specs.WholeSet.{IsWhole};
+ghost use Rattle.opening_laws.specs.Encodable.{IsEncodable};
 ghost use Rattle.mib_opening.specs.Refusals.{HasRefusal};
 
 use crate::instance_asking::asking_of;
@@ -226,6 +229,20 @@ fn open_from_root<L: StepLedger>(
     Ok(mib)
 }
 
+/// The instances, and then the counts of the logs.
+fn open_and_count<L: StepLedger>(
+    alloc: Global,
+    schema: &Set,
+    steps: &mut Steps<L>,
+) -> Result<ListMib<L>, OpeningRefusal>
+    ensures opened { IfOk result (λ objects. opened schema.now ≡ Ok objects) }
+    ensures refused { IfErr result (HasRefusal (opened schema.now)) }
+{
+    let mut mib = open_instances(alloc, schema, schema.instances.items.as_slice(), steps)?;
+    count_logs(alloc, schema, &mut mib, steps)?;
+    Ok(mib)
+}
+
 /// The objects at the opening, in which each bound log tells of its records. Each look into the map is counted on
 /// `steps`, also before a refusal.
 pub fn opening<L: StepLedger>(
@@ -236,10 +253,11 @@ pub fn opening<L: StepLedger>(
     // the objects are those of the instances, one after the other
     ensures opened { IfOk result (λ objects. opened schema.now ≡ Ok objects) }
 
+    // they are well-formed, where the schema is whole and everything in it has an encoding
+    ensures good { IfOk result (λ objects. IsWhole schema.now → IsEncodable schema.now → AreGood schema.now objects) }
+
     // the instance that can't be created, with the error of its creation; of want of memory nothing is said
     ensures refused { IfErr result (HasRefusal (opened schema.now)) }
 {
-    let mut mib = open_instances(alloc, schema, schema.instances.items.as_slice(), steps)?;
-    count_logs(alloc, schema, &mut mib, steps)?;
-    Ok(mib)
+    open_and_count(alloc, schema, steps)
 }
