@@ -8,9 +8,10 @@ use Rattle.std.proofs.Math.Path.{subst}
 use Rattle.gdmo_names.specs.declared.first_fault.LabelFault.{LabelFault as NotedFault}
 use Rattle.gdmo_names.specs.DocumentTemplates.{templates}
 use Rattle.gdmo_names.specs.DoubleNames.{IsLabelledAgain}
+use Rattle.gdmo_names.specs.DoubleNames.DoubleLabelAt.{template_label}
 use Rattle.gdmo_names.specs.FaultSets.{AnyOf, FaultSet, LabelledTwice, Notes, ThisFault}
 use Rattle.gdmo_names.specs.FirstLabelFault.LabelFault.{LabelDouble}
-use Rattle.gdmo_names.specs.FirstLabelFault.{LabelFault}
+use Rattle.gdmo_names.specs.FirstLabelFault.{HasFault, LabelFault}
 use Rattle.gdmo_names.specs.LabelMeaning.{earlier, first_called, label_meaning, stands_before}
 use Rattle.gdmo_names.specs.LabelSteps.{DoubleBy, comes_behind}
 use Rattle.gdmo_names.specs.PartTerms.{Placed, PartTerms, label_of}
@@ -188,3 +189,16 @@ first_noted meaning x key first before key_is first_is test =
     one_not LabelDouble x.document (label_of x.template).at before
     (λ h. true≢false (sym h ∙ ap (λ k. comes_behind x (meaning k)) (sym key_is) ∙ ap (comes_behind x) (sym first_is)
     ∙ test))
+
+-- ---- what the sentence says of it
+
+pub labelled_fault : (parts : PartTerms) (kind : LabelFault) (document token : ℕ) →
+    LabelledTwice parts kind document token → HasFault parts kind document token
+labelled_fault parts kind document token fault = subst (λ k. HasFault parts k document token) fault.is_double
+    (template_label fault.again fault.is_in fault.is_at)
+
+pub labelled_noted : (parts : PartTerms) (later : Placed) (document token : ℕ) → IsLabelledAgain parts later →
+    later.document ≡ document → (label_of later.template).at ≡ token →
+    LabelledTwice parts LabelDouble document token
+labelled_noted parts later document token again is_in is_at =
+    record { later = later; again = again; is_in = is_in; is_at = is_at; is_double = refl }

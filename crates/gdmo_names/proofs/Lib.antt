@@ -11,3 +11,11 @@ pub mod NotingLaws
 pub mod TableLaws
 pub mod DoubleLaws
 pub mod MeaningLaws
+pub mod InStepLaws
+pub mod TargetLaws
+pub mod TableFacts
+pub mod FindingLaws
+pub mod ShapeLaws
+pub mod ReferenceLaws
+pub mod SectionLaws
+pub mod PlacedLaws

@@ -172,7 +172,7 @@ any_cases Faults (y ∷ ys) x kind document token (inr behind) =
       | inr one ↦ inr one
     ]
 
-more : {X : Type 0} (xs : List X) (i : ℕ) (x : X) → i < length xs → x ≡ get_or xs i x →
+pub more : {X : Type 0} (xs : List X) (i : ℕ) (x : X) → i < length xs → x ≡ get_or xs i x →
     take (i + 1) xs ≡ take i xs ++ x ∷ []
 more xs i x within is = take_more xs i x within ∙ ap (λ y. take i xs ++ y ∷ []) (sym is)
 
@@ -180,7 +180,7 @@ pub map_more : {X Y : Type 0} (f : X → Y) (xs : List X) (i : ℕ) (x : X) → 
     map f (take (i + 1) xs) ≡ map f (take i xs) ++ f x ∷ []
 map_more f xs i x within is = ap (map f) (more xs i x within is) ∙ map-append f (take i xs) (x ∷ [])
 
-any_more : {X : Type 0} (Faults : X → FaultSet) (before after : List X) (x : X) {one other next : Option NotedFault} →
+pub any_more : {X : Type 0} (Faults : X → FaultSet) (before after : List X) (x : X) {one other next : Option NotedFault} →
     after ≡ before ++ x ∷ [] → Notes (AnyOf Faults before) one other → Notes (Faults x) other next →
     Notes (AnyOf Faults after) one next
 any_more Faults before after x {one = one} {next = next} is p q =

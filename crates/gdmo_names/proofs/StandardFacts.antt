@@ -101,14 +101,14 @@ unregistered_fault = unregistered (record {
 
 -- the first document has the label a twice: of a class and, in a clause before its own, of an attribute; the class
 -- stands first
-abbrev first_a : TemplateTerm
+abbrev pub first_a : TemplateTerm
 first_a = class_of (word 0 (codes "a")) (arcs_of 30 (codes "3") (codes "1")) (one_reference (ByLabel (word 20
     (codes "b")))) NoReferences
 
-abbrev second_a : TemplateTerm
+abbrev pub second_a : TemplateTerm
 second_a = attribute_of (word 50 (codes "a")) id_type (Some (arcs_of 80 (codes "3") (codes "1")))
 
-abbrev doubled : PartTerms
+abbrev pub doubled : PartTerms
 doubled = of_templates (placed 1 second_a ∷ placed 1 first_a ∷ [])
 
 first_means : label_meaning doubled (codes "a") ≡ Some (placed 1 first_a)

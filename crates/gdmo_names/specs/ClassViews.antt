@@ -95,6 +95,17 @@ abbrev pub rows_of : {X : Type 0} → (X → ReferenceTerm) → (X → Reference
 rows_of one behind None = NoRows
 rows_of one behind (Some xs) = row_terms one behind xs.items
 
+abbrev pub group_terms : List GroupUse → RowTerms
+group_terms xs = row_terms (λ y. group_reference y.group) (λ y. reference_terms attribute_reference y.attributes.items) xs
+
+abbrev pub action_terms : List ActionUse → RowTerms
+action_terms xs =
+    row_terms (λ y. action_reference y.action) (λ y. reference_terms parameter_reference y.parameters.items) xs
+
+abbrev pub notification_terms : List NotificationUse → RowTerms
+notification_terms xs = row_terms (λ y. notification_reference y.notification)
+    (λ y. reference_terms parameter_reference y.parameters.items) xs
+
 abbrev pub group_rows : Option (Vec GroupUse Global) → RowTerms
 group_rows x = rows_of (λ y. group_reference y.group) (λ y. reference_terms attribute_reference y.attributes.items) x
 

@@ -2,6 +2,7 @@
 -- first is kept (docs/PROFILE.md, section 12).
 use Rattle.std.specs.Prelude.{◌≡◌, ◌≢◌, ◌⊎◌, ◌↔◌, ℕ, List, [], ◌∷◌, Option, None, Some, true}
 use Rattle.gdmo_names.specs.declared.first_fault.LabelFault.{LabelFault as NotedFault}
+use Rattle.gdmo_names.specs.DocumentTemplates.{templates}
 use Rattle.gdmo_names.specs.DoubleNames.{IsLabelledAgain}
 use Rattle.gdmo_names.specs.FirstLabelFault.{LabelFault, IsNoLater}
 use Rattle.gdmo_names.specs.FirstLabelFault.LabelFault.{LabelUnknown, KindWrong, LabelDouble}
@@ -82,3 +83,6 @@ MentionFaults parts document x = ReferenceFaults parts document x.role x.referen
 
 abbrev pub TemplateFaults : PartTerms → Placed → FaultSet
 TemplateFaults parts by = AnyOf (MentionFaults parts by.document) (template_mentions by.template)
+
+abbrev pub FaultsOfTemplates : PartTerms → FaultSet
+FaultsOfTemplates parts = AnyOf (TemplateFaults parts) (templates parts)

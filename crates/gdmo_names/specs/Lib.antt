@@ -27,3 +27,9 @@ pub mod NotedFaults
 pub mod FoundViews
 pub mod FaultSets
 pub mod LabelSteps
+pub mod InStep
+pub mod TargetTables
+pub mod SectionTables
+pub mod FindingSteps
+pub mod SectionFaults
+pub mod GroupFaults

@@ -1,136 +1,40 @@
-//! The templates of members of packages, and those that stand in line in them (X.722, sections 8.5 and 8.7 to 8.11).
+//! The templates of attribute groups, actions and notifications, and those that stand in line in them (X.722, sections 8.8,
+//! 8.10 and 8.11); and those of members of packages.
 
-use crate::found::{Body, Finding, Target};
+ghost use Rattle.std.specs.Prelude.{◌≡◌, IfOk, OnOk};
+ghost use Rattle.gdmo_names.specs.ClassViews.{action_reference, group_reference, notification_reference};
+ghost use Rattle.gdmo_names.specs.DocumentTemplates.{in_fields};
+ghost use Rattle.gdmo_names.specs.FindingSteps.{Finds, FindsRow, FindsTarget, FindsTemplate};
+ghost use Rattle.gdmo_names.specs.MemberViews.{action_term, attribute_reference, clause_terms, field_terms};
+ghost use Rattle.gdmo_names.specs.MemberViews.{fields_of, group_term, information_fields, notification_term};
+ghost use Rattle.gdmo_names.specs.Mentions.{field_mentions};
+ghost use Rattle.gdmo_names.specs.Mentions.Role.{GroupElement};
+ghost use Rattle.gdmo_names.specs.PartViews.{member_placed};
+
+use crate::finding_attributes::{
+    attribute_target, find_attribute, find_attributes, find_behaviour, find_behaviour_clause,
+    find_parameter, find_parameter_clause,
+};
+use crate::found::{Body, Finding, Mention, Target};
 use crate::roles::Role;
 use gdmo_classes::references::{ActionReference, GroupReference, NotificationReference};
-use gdmo_members::attribute::{AttributeReference, AttributeSyntax, AttributeTemplate};
-use gdmo_members::behaviour::{BehaviourReference, BehaviourTemplate};
+use gdmo_members::attribute::AttributeReference;
 use gdmo_members::member::MemberTemplate;
-use gdmo_members::parameter::{ParameterReference, ParameterSyntax, ParameterTemplate};
+use gdmo_members::notification::{Field, Information};
 use gdmo_members::{ActionTemplate, GroupTemplate, NotificationTemplate};
 use std::alloc::AllocError;
 
-fn find_behaviour<'a>(
+/// GROUP ELEMENTS.
+fn find_elements<'a>(
     finding: &mut Finding<'a>,
-    template: &'a BehaviourTemplate,
-) -> Result<usize, AllocError> {
-    finding.begin(&template.label, None, Body::Behaviour(template))
-}
-
-/// What a reference to a behaviour is.
-pub fn behaviour_target<'a>(
-    finding: &mut Finding<'a>,
-    reference: &'a BehaviourReference,
-) -> Result<Target<'a>, AllocError> {
-    match reference {
-        BehaviourReference::Label(reference) => Ok(Target::Label(&reference.label)),
-        BehaviourReference::Template(template) => {
-            Ok(Target::InLine(find_behaviour(finding, template)?))
-        }
-    }
-}
-
-/// The behaviours that a template names.
-pub fn find_behaviours<'a>(
-    finding: &mut Finding<'a>,
-    number: usize,
-    references: &'a Option<Vec<BehaviourReference>>,
-) -> Result<(), AllocError> {
-    if let Some(references) = references {
-        for reference in references.iter() {
-            let target = behaviour_target(finding, reference)?;
-            finding.name(number, Role::OfBehaviour, target)?;
-        }
-    }
-    Ok(())
-}
-
-/// Finds an attribute's template and those in line in it.
-#[cycle(finding_attributes)]
-pub fn find_attribute<'a>(
-    finding: &mut Finding<'a>,
-    template: &'a AttributeTemplate,
-) -> Result<usize, AllocError> {
-    let identifier = template.registration.as_ref();
-    let number = finding.begin(&template.label, identifier, Body::Attribute(template))?;
-    if let AttributeSyntax::Derived(reference) = &template.syntax {
-        let target = attribute_target(finding, reference)?;
-        finding.name(number, Role::BaseAttribute, target)?;
-    }
-    find_behaviours(finding, number, &template.behaviour)?;
-    if let Some(references) = &template.parameters {
-        for reference in references.iter() {
-            let target = parameter_target(finding, reference)?;
-            finding.name(number, Role::OfParameter, target)?;
-        }
-    }
-    Ok(number)
-}
-
-/// What a reference to an attribute is.
-#[cycle(finding_attributes)]
-pub fn attribute_target<'a>(
-    finding: &mut Finding<'a>,
-    reference: &'a AttributeReference,
-) -> Result<Target<'a>, AllocError> {
-    match reference {
-        AttributeReference::Label(reference) => Ok(Target::Label(&reference.label)),
-        AttributeReference::Template(template) => {
-            Ok(Target::InLine(find_attribute(finding, template)?))
-        }
-    }
-}
-
-#[cycle(finding_attributes)]
-fn find_parameter<'a>(
-    finding: &mut Finding<'a>,
-    template: &'a ParameterTemplate,
-) -> Result<usize, AllocError> {
-    let identifier = template.registration.as_ref();
-    let number = finding.begin(&template.label, identifier, Body::Parameter(template))?;
-    if let ParameterSyntax::Attribute(reference) = &template.syntax {
-        let target = attribute_target(finding, reference)?;
-        finding.name(number, Role::ParameterAttribute, target)?;
-    }
-    find_behaviours(finding, number, &template.behaviour)?;
-    Ok(number)
-}
-
-/// What a reference to a parameter is.
-#[cycle(finding_attributes)]
-pub fn parameter_target<'a>(
-    finding: &mut Finding<'a>,
-    reference: &'a ParameterReference,
-) -> Result<Target<'a>, AllocError> {
-    match reference {
-        ParameterReference::Label(reference) => Ok(Target::Label(&reference.label)),
-        ParameterReference::Template(template) => {
-            Ok(Target::InLine(find_parameter(finding, template)?))
-        }
-    }
-}
-
-/// The parameters that a template names.
-pub fn find_parameters<'a>(
-    finding: &mut Finding<'a>,
-    number: usize,
-    references: &'a [ParameterReference],
-) -> Result<(), AllocError> {
-    for reference in references.iter() {
-        let target = parameter_target(finding, reference)?;
-        finding.name(number, Role::OfParameter, target)?;
-    }
-    Ok(())
-}
-
-/// The parameters that a template names in a clause of its own.
-fn find_parameters_clause<'a>(
-    finding: &mut Finding<'a>,
-    number: usize,
-    references: &'a Option<Vec<ParameterReference>>,
-) -> Result<(), AllocError> {
-    match references {
-        Some(references) => find_parameters(finding, number, references.as_slice()),
+    own: &mut Vec<Mention<'a>>,
+    elements: &'a Option<Vec<AttributeReference>>,
+) -> Result<(), AllocError>
+    ensures { OnOk result (FindsRow finding.old finding.new own.old.items own.new.items GroupElement
+        (clause_terms attribute_reference elements.now)) }
+{
+    match elements {
+        Some(elements) => find_attributes(finding, own, Role::GroupElement, elements.as_slice()),
         None => Ok(()),
     }
 }
@@ -138,15 +42,14 @@ fn find_parameters_clause<'a>(
 fn find_group<'a>(
     finding: &mut Finding<'a>,
     template: &'a GroupTemplate,
-) -> Result<usize, AllocError> {
+) -> Result<usize, AllocError>
+    ensures { IfOk result (λ number. FindsTemplate finding.old finding.new number (group_term template.now)) }
+{
     let identifier = Some(&template.registration);
     let number = finding.begin(&template.label, identifier, Body::Group(template))?;
-    if let Some(elements) = &template.elements {
-        for element in elements.iter() {
-            let target = attribute_target(finding, element)?;
-            finding.name(number, Role::GroupElement, target)?;
-        }
-    }
+    let mut own = Vec::new(finding.alloc);
+    find_elements(finding, &mut own, &template.elements)?;
+    finding.end(number, own);
     Ok(number)
 }
 
@@ -154,7 +57,9 @@ fn find_group<'a>(
 pub fn group_target<'a>(
     finding: &mut Finding<'a>,
     reference: &'a GroupReference,
-) -> Result<Target<'a>, AllocError> {
+) -> Result<Target<'a>, AllocError>
+    ensures { IfOk result (λ target. FindsTarget finding.old finding.new target (group_reference reference.now)) }
+{
     match reference {
         GroupReference::Label(reference) => Ok(Target::Label(&reference.label)),
         GroupReference::Template(template) => Ok(Target::InLine(find_group(finding, template)?)),
@@ -164,11 +69,15 @@ pub fn group_target<'a>(
 fn find_action<'a>(
     finding: &mut Finding<'a>,
     template: &'a ActionTemplate,
-) -> Result<usize, AllocError> {
+) -> Result<usize, AllocError>
+    ensures { IfOk result (λ number. FindsTemplate finding.old finding.new number (action_term template.now)) }
+{
     let identifier = Some(&template.registration);
     let number = finding.begin(&template.label, identifier, Body::Action(template))?;
-    find_behaviours(finding, number, &template.behaviour)?;
-    find_parameters_clause(finding, number, &template.parameters)?;
+    let mut own = Vec::new(finding.alloc);
+    find_behaviour_clause(finding, &mut own, &template.behaviour)?;
+    find_parameter_clause(finding, &mut own, &template.parameters)?;
+    finding.end(number, own);
     Ok(number)
 }
 
@@ -176,29 +85,77 @@ fn find_action<'a>(
 pub fn action_target<'a>(
     finding: &mut Finding<'a>,
     reference: &'a ActionReference,
-) -> Result<Target<'a>, AllocError> {
+) -> Result<Target<'a>, AllocError>
+    ensures { IfOk result (λ target. FindsTarget finding.old finding.new target (action_reference reference.now)) }
+{
     match reference {
         ActionReference::Label(reference) => Ok(Target::Label(&reference.label)),
         ActionReference::Template(template) => Ok(Target::InLine(find_action(finding, template)?)),
     }
 }
 
+/// The attributes of fields.
+fn find_fields<'a>(
+    finding: &mut Finding<'a>,
+    own: &mut Vec<Mention<'a>>,
+    fields: &'a [Field],
+) -> Result<(), AllocError>
+    ensures { OnOk result (Finds finding.old finding.new own.old.items own.new.items
+        (in_fields (field_terms fields.now)) (field_mentions (field_terms fields.now))) }
+{
+    for field in fields.iter() {
+        let target = attribute_target(finding, &field.attribute)?;
+        own.push(Mention {
+            role: Role::FieldAttribute,
+            target,
+        })?;
+    }
+    Ok(())
+}
+
+/// AND ATTRIBUTE IDS.
+fn find_named_fields<'a>(
+    finding: &mut Finding<'a>,
+    own: &mut Vec<Mention<'a>>,
+    fields: &'a Option<Vec<Field>>,
+) -> Result<(), AllocError>
+    ensures { OnOk result (Finds finding.old finding.new own.old.items own.new.items (in_fields (fields_of fields.now))
+        (field_mentions (fields_of fields.now))) }
+{
+    match fields {
+        Some(fields) => find_fields(finding, own, fields.as_slice()),
+        None => Ok(()),
+    }
+}
+
+/// WITH INFORMATION SYNTAX.
+fn find_information<'a>(
+    finding: &mut Finding<'a>,
+    own: &mut Vec<Mention<'a>>,
+    information: &'a Option<Information>,
+) -> Result<(), AllocError>
+    ensures { OnOk result (Finds finding.old finding.new own.old.items own.new.items
+        (in_fields (information_fields information.now)) (field_mentions (information_fields information.now))) }
+{
+    match information {
+        Some(information) => find_named_fields(finding, own, &information.fields),
+        None => Ok(()),
+    }
+}
+
 fn find_notification<'a>(
     finding: &mut Finding<'a>,
     template: &'a NotificationTemplate,
-) -> Result<usize, AllocError> {
+) -> Result<usize, AllocError>
+    ensures { IfOk result (λ number. FindsTemplate finding.old finding.new number (notification_term template.now)) }
+{
     let identifier = Some(&template.registration);
     let number = finding.begin(&template.label, identifier, Body::Notification(template))?;
-    find_behaviours(finding, number, &template.behaviour)?;
-    find_parameters_clause(finding, number, &template.parameters)?;
-    if let Some(information) = &template.information {
-        if let Some(fields) = &information.fields {
-            for field in fields.iter() {
-                let target = attribute_target(finding, &field.attribute)?;
-                finding.name(number, Role::FieldAttribute, target)?;
-            }
-        }
-    }
+    let mut own = Vec::new(finding.alloc);
+    find_behaviour_clause(finding, &mut own, &template.behaviour)?;
+    find_parameter_clause(finding, &mut own, &template.parameters)?;
+    find_information(finding, &mut own, &template.information)?;
+    finding.end(number, own);
     Ok(number)
 }
 
@@ -206,12 +163,14 @@ fn find_notification<'a>(
 pub fn notification_target<'a>(
     finding: &mut Finding<'a>,
     reference: &'a NotificationReference,
-) -> Result<Target<'a>, AllocError> {
+) -> Result<Target<'a>, AllocError>
+    ensures { IfOk result (λ target. FindsTarget finding.old finding.new target (notification_reference reference.now)) }
+{
     match reference {
         NotificationReference::Label(reference) => Ok(Target::Label(&reference.label)),
-        NotificationReference::Template(template) => {
-            Ok(Target::InLine(find_notification(finding, template)?))
-        }
+        NotificationReference::Template(template) => Ok(Target::InLine(find_notification(
+            finding, template,
+        )?)),
     }
 }
 
@@ -219,7 +178,10 @@ pub fn notification_target<'a>(
 pub fn find_member<'a>(
     finding: &mut Finding<'a>,
     template: &'a MemberTemplate,
-) -> Result<usize, AllocError> {
+) -> Result<usize, AllocError>
+    ensures { IfOk result (λ number. FindsTemplate finding.old finding.new number
+        (member_placed template.now).template) }
+{
     match template {
         MemberTemplate::Attribute(template) => find_attribute(finding, template),
         MemberTemplate::Group(template) => find_group(finding, template),
@@ -231,7 +193,9 @@ pub fn find_member<'a>(
 }
 
 /// The document of a member's template.
-pub fn member_document(template: &MemberTemplate) -> u32 {
+pub fn member_document(template: &MemberTemplate) -> u32
+    ensures { result ≡ (member_placed template.now).document }
+{
     match template {
         MemberTemplate::Attribute(template) => template.document,
         MemberTemplate::Group(template) => template.document,

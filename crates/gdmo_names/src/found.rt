@@ -1,9 +1,12 @@
 //! Templates as they are found in documents, each with the templates that it names (X.722, section 8).
 
-ghost use Rattle.std.specs.Prelude.{◌≡◌};
+ghost use Rattle.std.specs.Prelude.{◌≡◌, IfOk, option_map};
+ghost use Rattle.gdmo_names.specs.FindingSteps.{Begins, Tells};
 ghost use Rattle.gdmo_names.specs.FoundViews.{body_term};
+ghost use Rattle.gdmo_names.specs.MemberViews.{identifier_term};
 ghost use Rattle.gdmo_names.specs.PartTerms.{kind_of_body};
 ghost use Rattle.gdmo_names.specs.Roles.{kind_term};
+ghost use Rattle.gdmo_names.specs.TemplateTerms.TemplateTerm.{Template};
 
 use crate::roles::{Role, TemplateKind};
 use gdmo_classes::class::ObjectClassTemplate;
@@ -108,8 +111,11 @@ impl<'a> Finding<'a> {
         label: &'a Token,
         identifier: Option<&'a ObjectIdentifier>,
         body: Body<'a>,
-    ) -> Result<usize, AllocError> {
-        let number = self.templates.len();
+    ) -> Result<usize, AllocError>
+        ensures { IfOk result (λ number. Begins self.old self.new number (Template label.now
+            (option_map (λ x. identifier_term x.now) identifier.entry) (body_term body.entry))) }
+    {
+        let number = self.templates.as_slice().len();
         let mentions = Vec::new(self.alloc);
         self.templates.push(Found {
             document: self.document,
@@ -121,16 +127,12 @@ impl<'a> Finding<'a> {
         Ok(number)
     }
 
-    /// Adds what a template names.
-    pub fn name(
-        &mut self,
-        number: usize,
-        role: Role,
-        target: Target<'a>,
-    ) -> Result<(), AllocError> {
-        if let Some(found) = self.templates.get_mut(number) {
-            found.mentions.push(Mention { role, target })?;
+    /// Tells what the template that has a number names.
+    pub fn end(&mut self, number: usize, mentions: Vec<Mention<'a>>)
+        ensures { Tells self.old self.new number mentions.entry }
+    {
+        if number < self.templates.len() {
+            self.templates[number].mentions = mentions;
         }
-        Ok(())
     }
 }

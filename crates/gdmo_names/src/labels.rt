@@ -5,14 +5,15 @@ ghost use Rattle.std.specs.Prelude.{if◌then◌else◌};
 ghost use Rattle.asn1_names.specs.FirstNames.{found};
 ghost use Rattle.asn1_names.specs.NameMeaning.{is_called};
 ghost use Rattle.gdmo_names.specs.FaultSets.{LabelledTwice, MeaningFaults, Notes, ReferenceFaults};
-ghost use Rattle.gdmo_names.specs.FaultSets.{TellsMeant};
-ghost use Rattle.gdmo_names.specs.FoundViews.{AreLabels, AreTemplates, IsReference, found_term, found_view};
-ghost use Rattle.gdmo_names.specs.FoundViews.{found_views, numbered, target_number};
+ghost use Rattle.gdmo_names.specs.FaultSets.{FaultsOfTemplates, TellsMeant, TemplateFaults};
+ghost use Rattle.gdmo_names.specs.FoundViews.{AreLabels, AreTemplates, IsReference, found_term};
+ghost use Rattle.gdmo_names.specs.FoundViews.{found_view, found_views, numbered, target_number};
 ghost use Rattle.gdmo_names.specs.LabelMeaning.{reference_token, stands_before};
 ghost use Rattle.gdmo_names.specs.LabelSteps.{DoubleBy, comes_behind, comes_first};
 ghost use Rattle.gdmo_names.specs.Mentions.{must_be_registered, wanted_kind};
 ghost use Rattle.gdmo_names.specs.PartTerms.{PartTerms, identifier_of, kind_of};
 ghost use Rattle.gdmo_names.specs.Roles.{role_term};
+ghost use Rattle.gdmo_names.specs.TargetTables.{AreFound, AreTargets, HasMentions, TellsTargets};
 ghost use Rattle.gdmo_names.specs.TemplateTerms.{ReferenceTerm};
 
 use crate::first_fault::{FaultKind, Faults};
@@ -218,20 +219,40 @@ pub fn meant_template<'a>(
     }
 }
 
+/// The templates that the references of a template mean, in the order of its mentions; none where one is missing.
+fn own_targets<'a>(
+    alloc: Global,
+    templates: &[Found<'a>],
+    labels: &IndexMap<&'a [u8], usize>,
+    found: &Found<'a>,
+    faults: &mut Faults,
+) -> Result<Vec<Option<usize>>, AllocError>
+    ensures { IfOk result (λ own. (parts : PartTerms) → AreTemplates parts templates.now →
+        AreLabels parts templates.now labels.now → HasMentions templates.now found.now →
+        (TellsTargets parts templates.now found.now own)
+        × Notes (TemplateFaults parts (found_view found.now)) faults.old.first faults.new.first) }
+{
+    let mut own = Vec::new(alloc);
+    for mention in found.mentions.iter() {
+        own.push(meant_template(templates, labels, found.document, mention, faults))?;
+    }
+    Ok(own)
+}
+
 /// The templates that the references of each template mean, in the order of its mentions; none where one is missing.
 pub fn targets_of<'a>(
     alloc: Global,
     templates: &[Found<'a>],
     labels: &IndexMap<&'a [u8], usize>,
     faults: &mut Faults,
-) -> Result<Vec<Vec<Option<usize>>>, AllocError> {
+) -> Result<Vec<Vec<Option<usize>>>, AllocError>
+    ensures { IfOk result (λ targets. (parts : PartTerms) → AreFound parts templates.now →
+        AreLabels parts templates.now labels.now → (AreTargets parts templates.now targets.items)
+        × Notes (FaultsOfTemplates parts) faults.old.first faults.new.first) }
+{
     let mut targets = Vec::new(alloc);
     for found in templates.iter() {
-        let mut own = Vec::new(alloc);
-        for mention in found.mentions.iter() {
-            own.push(meant_template(templates, labels, found.document, mention, faults))?;
-        }
-        targets.push(own)?;
+        targets.push(own_targets(alloc, templates, labels, found, faults)?)?;
     }
     Ok(targets)
 }

@@ -2,8 +2,10 @@
 //! docs/PROFILE.md, section 12).
 #![tactic(auto)]
 
+pub mod finding_attributes;
 pub mod finding_classes;
 pub mod finding_members;
+pub mod finding_packages;
 pub mod first_fault;
 pub mod found;
 pub mod labels;

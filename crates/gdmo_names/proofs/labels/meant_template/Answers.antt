@@ -2,7 +2,7 @@
 use Rattle.std.proofs.Common.{◌≡◌, ◌∙◌, None, Some, ap, option_map, rules, sym}
 use Rattle.std.proofs.lemmas.Bool.{true≢false}
 use Rattle.gdmo_names.specs.FoundViews.{found_term, found_view, found_views, numbered}
-use Rattle.gdmo_names.specs.LabelMeaning.{reference_token, target}
+use Rattle.gdmo_names.specs.LabelMeaning.{reference_token}
 use Rattle.gdmo_names.specs.PartTerms.{kind_of}
 use Rattle.gdmo_names.specs.Mentions.{wanted_kind}
 use Rattle.gdmo_names.specs.Roles.{role_term}

@@ -1,0 +1,10 @@
+use Rattle.std.proofs.Common.{map, take}
+use Rattle.std.specs.Prelude.{flat_map}
+use Rattle.gdmo_names.specs.DocumentTemplates.{placed_templates}
+use Rattle.gdmo_names.specs.FindingSteps.{AddsPlaced}
+use Rattle.gdmo_names.specs.PartViews.{member_placed}
+use Rattle.gdmo_names.proofs.finding_classes.find_members.Given as goal
+
+abbrev pub invariant-loop-template : goal.invariant-loop-template
+invariant-loop-template l = AddsPlaced l.initial.finding.templates.items l.finding.templates.items
+    (flat_map placed_templates (map member_placed (take l.template-index l.templates)))
