@@ -1,0 +1,8 @@
+-- Pairs of numbers behind a list.
+use Rattle.std.proofs.Common.{take}
+use Rattle.key_numbers.specs.KeyNumbers.{pairs_code}
+use Rattle.key_numbers.proofs.BuildingLaws.{IsBuilt}
+use Rattle.key_numbers.proofs.number_lists.NumberLists.extended_by_pairs.Given as goal
+
+abbrev pub invariant-loop-i : goal.invariant-loop-i
+invariant-loop-i l = IsBuilt l.fn.self l.before l.self l.list (pairs_code (take l.i l.pairs))
