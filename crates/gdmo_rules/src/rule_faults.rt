@@ -17,11 +17,11 @@ use gdmo_names::roles::{Role, TemplateKind};
 use gdmo_names::section_references::RuleTargets;
 use gdmo_types::compared_types::{ComparedType, are_other, attribute_type, stated_type};
 use gdmo_types::linkage::Linkage;
-use gdmo_types::type_numbers::TypeNumbers;
 use indexmap::IndexMap;
 use std::alloc::AllocError;
 use token_grammar::Token;
 use token_grammar::token_tests::{is_label, is_word_of};
+use type_numbers::numbered_types::TypeNumbers;
 
 /// What SET or REPLY takes.
 #[derive(Clone, Copy)]

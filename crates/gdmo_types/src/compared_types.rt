@@ -2,9 +2,9 @@
 
 use crate::attribute_types::{AttributeType, type_meaning};
 use crate::linkage::Linkage;
-use crate::type_numbers::TypeNumbers;
 use std::alloc::AllocError;
 use token_grammar::qualified_name::QualifiedName;
+use type_numbers::numbered_types::TypeNumbers;
 
 /// The type of an attribute, an argument or a reply.
 #[derive(Clone, Copy)]

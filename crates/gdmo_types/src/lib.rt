@@ -7,6 +7,4 @@ pub mod compared_types;
 pub mod linkage;
 pub mod module_names;
 pub mod notification_fields;
-pub mod number_lists;
-pub mod type_numbers;
-pub mod type_texts;
+pub mod role_targets;

@@ -4,12 +4,12 @@
 use crate::attribute_types::{targets_in_role, type_meaning};
 use crate::compared_types::{ComparedType, are_other, attribute_type};
 use crate::linkage::Linkage;
-use crate::type_numbers::TypeNumbers;
 use gdmo_members::notification::{Field, NotificationTemplate};
 use gdmo_names::first_fault::{FaultKind, Faults};
 use gdmo_names::found::Body;
 use gdmo_names::roles::Role;
 use std::alloc::AllocError;
+use type_numbers::numbered_types::TypeNumbers;
 
 /// Notes a field that is no component of the attribute's type.
 fn note_field(

@@ -1,0 +1,10 @@
+-- None of the mentions so far is in the role.
+use Rattle.std.proofs.Common.{ℕ}
+use Rattle.gdmo_names.specs.PartTerms.{PartTerms}
+use Rattle.gdmo_names.specs.Roles.{role_term}
+use Rattle.gdmo_types.proofs.RoleLaws.{NoneSoFar}
+use Rattle.gdmo_types.proofs.role_targets.first_number.Given as goal
+
+abbrev pub invariant-loop-k : goal.invariant-loop-k
+invariant-loop-k l = (parts : PartTerms) (document : ℕ) →
+    NoneSoFar parts l.templates document (role_term l.role) l.mentions l.numbers l.k

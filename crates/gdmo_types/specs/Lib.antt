@@ -1,0 +1,8 @@
+-- The definitions that the contracts of this crate cite.
+pub mod RoleTargets
+pub mod AttributeTypes
+pub mod TypeChains
+pub mod Linkages
+pub mod PlaceFaults
+pub mod ModuleNames
+pub mod QualifiedFaults
