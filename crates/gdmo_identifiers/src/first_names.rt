@@ -1,39 +1,11 @@
 //! The arcs for which first names stand (X.660, annex A; X.680, section 32; docs/PROFILE.md, section 12).
 
-ghost use Rattle.std.specs.Prelude.{◌≡◌};
-ghost use Rattle.asn1_names.specs.StandardModule.{is_same_name};
-ghost use Rattle.gdmo_names.specs.FirstNames.{root_arc};
-
 use crate::arc_texts::{FirstText, IdentifierText};
-use gdmo_types::number_lists::{EMPTY_LIST, NumberLists};
+use gdmo_first_names::roots::root_arc;
 use indexmap::IndexMap;
+use key_numbers::number_lists::{EMPTY_LIST, NumberLists};
 use std::alloc::{AllocError, Global};
 use token_grammar::Token;
-
-fn is_named(name: &[u8], word: &str) -> bool
-    ensures { result ≡ is_same_name name.now word.now }
-{
-    name == word.as_bytes()
-}
-
-/// The arc of a root's name.
-pub fn root_arc(name: &[u8]) -> Option<u64>
-    ensures { result ≡ root_arc name.now }
-{
-    if is_named(name, "itu-t") {
-        Some(0)
-    } else if is_named(name, "ccitt") {
-        Some(0)
-    } else if is_named(name, "iso") {
-        Some(1)
-    } else if is_named(name, "joint-iso-itu-t") {
-        Some(2)
-    } else if is_named(name, "joint-iso-ccitt") {
-        Some(2)
-    } else {
-        None
-    }
-}
 
 /// The number that digits say; the greatest number of 64 bits where it is a greater one, which no text has.
 pub fn arc_value(token: &Token) -> u64 {

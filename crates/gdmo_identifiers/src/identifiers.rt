@@ -3,44 +3,21 @@
 
 use crate::arc_texts::{FirstText, IdentifierText, identifier_text, value_text};
 use crate::begun_names::BegunNames;
-use crate::first_names::{FirstNames, ValueArcs, root_arc};
-use crate::identifier_types::identifier_types;
-use asn1_names::name_tables::{Meaning, NameTables};
+use crate::first_names::{FirstNames, ValueArcs};
+use asn1_names::name_tables::NameTables;
 use asn1_names::standard_module::standard_type;
 use asn1_syntax::module::{Assigned, Module};
+use gdmo_first_names::assigned_names::AssignedNames;
+use gdmo_first_names::roots::root_arc;
 use gdmo_names::first_fault::{FaultKind, Faults};
 use gdmo_names::found::Found;
-use gdmo_types::number_lists::NumberLists;
-use indexmap::IndexMap;
+use key_numbers::number_lists::NumberLists;
 use std::alloc::{AllocError, Global};
 use std::collections::BTreeMap;
 use term_values::Oid;
 use term_values::oid::MOST_ARCS;
 use token_grammar::Token;
 use token_grammar::object_identifier::ObjectIdentifier;
-
-/// The names that modules assign.
-#[derive(Drop)]
-pub struct AssignedNames<'a> {
-    /// All.
-    names: IndexMap<&'a [u8], ()>,
-    /// The numbers of the assignments that define first names, in order.
-    pub definers: Vec<usize>,
-    /// The number of the assignment by which the first module that defines a first name does.
-    pub defined: IndexMap<&'a [u8], usize>,
-}
-
-/// Whether an assignment defines a first name: an OBJECT IDENTIFIER value, the first of its name in its module.
-fn is_definer(tables: &NameTables, types: &[Option<bool>], number: usize) -> bool {
-    if types.get(number).copied().flatten() != Some(true) {
-        return false;
-    }
-    let Some((module, assignment)) = tables.assignment(number) else {
-        return false;
-    };
-    let name = assignment.name.text.as_slice();
-    root_arc(name).is_none() && tables.assigned_in(module, name) == Meaning::ValueAt(number)
-}
 
 /// What an assignment says as an object identifier.
 fn assigned_text<'a>(
@@ -55,33 +32,6 @@ fn assigned_text<'a>(
         },
         None => Ok(None),
     }
-}
-
-/// The names that modules assign, and the first names among them.
-pub fn assigned_names<'a>(
-    alloc: Global,
-    tables: &NameTables<'a>,
-) -> Result<AssignedNames<'a>, AllocError> {
-    let types = identifier_types(alloc, tables)?;
-    let mut assigned = AssignedNames {
-        names: IndexMap::new(alloc),
-        definers: Vec::new(alloc),
-        defined: IndexMap::new(alloc),
-    };
-    for number in 0..tables.count() {
-        let Some((_, assignment)) = tables.assignment(number) else {
-            continue;
-        };
-        let name = assignment.name.text.as_slice();
-        assigned.names.insert(name, ())?;
-        if is_definer(tables, types.as_slice(), number) {
-            assigned.definers.push(number)?;
-            if !assigned.defined.contains_key(name) {
-                assigned.defined.insert(name, number)?;
-            }
-        }
-    }
-    Ok(assigned)
 }
 
 /// The first names that modules define, with what their values say.
@@ -105,7 +55,7 @@ pub fn first_names<'a, 't>(
         defined: &assigned.defined,
         texts,
         known: vec![in alloc; ValueArcs::Unknown; tables.count()]?,
-        arcs: NumberLists::new(alloc)?,
+        arcs: NumberLists::new(alloc),
     })
 }
 

@@ -5,7 +5,6 @@
 pub mod arc_texts;
 pub mod begun_names;
 pub mod first_names;
-pub mod identifier_types;
 pub mod identifiers;
 pub mod module_values;
 pub mod section_values;

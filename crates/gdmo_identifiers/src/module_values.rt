@@ -8,9 +8,9 @@ use asn1_syntax::presence::Presence;
 use asn1_syntax::type_text::{Component, StructureText, TypeText};
 use asn1_types::Types;
 use asn1_values_syntax::value::ValueText;
-use gdmo_types::type_texts::TypeTexts;
 use std::alloc::{AllocError, Global};
 use term_values::{Parts, Syntax, SyntaxForm};
+use type_numbers::type_texts::TypeTexts;
 
 /// The value behind DEFAULT.
 fn default_of(component: &Component) -> Option<&ValueText> {

@@ -1,7 +1,7 @@
 -- The arc of a root's name is that of the definition: its tests in the same order.
 use Rattle.std.proofs.Common.{rules}
 use Rattle.gdmo_names.specs.FirstNames.{root_arc}
-use Rattle.gdmo_identifiers.proofs.first_names.root_arc.Goals as goal
+use Rattle.gdmo_first_names.proofs.roots.root_arc.Goals as goal
 
 pub returns-then-is_named : goal.returns-then-is_named
 unfolding root_arc
