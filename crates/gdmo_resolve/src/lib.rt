@@ -2,14 +2,9 @@
 //! one (X.722, section 8; docs/PROFILE.md, section 12).
 #![tactic(auto)]
 
-pub mod linking;
-pub mod linking_classes;
-pub mod linking_members;
-pub mod linking_sections;
-pub mod linking_templates;
 pub mod resolving;
+pub mod resolving_names;
 pub mod unequal_names;
-pub mod value_copies;
 
 pub use gdmo_names::{LabelRefusal, Parsed};
 pub use linked_parts::Linked;

@@ -1,19 +1,11 @@
 //! The call that replaces references by their targets, or tells the first fault (X.722, section 8; docs/PROFILE.md,
-//! section 12).
+//! section 12). Each step makes one table and lends it to the next one.
 
-use linked_parts::linked::Linked;
-use crate::linking::{Linker, assignment_places, kind_places};
-use crate::linking_sections::link_sections;
-use crate::linking_templates::{link_templates, nothing_linked};
-use crate::unequal_names::{linked_first_names, note_unequal};
+use crate::resolving_names::resolve_names;
 use asn1_names::name_tables::NameTables;
 use asn1_types::Types;
-use gdmo_identifiers::begun_names::BegunNames;
-use gdmo_identifiers::identifiers::{assigned_names, first_names, judge_modules, judge_templates};
-use gdmo_identifiers::module_values::mark_module_values;
-use gdmo_identifiers::section_values::mark_section_values;
 use gdmo_names::finding_classes::find_templates;
-use gdmo_names::first_fault::{Faults, refusal_of};
+use gdmo_names::first_fault::Faults;
 use gdmo_names::found::Found;
 use gdmo_names::labels::{label_table, note_double_labels, note_fixed_groups, targets_of};
 use gdmo_names::parsed::Parsed;
@@ -25,13 +17,28 @@ use gdmo_types::attribute_types::attribute_types;
 use gdmo_types::linkage::Linkage;
 use gdmo_types::module_names::{NamedThings, module_names};
 use gdmo_types::notification_fields::note_fields;
-use gdmo_types::type_numbers::TypeNumbers;
-use gdmo_types::type_texts::TypeTexts;
 use indexmap::IndexMap;
+use linked_parts::linked::Linked;
 use std::alloc::{AllocError, Global};
+use type_numbers::numbered_types::TypeNumbers;
+use type_numbers::type_texts::TypeTexts;
 
-/// Notes what is wrong with the names of types and values in templates, with FIXED groups, and with the names of
-/// modules.
+/// Notes what is wrong with the names of types and values in templates, and with FIXED groups.
+fn note_templates<'a>(
+    things: &NamedThings<'a, '_>,
+    templates: &[Found<'a>],
+    targets: &[Vec<Option<usize>>],
+    faults: &mut Faults,
+) {
+    for (number, found) in templates.iter().enumerate() {
+        things.note_template(found.document, &found.body, faults);
+        if let Some(own) = targets.get(number) {
+            note_fixed_groups(templates, found, own.as_slice(), faults);
+        }
+    }
+}
+
+/// Notes what is wrong with the names of modules, with those of types and values in templates, and with FIXED groups.
 fn note_names<'a>(
     alloc: Global,
     parts: &'a Parsed,
@@ -45,13 +52,36 @@ fn note_names<'a>(
         modules: &modules,
         types,
     };
-    for (number, found) in templates.iter().enumerate() {
-        things.note_template(found.document, &found.body, faults);
-        if let Some(own) = targets.get(number) {
-            note_fixed_groups(templates, found, own.as_slice(), faults);
-        }
-    }
+    note_templates(&things, templates, targets, faults);
     Ok(())
+}
+
+/// Judges the rules, over the graph of classes.
+fn judge_rules<'a, 't>(
+    linkage: &Linkage<'a, 't>,
+    numbers: &mut TypeNumbers<'a, 't>,
+    parts: &'a Parsed,
+    targets: &SectionTargets,
+    faults: &mut Faults,
+) -> Result<(), AllocError> {
+    let sections = parts.sections.as_slice();
+    let graph = class_graph(linkage, sections, targets.instances.as_slice())?;
+    let mut judge = RuleJudge::new(*linkage, numbers);
+    judge.judge_rules(sections, targets.rules.as_slice(), &graph, faults)
+}
+
+/// Notes what depends on the types of attributes, and on the attributes of classes, with numbers for types.
+fn note_typed<'a, 't>(
+    linkage: &Linkage<'a, 't>,
+    numbers: &mut TypeNumbers<'a, 't>,
+    parts: &'a Parsed,
+    targets: &SectionTargets,
+    faults: &mut Faults,
+) -> Result<(), AllocError> {
+    note_fields(linkage, numbers, faults)?;
+    let sections = parts.sections.as_slice();
+    note_stated_twice(linkage.alloc, sections, targets.rules.as_slice(), faults)?;
+    judge_rules(linkage, numbers, parts, targets, faults)
 }
 
 /// Notes what depends on the types of attributes, and on the attributes of classes.
@@ -62,17 +92,12 @@ fn note_members<'a>(
     targets: &SectionTargets,
     faults: &mut Faults,
 ) -> Result<(), AllocError> {
-    let sections = parts.sections.as_slice();
     let mut numbers = TypeNumbers::new(linkage.alloc, linkage.types, texts)?;
-    note_fields(linkage, &mut numbers, faults)?;
-    note_stated_twice(linkage.alloc, sections, targets.rules.as_slice(), faults)?;
-    let graph = class_graph(linkage, sections, targets.instances.as_slice())?;
-    let mut judge = RuleJudge::new(*linkage, &mut numbers);
-    judge.judge_rules(sections, targets.rules.as_slice(), &graph, faults)
+    note_typed(linkage, &mut numbers, parts, targets, faults)
 }
 
-/// Judges the identifiers, and links everything where there is no fault.
-fn link<'a>(
+/// Judges what the sections name, and links everything where there is no fault.
+fn resolve_targets<'a>(
     linkage: &Linkage<'a, '_>,
     tables: &NameTables<'a>,
     texts: &TypeTexts<'a, '_>,
@@ -80,55 +105,82 @@ fn link<'a>(
     targets: &SectionTargets,
     faults: &mut Faults,
 ) -> Result<Linked, LabelRefusal> {
-    let alloc = linkage.alloc;
-    let modules = parts.modules.as_slice();
-    let assigned = assigned_names(alloc, tables)?;
-    let mut first = first_names(alloc, tables, &assigned)?;
-    let mut names = BegunNames {
-        defined: &assigned.defined,
-        begun: vec![in alloc; false; tables.count()]?,
-    };
-    mark_module_values(alloc, tables, texts, linkage.types, &mut names)?;
-    mark_section_values(linkage, parts.sections.as_slice(), targets, &mut names)?;
-    judge_modules(alloc, &assigned, &first, modules, &mut names, faults)?;
-    let templates = linkage.templates;
-    let identifiers = judge_templates(alloc, &assigned, &mut first, templates, &mut names, faults)?;
-    let begun = names.begun.as_slice();
-    let definers = assigned.definers.as_slice();
-    note_unequal(alloc, tables, modules, definers, &mut first, begun, faults)?;
-    if let Some(fault) = faults.first {
-        return Err(refusal_of(fault));
-    }
-    let places = kind_places(alloc, templates)?;
-    let assignments = assignment_places(alloc, tables)?;
-    let linker = Linker {
-        linkage: *linkage,
-        places: places.as_slice(),
-        assignments: assignments.as_slice(),
-    };
-    let mut linked = nothing_linked(alloc);
-    link_templates(&linker, identifiers, &mut linked)?;
-    link_sections(&linker, parts.sections.as_slice(), targets, &mut linked)?;
-    linked.first_names = linked_first_names(alloc, tables, &mut first, definers, begun)?;
-    Ok(linked)
+    note_members(linkage, texts, parts, targets, faults)?;
+    resolve_names(linkage, tables, texts, parts, targets, faults)
 }
 
 /// Resolves the sections, and links everything where there is no fault.
-fn resolve_linkage<'a>(
+fn resolve_sections<'a>(
     linkage: &Linkage<'a, '_>,
     tables: &NameTables<'a>,
+    texts: &TypeTexts<'a, '_>,
     parts: &'a Parsed,
     faults: &mut Faults,
 ) -> Result<Linked, LabelRefusal> {
-    let texts = TypeTexts::new(linkage.alloc, tables)?;
     let labelled = Labelled {
         alloc: linkage.alloc,
         templates: linkage.templates,
         labels: linkage.labels,
     };
     let targets = labelled.section_targets(parts.sections.as_slice(), faults)?;
-    note_members(linkage, &texts, parts, &targets, faults)?;
-    link(linkage, tables, &texts, parts, &targets, faults)
+    resolve_targets(linkage, tables, texts, parts, &targets, faults)
+}
+
+/// Resolves what depends on the texts of types.
+fn resolve_texts<'a>(
+    linkage: &Linkage<'a, '_>,
+    tables: &NameTables<'a>,
+    parts: &'a Parsed,
+    faults: &mut Faults,
+) -> Result<Linked, LabelRefusal> {
+    let texts = TypeTexts::new(linkage.alloc, tables)?;
+    resolve_sections(linkage, tables, &texts, parts, faults)
+}
+
+/// Resolves what depends on the names of modules.
+fn resolve_linkage<'a>(
+    linkage: &Linkage<'a, '_>,
+    parts: &'a Parsed,
+    faults: &mut Faults,
+) -> Result<Linked, LabelRefusal> {
+    let tables = NameTables::new(linkage.alloc, parts.modules.as_slice())?;
+    resolve_texts(linkage, &tables, parts, faults)
+}
+
+/// Resolves what depends on the types of attributes.
+fn resolve_attributes<'a>(
+    alloc: Global,
+    parts: &'a Parsed,
+    types: &Types<'a>,
+    templates: &[Found<'a>],
+    labels: &IndexMap<&'a [u8], usize>,
+    targets: &[Vec<Option<usize>>],
+    faults: &mut Faults,
+) -> Result<Linked, LabelRefusal> {
+    let attributes = attribute_types(alloc, templates, targets, types)?;
+    let linkage = Linkage {
+        alloc,
+        templates,
+        labels,
+        targets,
+        types,
+        attributes: attributes.as_slice(),
+    };
+    resolve_linkage(&linkage, parts, faults)
+}
+
+/// Judges the names in templates whose references were looked up, and resolves the rest.
+fn resolve_templates<'a>(
+    alloc: Global,
+    parts: &'a Parsed,
+    types: &Types<'a>,
+    templates: &[Found<'a>],
+    labels: &IndexMap<&'a [u8], usize>,
+    targets: &[Vec<Option<usize>>],
+    faults: &mut Faults,
+) -> Result<Linked, LabelRefusal> {
+    note_names(alloc, parts, types, templates, targets, faults)?;
+    resolve_attributes(alloc, parts, types, templates, labels, targets, faults)
 }
 
 /// Resolves the references of templates that were found, whose labels have these meanings.
@@ -141,18 +193,15 @@ fn resolve_labelled<'a>(
     faults: &mut Faults,
 ) -> Result<Linked, LabelRefusal> {
     let targets = targets_of(alloc, templates, labels, faults)?;
-    note_names(alloc, parts, types, templates, targets.as_slice(), faults)?;
-    let attributes = attribute_types(alloc, templates, targets.as_slice(), types)?;
-    let tables = NameTables::new(alloc, parts.modules.as_slice())?;
-    let linkage = Linkage {
+    resolve_templates(
         alloc,
+        parts,
+        types,
         templates,
         labels,
-        targets: targets.as_slice(),
-        types,
-        attributes: attributes.as_slice(),
-    };
-    resolve_linkage(&linkage, &tables, parts, faults)
+        targets.as_slice(),
+        faults,
+    )
 }
 
 /// Resolves the references of templates that were found.

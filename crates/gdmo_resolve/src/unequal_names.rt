@@ -1,12 +1,12 @@
 //! First names to which modules give unequal values, and what first names stand for (X.680, section 32;
 //! docs/PROFILE.md, section 12).
 
-use linked_parts::linked::LinkedFirstName;
 use asn1_names::name_tables::NameTables;
 use asn1_syntax::module::Module;
 use gdmo_identifiers::first_names::{FirstNames, ValueArcs};
 use gdmo_names::first_fault::{FaultKind, Faults};
 use indexmap::IndexMap;
+use linked_parts::linked::LinkedFirstName;
 use std::alloc::{AllocError, Global};
 use term_values::oid::MOST_ARCS;
 use token_grammar::token_reading::copy_token;

@@ -1,6 +1,6 @@
 -- LinkedSections: which linked rule or instance is that of which rule or instance of a section (docs/PROFILE.md,
 -- sections 9 and 12). A value is told by what its text says.
-use Rattle.std.specs.Prelude.{◌≡◌, ℕ, List, [], ◌∷◌, Option}
+use Rattle.std.specs.Prelude.{◌≡◌, ℕ, Option}
 use Rattle.std.specs.Str.Parse.{digits_value}
 use Rattle.token_grammar.specs.declared.token.Token.{Token}
 use Rattle.token_grammar.specs.Form.{Tree}
@@ -12,7 +12,8 @@ use Rattle.linked_parts.specs.declared.linked.LinkedRule.{LinkedRule}
 use Rattle.linked_parts.specs.declared.linked.LinkedStep.{LinkedStep}
 use Rattle.linked_parts.specs.declared.linked.LinkedStep.TheVariants.{SetArgument, SetValue, Add, Emit, ReplyArgument}
 use Rattle.linked_parts.specs.declared.linked.LinkedStep.TheVariants.{ReplyAttribute, ReplyValue}
-use Rattle.gdmo_resolve.specs.LinkedTables.{Links}
+use Rattle.gdmo_linking.specs.LinkedTables.{Links}
+use Rattle.gdmo_names.specs.InStep.{AreEach}
 use Rattle.gdmo_names.specs.Mentions.{Role}
 use Rattle.gdmo_names.specs.Mentions.Role.{RuleClass, RuleAction, StepAttribute, StepNotification, InstanceClass}
 use Rattle.gdmo_names.specs.Mentions.Role.{NameAttribute, GivenAttribute, ChosenPackage}
@@ -44,35 +45,25 @@ pub data IsStep (parts : PartTerms) (rule : RuleTerm) : StepTerm → LinkedStep 
   reply_value : {tree : Tree} {value : ValueText} → taken_term value ≡ OtherValue tree →
       IsStep parts rule (ReplyWith (OtherValue tree)) (ReplyValue value)
 
-abbrev pub AreSteps : PartTerms → RuleTerm → List StepTerm → List LinkedStep → Type 0
-AreSteps parts rule [] [] = Unit {0}
-AreSteps parts rule (step ∷ steps) (x ∷ xs) = IsStep parts rule step x × AreSteps parts rule steps xs
-AreSteps parts rule _ _ = ⊥
-
 pub record IsRule (parts : PartTerms) (rule : RuleTerm) (x : LinkedRule) : Type 0 where
   pub document : x.document ≡ rule.document
   pub is_class : Links parts rule.document RuleClass (ByLabel rule.class) x.class
   pub is_action : Links parts rule.document RuleAction (ByLabel rule.action) x.action
-  pub steps_are : AreSteps parts rule rule.steps x.steps.items
+  pub steps_are : AreEach (IsStep parts rule) rule.steps x.steps.items
 
--- pairs of an attribute and its value
-abbrev pub ArePairs : PartTerms → ℕ → Role → List PairTerm → List LinkedPair → Type 0
-ArePairs parts document role [] [] = Unit {0}
-ArePairs parts document role (pair ∷ pairs) (x ∷ xs) =
-    Links parts document role (ByLabel pair.attribute) x.attribute × (value_tree x.value ≡ pair.value)
-    × ArePairs parts document role pairs xs
-ArePairs parts document role _ _ = ⊥
+-- a pair of an attribute and its value
+pub record IsPair (parts : PartTerms) (document : ℕ) (role : Role) (pair : PairTerm) (x : LinkedPair) : Type 0 where
+  pub is_attribute : Links parts document role (ByLabel pair.attribute) x.attribute
+  pub is_value : value_tree x.value ≡ pair.value
 
-abbrev pub AreChosen : PartTerms → ℕ → List Token → List ℕ → Type 0
-AreChosen parts document [] [] = Unit {0}
-AreChosen parts document (label ∷ labels) (k ∷ ks) =
-    Links parts document ChosenPackage (ByLabel label) k × AreChosen parts document labels ks
-AreChosen parts document _ _ = ⊥
+-- a package that is chosen
+abbrev pub IsChosen : PartTerms → ℕ → Token → ℕ → Type 0
+IsChosen parts document label k = Links parts document ChosenPackage (ByLabel label) k
 
 pub record IsInstance (parts : PartTerms) (instance : InstanceTerm) (x : LinkedInstance) : Type 0 where
   pub document : x.document ≡ instance.document
   pub is_root : x.is_root ≡ instance.is_root
   pub is_class : Links parts instance.document InstanceClass (ByLabel instance.class) x.class
-  pub name_is : ArePairs parts instance.document NameAttribute instance.name x.name.items
-  pub given_are : ArePairs parts instance.document GivenAttribute instance.given x.given.items
-  pub packages_are : AreChosen parts instance.document instance.packages x.packages.items
+  pub name_is : AreEach (IsPair parts instance.document NameAttribute) instance.name x.name.items
+  pub given_are : AreEach (IsPair parts instance.document GivenAttribute) instance.given x.given.items
+  pub packages_are : AreEach (IsChosen parts instance.document) instance.packages x.packages.items

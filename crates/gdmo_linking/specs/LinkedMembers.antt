@@ -13,8 +13,8 @@ use Rattle.linked_parts.specs.declared.linked.LinkedGroup.{LinkedGroup}
 use Rattle.linked_parts.specs.declared.linked.LinkedNotification.{LinkedNotification}
 use Rattle.linked_parts.specs.declared.linked.LinkedSyntax.{LinkedSyntax}
 use Rattle.linked_parts.specs.declared.linked.LinkedSyntax.TheVariants.{OfType as LinkedType, OfAttribute as LinkedBase}
-use Rattle.gdmo_resolve.specs.LinkedNames.{IsLinkedName, IsOptionalName}
-use Rattle.gdmo_resolve.specs.LinkedTables.{Links, AreLinked}
+use Rattle.gdmo_linking.specs.LinkedNames.{IsLinkedName, IsOptionalName}
+use Rattle.gdmo_linking.specs.LinkedTables.{Links, AreLinked}
 use Rattle.gdmo_names.specs.Mentions.Role.{SubordinateClass, SuperiorClass, NamingAttribute, BaseAttribute}
 use Rattle.gdmo_names.specs.Mentions.Role.{GroupElement, FieldAttribute}
 use Rattle.gdmo_names.specs.PartTerms.{PartTerms}

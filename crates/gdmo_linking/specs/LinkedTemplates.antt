@@ -10,8 +10,8 @@ use Rattle.linked_parts.specs.declared.linked.LinkedGroupUse.{LinkedGroupUse}
 use Rattle.linked_parts.specs.declared.linked.LinkedPackage.{LinkedPackage}
 use Rattle.linked_parts.specs.declared.linked.LinkedUse.{LinkedUse}
 use Rattle.gdmo_names.specs.LabelMeaning.{reference_token}
-use Rattle.gdmo_resolve.specs.LinkedNames.{IsOptionalName, stated_name, has_either, first_of}
-use Rattle.gdmo_resolve.specs.LinkedTables.{Links, AreLinked}
+use Rattle.gdmo_linking.specs.LinkedNames.{IsOptionalName, stated_name, has_either, first_of}
+use Rattle.gdmo_linking.specs.LinkedTables.{Links, AreLinked}
 use Rattle.gdmo_names.specs.Mentions.{Role}
 use Rattle.gdmo_names.specs.Mentions.Role.{Superclass, MandatoryPackage, ConditionalPackage, PackageAttribute}
 use Rattle.gdmo_names.specs.Mentions.Role.{PackageGroup, AddedAttribute, PackageAction, PackageNotification}

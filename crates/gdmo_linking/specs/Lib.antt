@@ -5,3 +5,6 @@ pub mod LinkedTemplates
 pub mod LinkedMembers
 pub mod LinkedSections
 pub mod LinkedParts
+pub mod InRoles
+pub mod Linkers
+pub mod MemberTexts
