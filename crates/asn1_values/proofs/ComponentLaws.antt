@@ -14,7 +14,7 @@ use Rattle.term_values.specs.declared.syntax.Part.{Part}
 use Rattle.term_values.specs.declared.value.Slot.{Slot}
 use Rattle.term_values.specs.declared.value.Slot.TheVariants.{Absent, Present}
 use Rattle.asn1_values_syntax.specs.declared.value.ValuePart.{ValuePart}
-use Rattle.asn1_values.specs.Denoted.{denoted, is_meant, members_said, components_said, unordered_said, taken_out}
+use Rattle.asn1_values.specs.Denoted.{Reading, denoted, is_meant, members_said, components_said, unordered_said, taken_out}
 use Rattle.asn1_values.specs.Denoted.{only_where, where_taken}
 use Rattle.asn1_values.specs.Literals.{same_name}
 use Rattle.asn1_values.specs.Steps.{part_names, next_comes, left_of, no_texts, slot_by, next_slot}
@@ -75,7 +75,7 @@ member_named member before part left rest e named =
 
 -- ---- components in the order of the type
 
-pub part_there : (filter : TextValue → Option TypedValue) (before : List Slot) (names more : List (List ℕ))
+pub part_there : (filter : Reading) (before : List Slot) (names more : List (List ℕ))
     (part : Part)
     (left rest : List Part) (texts : List ValuePart) (x : ValuePart) (xs : List ValuePart) (v : TypedValue)
     → left ≡ part ∷ rest → texts ≡ x ∷ xs → more ≡ names ++ part.name ∷ []
@@ -89,7 +89,7 @@ part_there filter before names more part left rest texts x xs v e f m comes is =
     rw (e, f, m) (rw (there, is) (slot_read before (Present v)
     (components_said filter (names ++ part.name ∷ []) (parts_listed rest) (parts_said xs))))
 
-pub part_bad : (filter : TextValue → Option TypedValue) (before : List Slot) (names : List (List ℕ)) (part : Part)
+pub part_bad : (filter : Reading) (before : List Slot) (names : List (List ℕ)) (part : Part)
     (left rest : List Part) (texts : List ValuePart) (x : ValuePart) (xs : List ValuePart)
     → left ≡ part ∷ rest → texts ≡ x ∷ xs
     → next_comes part.name names (parts_said texts) ≡ true → denoted filter part.syntax (said_value x) ≡ None
@@ -99,14 +99,14 @@ part_bad filter before names part left rest texts x xs e f comes is =
     sym (ap (λ ys. next_comes part.name names (parts_said ys)) f) ∙ comes in
     rw (e, f) (rw (there, is) refl)
 
-skipped : (filter : TextValue → Option TypedValue) (names : List (List ℕ)) (part : Part) (rest : List Part)
+skipped : (filter : Reading) (names : List (List ℕ)) (part : Part) (rest : List Part)
     (texts : TextParts) → next_comes part.name names texts ≡ false
     → components_said filter names (parts_listed (part ∷ rest)) texts
     ≡ left_out part.optional part.default (components_said filter (names ++ part.name ∷ []) (parts_listed rest) texts)
 skipped filter names part rest NoTexts comes = refl
 skipped filter names part rest (AndText own text others) comes = rw comes refl
 
-pub part_absent : (filter : TextValue → Option TypedValue) (before : List Slot) (names more : List (List ℕ))
+pub part_absent : (filter : Reading) (before : List Slot) (names more : List (List ℕ))
     (part : Part) (left rest : List Part) (texts : TextParts) (slot : Slot)
     → left ≡ part ∷ rest → more ≡ names ++ part.name ∷ [] → next_comes part.name names texts ≡ false
     → slot_left_out part.optional part.default ≡ Some slot
@@ -118,7 +118,7 @@ part_absent filter before names more part left rest texts slot e m comes is =
     (components_said filter (names ++ part.name ∷ []) (parts_listed rest) texts) is)
     ∙ slot_read before slot (components_said filter (names ++ part.name ∷ []) (parts_listed rest) texts))
 
-pub part_missing : (filter : TextValue → Option TypedValue) (before : List Slot) (names : List (List ℕ))
+pub part_missing : (filter : Reading) (before : List Slot) (names : List (List ℕ))
     (part : Part) (left rest : List Part) (texts : TextParts)
     → left ≡ part ∷ rest → next_comes part.name names texts ≡ false
     → slot_left_out part.optional part.default ≡ None
@@ -129,7 +129,7 @@ part_missing filter before names part left rest texts e comes is =
     (components_said filter (names ++ part.name ∷ []) (parts_listed rest) texts) is))
 
 -- texts behind the last component
-pub too_many : (filter : TextValue → Option TypedValue) (names : List (List ℕ)) (parts : List Part)
+pub too_many : (filter : Reading) (names : List (List ℕ)) (parts : List Part)
     (texts : List ValuePart) (at : ℕ) → parts ≡ [] → at < length texts
     → components_said filter names (parts_listed parts) (parts_said (drop at texts)) ≡ None
 too_many filter names parts [] at e h = absurd (omega arith)

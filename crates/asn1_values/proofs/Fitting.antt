@@ -32,10 +32,11 @@ use Rattle.typed_laws.proofs.LeavesTold.{where_is}
 use Rattle.typed_laws.proofs.WritableLaws.{contents_within}
 use Rattle.typed_laws.proofs.WritingStatements.{written_is_read_again_holds}
 use Rattle.typed_laws.specs.Nesting.{nesting}
-use Rattle.asn1_values.specs.Denoted.{denoted, components_said, unordered_said, picked_said, chosen_by, members_said}
-use Rattle.asn1_values.specs.Denoted.{is_meant, only_where, taken_out, where_taken}
+use Rattle.asn1_values.specs.Denoted.{Reading, denoted, components_said, unordered_said, picked_said, chosen_by}
+use Rattle.asn1_values.specs.Denoted.{is_meant, members_said, only_where, reading_of, taken_out, where_taken}
 use Rattle.asn1_values.specs.Filters.{filter_said, filters_said, each_said, item_said, no_filter, alternative}
-use Rattle.asn1_values.specs.Filters.{rising_filters, where_unnamed, value_said}
+use Rattle.asn1_values.specs.Arcs.{NamedArcs}
+use Rattle.asn1_values.specs.Filters.{rising_filters, where_unnamed, value_named}
 use Rattle.asn1_values.specs.Literals.{same_name}
 use Rattle.asn1_values.specs.TextValues.{TextValue, TextParts, parts_of}
 use Rattle.asn1_values.specs.TextValues.TextValue.{Literal, Number, Name, Chosen, InBraces, InArcs}
@@ -52,8 +53,8 @@ contents_few constructed tag contents h =
     contents_within (identifier_octets constructed tag) (length_octets (length contents)) contents 4294967296 h
 
 -- what a CMISFilter's text denotes fits
-abbrev FiltersFit : (TextValue → Option TypedValue) → Type 0
-FiltersFit filter = (text : TextValue) (v : TypedValue) → filter text ≡ Some v → IsFitting Filter v
+abbrev FiltersFit : Reading → Type 0
+FiltersFit reading = (text : TextValue) (v : TypedValue) → reading.filter text ≡ Some v → IsFitting Filter v
 
 -- the alternative that is picked, counted from the first of these, of which so many stand before
 record IsPicked (k : ℕ) (parts : TypeParts) (v : TypedValue) : Type 0 where
@@ -125,7 +126,7 @@ none_fit : (slots : TypedSlots) → Some NoSlots ≡ Some slots → PartsFit NoP
 none_fit slots e = subst (PartsFit NoParts) (same_Some NoSlots slots e) tt
 
 mutual
-  pub said_fits : (filter : TextValue → Option TypedValue) → FiltersFit filter → (syntax : TypeSyntax)
+  pub said_fits : (filter : Reading) → FiltersFit filter → (syntax : TypeSyntax)
       (tag : Option Tag) (text : TextValue) (v : TypedValue) → denoted filter syntax text ≡ Some v
       → HasFittingDefaults syntax → Few (der_as tag syntax v) → Fits syntax v
   said_fits filter f Boolean tag text v e d short = truth_fits text v e
@@ -134,7 +135,7 @@ mutual
   said_fits filter f (BitString names sizes) tag text v e d short = bit_string_fits names sizes text v e
   said_fits filter f (OctetString sizes) tag text v e d short = octet_string_fits sizes text v e
   said_fits filter f NullType tag text v e d short = null_fits text v e
-  said_fits filter f ObjectIdentifier tag text v e d short = identifier_fits text v e
+  said_fits filter f ObjectIdentifier tag text v e d short = identifier_fits filter.names text v e
   said_fits filter f (TextString charset sizes) tag text v e d short = text_fits charset sizes text v e
   said_fits filter f GeneralizedTime tag text v e d short = time_fits text v e
   said_fits filter f (Sequence parts) tag text v e d short =
@@ -196,7 +197,7 @@ mutual
   said_fits filter f Any tag text v e d short = any_fits text v e short
   said_fits filter f Filter tag text v e d short = f text v e short
 
-  parts_fit : (filter : TextValue → Option TypedValue) → FiltersFit filter → (parts : TypeParts)
+  parts_fit : (filter : Reading) → FiltersFit filter → (parts : TypeParts)
       (before : List (List ℕ)) (texts : TextParts) → HaveFittingDefaults parts
       → AreFitting parts (components_said filter before parts texts)
   parts_fit filter f NoParts before NoTexts d = λ slots e short. none_fit slots e
@@ -217,7 +218,7 @@ mutual
       (components_said filter (before ++ name ∷ []) rest (AndText own text others)) d.0
       (parts_fit filter f rest (before ++ name ∷ []) (AndText own text others) d.2))
 
-  unordered_fit : (filter : TextValue → Option TypedValue) → FiltersFit filter → (parts : TypeParts)
+  unordered_fit : (filter : Reading) → FiltersFit filter → (parts : TypeParts)
       (before : List (List ℕ)) (texts : TextParts) → HaveFittingDefaults parts
       → AreFitting parts (unordered_said filter before parts texts)
   unordered_fit filter f NoParts before NoTexts d = λ slots e short. none_fit slots e
@@ -235,7 +236,7 @@ mutual
       (absent_fits name syntax optional default rest (unordered_said filter (before ++ name ∷ []) rest texts) d.0
       (unordered_fit filter f rest (before ++ name ∷ []) texts d.2))
 
-  pick_fits : (filter : TextValue → Option TypedValue) → FiltersFit filter → (parts : TypeParts) (k : ℕ)
+  pick_fits : (filter : Reading) → FiltersFit filter → (parts : TypeParts) (k : ℕ)
       (name : List ℕ) (text : TextValue) (v : TypedValue) → picked_said filter k parts name text ≡ Some v
       → HaveFittingDefaults parts → IsPicked k parts v
   pick_fits filter f NoParts k name text v e d = absurd (none-some _ e)
@@ -256,8 +257,8 @@ mutual
 
 -- ---- filters
 
-item_fits : (text : TextValue) (v : TypedValue) → item_said text ≡ Some v → IsFitting filter_item v
-item_fits text v e short = said_fits no_filter (λ inner x g. absurd (none-some _ g)) filter_item None text v e
+item_fits : (names : NamedArcs) (text : TextValue) (v : TypedValue) → item_said names text ≡ Some v → IsFitting filter_item v
+item_fits names text v e short = said_fits (reading_of no_filter names) (λ inner x g. absurd (none-some _ g)) filter_item None text v e
     no_defaults short
   where
     no_defaults : HasFittingDefaults filter_item
@@ -335,39 +336,41 @@ unnamed_is [] found v e = e
 unnamed_is (first ∷ more) found v e = absurd (none-some _ e)
 
 mutual
-  filter_fits : (text : TextValue) (v : TypedValue) → filter_said text ≡ Some v → IsFitting Filter v
-  filter_fits (Chosen name text) v e short =
+  filter_fits : (names : NamedArcs) (text : TextValue) (v : TypedValue) → filter_said names text ≡ Some v → IsFitting Filter v
+  filter_fits names (Chosen name text) v e short =
       let m = map_some (λ value. Raw (der filter_choice value))
-      (alternative name (item_said text) (filters_said text) (filter_said text)) v e in
+      (alternative name (item_said names text) (filters_said names text) (filter_said names text)) v e in
       let few = subst (λ (x : TypedValue). Few (der Filter x)) (sym m.2) short in
       subst (Fits Filter) m.2
       (kept_fits m.0
-      (alternative_fits name (item_said text) (filters_said text) (filter_said text) m.0 m.1
-      (item_fits text) (filters_fit text) (filter_fits text) few) few)
-  filter_fits (Literal token) v e short = absurd (none-some _ e)
-  filter_fits (Number minus digits) v e short = absurd (none-some _ e)
-  filter_fits (Name name) v e short = absurd (none-some _ e)
-  filter_fits (InBraces parts) v e short = absurd (none-some _ e)
-  filter_fits (InArcs name digits) v e short = absurd (none-some _ e)
+      (alternative_fits name (item_said names text) (filters_said names text) (filter_said names text) m.0 m.1
+      (item_fits names text) (filters_fit names text) (filter_fits names text) few) few)
+  filter_fits names (Literal token) v e short = absurd (none-some _ e)
+  filter_fits names (Number minus digits) v e short = absurd (none-some _ e)
+  filter_fits names (Name name) v e short = absurd (none-some _ e)
+  filter_fits names (InBraces parts) v e short = absurd (none-some _ e)
+  filter_fits names (InArcs name digits) v e short = absurd (none-some _ e)
 
-  filters_fit : (text : TextValue) (xs : TypedValues) → filters_said text ≡ Some xs → AllFit (IsFitting Filter) xs
-  filters_fit (InBraces parts) xs e = each_fit parts xs e
-  filters_fit (Literal token) xs e = absurd (none-some _ e)
-  filters_fit (Number minus digits) xs e = absurd (none-some _ e)
-  filters_fit (Name name) xs e = absurd (none-some _ e)
-  filters_fit (Chosen name text) xs e = absurd (none-some _ e)
-  filters_fit (InArcs name digits) xs e = absurd (none-some _ e)
+  filters_fit : (names : NamedArcs) (text : TextValue) (xs : TypedValues) → filters_said names text ≡ Some xs → AllFit (IsFitting Filter) xs
+  filters_fit names (InBraces parts) xs e = each_fit names parts xs e
+  filters_fit names (Literal token) xs e = absurd (none-some _ e)
+  filters_fit names (Number minus digits) xs e = absurd (none-some _ e)
+  filters_fit names (Name name) xs e = absurd (none-some _ e)
+  filters_fit names (Chosen name text) xs e = absurd (none-some _ e)
+  filters_fit names (InArcs name digits) xs e = absurd (none-some _ e)
 
-  each_fit : (texts : TextParts) (xs : TypedValues) → each_said texts ≡ Some xs → AllFit (IsFitting Filter) xs
-  each_fit NoTexts xs e =
+  each_fit : (names : NamedArcs) (texts : TextParts) (xs : TypedValues) → each_said names texts ≡ Some xs → AllFit (IsFitting Filter) xs
+  each_fit names NoTexts xs e =
       subst (AllFit (IsFitting Filter)) (same_Some Nothing xs e) tt
-  each_fit (AndText name text others) xs e =
-      let f = then_some (λ v. option_map (Then v) (each_said others)) (where_unnamed name (filter_said text)) xs e in
-      let m = map_some (Then f.0) (each_said others) xs f.2 in
+  each_fit names (AndText name text others) xs e =
+      let f = then_some (λ v. option_map (Then v) (each_said names others)) (where_unnamed name (filter_said names text)) xs e in
+      let m = map_some (Then f.0) (each_said names others) xs f.2 in
       subst (AllFit (IsFitting Filter)) m.2
-      (filter_fits text f.0 (unnamed_is name (filter_said text) f.0 f.1), each_fit others m.0 m.1)
+      (filter_fits names text f.0 (unnamed_is name (filter_said names text) f.0 f.1), each_fit names others m.0 m.1)
 
 -- the value that a text denotes in a syntax fits it
-pub value_fits : (syntax : TypeSyntax) (text : TextValue) (v : TypedValue) → value_said syntax text ≡ Some v
-    → HasFittingDefaults syntax → length (der syntax v) < 4294967296 → Fits syntax v
-value_fits syntax text v e d short = said_fits filter_said filter_fits syntax None text v e d short
+pub value_fits : (names : NamedArcs) (syntax : TypeSyntax) (text : TextValue) (v : TypedValue)
+    → value_named names syntax text ≡ Some v → HasFittingDefaults syntax → length (der syntax v) < 4294967296
+    → Fits syntax v
+value_fits names syntax text v e d short =
+    said_fits (reading_of filter_said names) (filter_fits names) syntax None text v e d short

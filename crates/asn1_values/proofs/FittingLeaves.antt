@@ -1,6 +1,6 @@
 -- Values of types that hold no others, as texts denote them, fit their syntaxes: X.680, sections 18 to 24, 32, 41 and
 -- 46.
-use Rattle.std.proofs.Common.{◌≡◌, ◌<◌, ◌*◌, ◌/◌, ℕ, Bool, true, false, List, [], ◌∷◌, Option, None, Some}
+use Rattle.std.proofs.Common.{◌≡◌, ◌<◌, ◌*◌, ◌/◌, ℕ, Bool, true, false, List, [], ◌∷◌, ◌++◌, Option, None, Some}
 use Rattle.std.proofs.Common.{refl, ap, sym, subst, arith, length, ◌&&◌, ℤ, pos, negsuc, FitsSigned}
 use Rattle.std.specs.Int.{w64}
 use Rattle.std.specs.List.{list_all}
@@ -23,8 +23,8 @@ use Rattle.term_values.specs.declared.charset.Charset.{Charset}
 use Rattle.token_grammar.specs.TokenTests.{is_word_of}
 use Rattle.typed_laws.proofs.Choosing.{map_some, then_some, if_some}
 use Rattle.typed_laws.proofs.LeavesTold.{where_is}
-use Rattle.asn1_values.specs.Arcs.{first_arc, where_arc, arc_number, arc_numbers, behind_first_name, arcs_said}
-use Rattle.asn1_values.specs.Arcs.{where_oid}
+use Rattle.asn1_values.specs.Arcs.{NamedArcs, first_arc, first_arcs, where_arc, where_arcs, arc_number, arc_numbers, behind_first_name}
+use Rattle.asn1_values.specs.Arcs.{alone_said, arcs_said, standard_or, where_oid}
 use Rattle.asn1_values.specs.Bits.{packed, weighed, filled}
 use Rattle.asn1_values.specs.LeafTexts.{truth_said, whole_said, enumerated_said, bit_string_said, octet_string_said}
 use Rattle.asn1_values.specs.LeafTexts.{null_said, identifier_said, text_said, time_said, number_of, bits_said}
@@ -292,26 +292,52 @@ numbers_are (first ∷ others) arcs e =
     let m = map_some (λ ns. f.0 ∷ ns) (arc_numbers others) arcs f.2 in
     subst AreArcs m.2 (and_from (is_arc f.0) (list_all is_arc m.0) small (numbers_are others m.0 m.1))
 
-behind_are : (name : Option (List ℕ)) (digits : List (List ℕ)) (arcs : List ℕ)
-    → behind_first_name name (arc_numbers digits) ≡ Some arcs → AreArcs arcs
-behind_are None digits arcs e = numbers_are digits arcs e
-behind_are (Some name) digits arcs e =
-    let f = then_some (λ first. option_map (λ ns. first ∷ ns) (arc_numbers digits)) (first_arc name) arcs e in
-    let m = map_some (λ ns. f.0 ∷ ns) (arc_numbers digits) arcs f.2 in
-    subst AreArcs m.2
-    (and_from (is_arc f.0) (list_all is_arc m.0) (first_is name f.0 f.1) (numbers_are digits m.0 m.1))
+both_are : (front rest : List ℕ) → AreArcs front → AreArcs rest → AreArcs (front ++ rest)
+both_are [] rest f r = r
+both_are (x ∷ front) rest f r =
+    let p = and_parts (is_arc x) (list_all is_arc front) f in
+    and_from (is_arc x) (list_all is_arc (front ++ rest)) p.0 (both_are front rest p.1 r)
 
-said_are : (text : TextValue) (arcs : List ℕ) → arcs_said text ≡ Some arcs → AreArcs arcs
-said_are (InArcs name digits) arcs e = behind_are name digits arcs e
-said_are (InBraces (AndText name (Number false digits) NoTexts)) arcs e =
-    behind_are (Some name) (digits ∷ []) arcs e
-said_are _ arcs e = absurd (none-some _ e)
+defined_are : (defined : Option (List ℕ)) (arcs : List ℕ) → option_and_then where_arcs defined ≡ Some arcs
+    → AreArcs arcs
+defined_are defined arcs e =
+    let f = then_some where_arcs defined arcs e in
+    let p = if_some (list_all is_arc f.0) (Some f.0) arcs f.2 in
+    subst AreArcs (same_Some f.0 arcs p.1) p.0
 
-pub identifier_fits : (text : TextValue) (v : TypedValue) → identifier_said text ≡ Some v → Fits ObjectIdentifier v
-identifier_fits text v e =
-    let m = map_some Identifier (option_and_then where_oid (arcs_said text)) v e in
-    let f = then_some where_oid (arcs_said text) m.0 m.1 in
+first_are : (names : NamedArcs) (name arcs : List ℕ) → first_arcs names name ≡ Some arcs → AreArcs arcs
+first_are names name arcs e = either (first_arc name) (λ n f. first_is name n f) e
+  where
+    either : (first : Option ℕ) → ((n : ℕ) → first ≡ Some n → is_arc n ≡ true)
+        → standard_or first (option_and_then where_arcs (names name)) ≡ Some arcs → AreArcs arcs
+    either (Some n) h e = subst AreArcs (same_Some (n ∷ []) arcs e) (and_from (is_arc n) true (h n refl) refl)
+    either None h e = defined_are (names name) arcs e
+
+behind_are : (names : NamedArcs) (name : Option (List ℕ)) (digits : List (List ℕ)) (arcs : List ℕ)
+    → behind_first_name names name (arc_numbers digits) ≡ Some arcs → AreArcs arcs
+behind_are names None digits arcs e = numbers_are digits arcs e
+behind_are names (Some name) digits arcs e =
+    let f = then_some (λ first. option_map (λ ns. first ++ ns) (arc_numbers digits)) (first_arcs names name) arcs e in
+    let m = map_some (λ ns. f.0 ++ ns) (arc_numbers digits) arcs f.2 in
+    subst AreArcs m.2 (both_are f.0 m.0 (first_are names name f.0 f.1) (numbers_are digits m.0 m.1))
+
+alone_are : (names : NamedArcs) (text : TextValue) (name arcs : List ℕ) → alone_said names text name ≡ Some arcs
+    → AreArcs arcs
+alone_are names (Number false digits) name arcs e = behind_are names (Some name) (digits ∷ []) arcs e
+alone_are names (Name first) [] arcs e = first_are names first arcs e
+alone_are names _ _ arcs e = absurd (none-some _ e)
+
+said_are : (names : NamedArcs) (text : TextValue) (arcs : List ℕ) → arcs_said names text ≡ Some arcs → AreArcs arcs
+said_are names (InArcs name digits) arcs e = behind_are names name digits arcs e
+said_are names (InBraces (AndText name text NoTexts)) arcs e = alone_are names text name arcs e
+said_are names _ arcs e = absurd (none-some _ e)
+
+pub identifier_fits : (names : NamedArcs) (text : TextValue) (v : TypedValue) → identifier_said names text ≡ Some v
+    → Fits ObjectIdentifier v
+identifier_fits names text v e =
+    let m = map_some Identifier (option_and_then where_oid (arcs_said names text)) v e in
+    let f = then_some where_oid (arcs_said names text) m.0 m.1 in
     let p = if_some (is_oid f.0) (Some f.0) m.0 f.2 in
     let same = same_Some f.0 m.0 p.1 in
     subst (Fits ObjectIdentifier) m.2
-    (subst (λ (arcs : List ℕ). (is_oid arcs ≡ true) × AreArcs arcs) same (p.0, said_are text f.0 f.1))
+    (subst (λ (arcs : List ℕ). (is_oid arcs ≡ true) × AreArcs arcs) same (p.0, said_are names text f.0 f.1))

@@ -11,3 +11,4 @@ pub mod RowLaws
 mod StandardFacts
 pub mod StringLaws
 pub mod UnorderedLaws
+pub mod NameLaws

@@ -9,10 +9,10 @@ use Rattle.asn1_values_syntax.specs.declared.value.BracesText.{items-the_row-Val
 use Rattle.asn1_values_syntax.specs.declared.value.BracesText.{items_hidden-the_row-ValuePart-0}
 use Rattle.asn1_values_syntax.specs.declared.value.BracesText.TheBlock.{hidden-the_row-ValuePart-0}
 use Rattle.asn1_values_syntax.specs.declared.value.BracesText.TheVariants.{Parts}
-use Rattle.asn1_values.specs.Arcs.{arcs_said}
+use Rattle.asn1_values.specs.Arcs.{NamedArcs, arcs_said}
 use Rattle.asn1_values.specs.TextValues.{TextValue, TextParts, said_name, said_value, content_said, row_said}
 use Rattle.asn1_values.specs.TextValues.{parts_said}
-use Rattle.asn1_values.specs.TextValues.TextValue.{Literal, Number, Name, Chosen, InBraces, InArcs}
+use Rattle.asn1_values.specs.TextValues.TextValue.{InBraces}
 use Rattle.asn1_values.specs.TextValues.TextParts.{NoTexts, AndText}
 
 row-list : {n : _} (row : Row_of-ValuePart n) → row_said row ≡ parts_said (items-the_row-ValuePart n row)
@@ -24,21 +24,12 @@ pub parts_content : (parts : Vec ValuePart Global) → content_said (Parts parts
 parts_content parts = ap InBraces (row-list (hidden-the_row-ValuePart-0 parts)
     ∙ ap parts_said (items_hidden-the_row-ValuePart-0 parts))
 
-many : (name : List ℕ) (text : TextValue) (other : List ℕ) (more : TextValue) (rest : TextParts)
-    → arcs_said (InBraces (AndText name text (AndText other more rest))) ≡ None
-many name (Literal token) other more rest = refl
-many name (Number true digits) other more rest = refl
-many name (Number false digits) other more rest = refl
-many name (Name own) other more rest = refl
-many name (Chosen own text) other more rest = refl
-many name (InBraces parts) other more rest = refl
-many name (InArcs own digits) other more rest = refl
-
 -- a list that isn't of one part says no arcs
-pub no_arcs : (parts : List ValuePart) → length parts ≢ 1 → arcs_said (InBraces (parts_said parts)) ≡ None
-no_arcs [] h = refl
-no_arcs (x ∷ []) h = absurd (h refl)
-no_arcs (x ∷ (y ∷ ys)) h = many (said_name x) (said_value x) (said_name y) (said_value y) (parts_said ys)
+pub no_arcs : (names : NamedArcs) (parts : List ValuePart) → length parts ≢ 1
+    → arcs_said names (InBraces (parts_said parts)) ≡ None
+no_arcs names [] h = refl
+no_arcs names (x ∷ []) h = absurd (h refl)
+no_arcs names (x ∷ (y ∷ ys)) h = refl
 
 pub one_part : (parts : List ValuePart) (x : ValuePart) → length parts ≡ 1 → x ≡ get_or parts 0 x
     → parts_said parts ≡ AndText (said_name x) (said_value x) NoTexts

@@ -15,7 +15,10 @@ use Rattle.term_values.specs.Typed.TypedSlots.{NoSlots, Filled, Empty}
 use Rattle.term_values.specs.Typed.TypedValues.{Nothing, Then}
 use Rattle.term_values.specs.declared.charset.Charset.TheVariants as charsets
 use Rattle.token_grammar.specs.declared.token.Token.{Token}
-use Rattle.asn1_values.specs.Filters.{value_said}
+use Rattle.std.specs.Prelude.{if◌then◌else◌}
+use Rattle.asn1_values.specs.Arcs.{NamedArcs}
+use Rattle.asn1_values.specs.Filters.{value_named, value_said}
+use Rattle.asn1_values.specs.Literals.{same_name}
 use Rattle.asn1_values.specs.TextValues.{TextValue, TextParts}
 use Rattle.asn1_values.specs.TextValues.TextValue.{Literal, Number, Name, Chosen, InBraces, InArcs}
 use Rattle.asn1_values.specs.TextValues.TextParts.{NoTexts, AndText}
@@ -136,3 +139,19 @@ name : value_said rdn_sequence (InBraces (one (InBraces (one (InBraces
     Nothing)) Nothing))
 unfolding identifier_octets length_octets integer_contents subidentifier identifier_of length_at front_of
 name = refl
+
+-- X.680, section 32.3: names that modules define, alone and before numbers
+abbrev defined : NamedArcs
+defined given = if same_name given (codes "dmi") then Some (2 ∷ 9 ∷ 3 ∷ []) else None
+
+behind_defined : value_named defined ObjectIdentifier (InArcs (Some (codes "dmi")) (codes "3" ∷ []))
+    ≡ Some (Identifier (2 ∷ 9 ∷ 3 ∷ 3 ∷ []))
+behind_defined = refl
+
+defined_alone : value_named defined ObjectIdentifier (InBraces (one (Name (codes "dmi")) NoTexts))
+    ≡ Some (Identifier (2 ∷ 9 ∷ 3 ∷ []))
+defined_alone = refl
+
+defined_with_number : value_named defined ObjectIdentifier
+    (InBraces (AndText (codes "dmi") (number (codes "2")) NoTexts)) ≡ Some (Identifier (2 ∷ 9 ∷ 3 ∷ 2 ∷ []))
+defined_with_number = refl

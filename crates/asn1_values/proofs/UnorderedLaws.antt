@@ -13,14 +13,14 @@ use Rattle.term_values.specs.declared.syntax.Part.{Part}
 use Rattle.term_values.specs.declared.value.Slot.{Slot}
 use Rattle.term_values.specs.declared.value.Slot.TheVariants.{Absent, Present}
 use Rattle.asn1_values_syntax.specs.declared.value.ValuePart.{ValuePart}
-use Rattle.asn1_values.specs.Denoted.{denoted, is_meant, unordered_said, taken_out, only_where, where_taken}
+use Rattle.asn1_values.specs.Denoted.{Reading, denoted, is_meant, unordered_said, taken_out, only_where, where_taken}
 use Rattle.asn1_values.specs.Literals.{same_name}
 use Rattle.asn1_values.specs.Steps.{left_of, no_texts, slot_by, next_slot}
 use Rattle.asn1_values.specs.TextValues.{TextValue, TextParts, said_name, said_value, parts_said}
 use Rattle.asn1_values.specs.TextValues.TextParts.{NoTexts, AndText}
 
 abbrev Filters : Type 0
-Filters = TextValue → Option TypedValue
+Filters = Reading
 
 abbrev Names : Type 0
 Names = List (List ℕ)
@@ -63,7 +63,7 @@ one_component : (filter : Filters) (names : Names) (part : Part) (rest : List Pa
 one_component filter names part rest texts = by_taken filter (names ++ part.name ∷ []) part rest texts
     (only_where (is_meant part.name names) (taken_out part.name texts))
 
-pub component_read : (filter : TextValue → Option TypedValue) (before : List Slot) (names more : List (List ℕ))
+pub component_read : (filter : Reading) (before : List Slot) (names more : List (List ℕ))
     (part : Part) (left rest : List Part) (texts others : TextParts) (slot : Slot)
     → left ≡ part ∷ rest → more ≡ names ++ part.name ∷ []
     → next_slot filter names part texts ≡ Some (slot, others)
@@ -74,7 +74,7 @@ component_read filter before names more part left rest texts others slot e m is 
     ∙ ap (behind filter (names ++ part.name ∷ []) rest) is)
     ∙ slot_read before slot (unordered_said filter (names ++ part.name ∷ []) (parts_listed rest) others))
 
-pub component_missing : (filter : TextValue → Option TypedValue) (before : List Slot) (names : List (List ℕ))
+pub component_missing : (filter : Reading) (before : List Slot) (names : List (List ℕ))
     (part : Part) (left rest : List Part) (texts : TextParts)
     → left ≡ part ∷ rest → next_slot filter names part texts ≡ None
     → option_map (slots_before before) (unordered_said filter names (parts_listed left) texts) ≡ None
@@ -82,12 +82,12 @@ component_missing filter before names part left rest texts e is =
     rw e (ap (option_map (slots_before before)) (one_component filter names part rest texts
     ∙ ap (behind filter (names ++ part.name ∷ []) rest) is))
 
-pub none_left : (filter : TextValue → Option TypedValue) (names : List (List ℕ)) (texts : TextParts)
+pub none_left : (filter : Reading) (names : List (List ℕ)) (texts : TextParts)
     → no_texts texts ≡ true → unordered_said filter names NoParts texts ≡ Some NoSlots
 none_left filter names NoTexts e = refl
 none_left filter names (AndText own text others) e = absurd (cc)
 
-pub some_left_over : (filter : TextValue → Option TypedValue) (names : List (List ℕ)) (texts : TextParts)
+pub some_left_over : (filter : Reading) (names : List (List ℕ)) (texts : TextParts)
     → no_texts texts ≡ false → unordered_said filter names NoParts texts ≡ None
 some_left_over filter names NoTexts e = absurd (cc)
 some_left_over filter names (AndText own text others) e = refl
@@ -150,19 +150,19 @@ none_free (true ∷ bs) (x ∷ xs) l h = none_free bs xs (omega arith) (λ j p. 
 none_free (false ∷ bs) (x ∷ xs) l h = absurd (let e = h 0 (omega arith) in cc)
 
 -- the component can't be meant, no text is its own, or one is
-pub next_unmeant : (filter : TextValue → Option TypedValue) (names : List (List ℕ)) (part : Part) (texts : TextParts)
+pub next_unmeant : (filter : Reading) (names : List (List ℕ)) (part : Part) (texts : TextParts)
     → is_meant part.name names ≡ false
     → next_slot filter names part texts
     ≡ option_map (λ slot. (slot, texts)) (slot_left_out part.optional part.default)
 next_unmeant filter names part texts e = rw e refl
 
-pub next_absent : (filter : TextValue → Option TypedValue) (names : List (List ℕ)) (part : Part) (texts : TextParts)
+pub next_absent : (filter : Reading) (names : List (List ℕ)) (part : Part) (texts : TextParts)
     → is_meant part.name names ≡ true → taken_out part.name texts ≡ None
     → next_slot filter names part texts
     ≡ option_map (λ slot. (slot, texts)) (slot_left_out part.optional part.default)
 next_absent filter names part texts m e = rw (m, e) refl
 
-pub next_present : (filter : TextValue → Option TypedValue) (names : List (List ℕ)) (part : Part) (texts : TextParts)
+pub next_present : (filter : Reading) (names : List (List ℕ)) (part : Part) (texts : TextParts)
     (x : TextValue) (others : TextParts)
     → is_meant part.name names ≡ true → taken_out part.name texts ≡ Some (x, others)
     → next_slot filter names part texts ≡ option_map (λ v. (Present v, others)) (denoted filter part.syntax x)

@@ -14,6 +14,7 @@ use Rattle.term_values.specs.Typed.TypedValue.{Parts, Many, Pick}
 use Rattle.term_values.specs.Typed.TypedSlots.{NoSlots, Filled}
 use Rattle.term_values.specs.Typed.TypedValues.{Nothing, Then}
 use Rattle.term_values.specs.Written.{der}
+use Rattle.asn1_values.specs.Arcs.{NamedArcs}
 use Rattle.asn1_values.specs.LeafTexts.{truth_said, whole_said, enumerated_said, bit_string_said, octet_string_said}
 use Rattle.asn1_values.specs.LeafTexts.{null_said, identifier_said, text_said, time_said, any_said}
 use Rattle.asn1_values.specs.Literals.{same_name}
@@ -53,57 +54,65 @@ abbrev pub chosen_by : (List ℕ → TextValue → Option TypedValue) → TextVa
 chosen_by pick (Chosen name text) = pick name text
 chosen_by pick _ = None
 
+-- what tells which CMISFilter a text denotes, and for which arcs the names stand with which identifiers begin
+pub record Reading : Type 0 where
+  pub filter : TextValue → Option TypedValue
+  pub names : NamedArcs
+
+abbrev pub reading_of : (NamedArcs → TextValue → Option TypedValue) → NamedArcs → Reading
+reading_of filter names = record { filter = filter names; names = names }
+
 abbrev mutual
-  -- the value of the syntax that the text denotes, where `filter` says which CMISFilter a text denotes
-  pub denoted : (TextValue → Option TypedValue) → TypeSyntax → TextValue → Option TypedValue
-  denoted filter Boolean text = truth_said text
-  denoted filter (Integer names ranges) text = whole_said names ranges text
-  denoted filter (Enumerated names) text = enumerated_said names text
-  denoted filter (BitString names sizes) text = bit_string_said names sizes text
-  denoted filter (OctetString sizes) text = octet_string_said sizes text
-  denoted filter NullType text = null_said text
-  denoted filter ObjectIdentifier text = identifier_said text
-  denoted filter (TextString charset sizes) text = text_said charset sizes text
-  denoted filter GeneralizedTime text = time_said text
-  denoted filter (Sequence parts) text =
-      option_map Parts (option_and_then (components_said filter [] parts) (parts_of text))
-  denoted filter (SetType parts) text =
-      option_map Parts (option_and_then (unordered_said filter [] parts) (parts_of text))
-  denoted filter (SequenceOf member sizes) text =
-      option_and_then (sized_members sizes) (option_and_then (members_said (denoted filter member)) (parts_of text))
-  denoted filter (SetOf member sizes) text = option_and_then (sized_members sizes)
-      (option_map (rising_by (der member)) (option_and_then (members_said (denoted filter member)) (parts_of text)))
-  denoted filter (Choice parts) text = chosen_by (picked_said filter zero parts) text
-  denoted filter (Tagged tag explicit of) text = denoted filter of text
-  denoted filter Any text = any_said text
-  denoted filter Filter text = filter text
+  -- the value of the syntax that the text denotes
+  pub denoted : Reading → TypeSyntax → TextValue → Option TypedValue
+  denoted reading Boolean text = truth_said text
+  denoted reading (Integer names ranges) text = whole_said names ranges text
+  denoted reading (Enumerated names) text = enumerated_said names text
+  denoted reading (BitString names sizes) text = bit_string_said names sizes text
+  denoted reading (OctetString sizes) text = octet_string_said sizes text
+  denoted reading NullType text = null_said text
+  denoted reading ObjectIdentifier text = identifier_said reading.names text
+  denoted reading (TextString charset sizes) text = text_said charset sizes text
+  denoted reading GeneralizedTime text = time_said text
+  denoted reading (Sequence parts) text =
+      option_map Parts (option_and_then (components_said reading [] parts) (parts_of text))
+  denoted reading (SetType parts) text =
+      option_map Parts (option_and_then (unordered_said reading [] parts) (parts_of text))
+  denoted reading (SequenceOf member sizes) text =
+      option_and_then (sized_members sizes) (option_and_then (members_said (denoted reading member)) (parts_of text))
+  denoted reading (SetOf member sizes) text = option_and_then (sized_members sizes)
+      (option_map (rising_by (der member)) (option_and_then (members_said (denoted reading member)) (parts_of text)))
+  denoted reading (Choice parts) text = chosen_by (picked_said reading zero parts) text
+  denoted reading (Tagged tag explicit of) text = denoted reading of text
+  denoted reading Any text = any_said text
+  denoted reading Filter text = reading.filter text
 
   -- the first alternative of that name; so many stand before these
-  pub picked_said : (TextValue → Option TypedValue) → ℕ → TypeParts → List ℕ → TextValue → Option TypedValue
-  picked_said filter k NoParts name text = None
-  picked_said filter k (Part own syntax optional default rest) name text =
-      if same_name own name then option_map (Pick k) (denoted filter syntax text)
-      else picked_said filter (k + 1) rest name text
+  pub picked_said : Reading → ℕ → TypeParts → List ℕ → TextValue → Option TypedValue
+  picked_said reading k NoParts name text = None
+  picked_said reading k (Part own syntax optional default rest) name text =
+      if same_name own name then option_map (Pick k) (denoted reading syntax text)
+      else picked_said reading (k + 1) rest name text
 
   -- the components that texts in the order of the type denote; these names stand before them
-  pub components_said : (TextValue → Option TypedValue) → List (List ℕ) → TypeParts → TextParts → Option TypedSlots
-  components_said filter before NoParts NoTexts = Some NoSlots
-  components_said filter before NoParts (AndText own text others) = None
-  components_said filter before (Part name syntax optional default rest) NoTexts =
-      left_out optional default (components_said filter (before ++ name ∷ []) rest NoTexts)
-  components_said filter before (Part name syntax optional default rest) (AndText own text others) =
+  pub components_said : Reading → List (List ℕ) → TypeParts → TextParts → Option TypedSlots
+  components_said reading before NoParts NoTexts = Some NoSlots
+  components_said reading before NoParts (AndText own text others) = None
+  components_said reading before (Part name syntax optional default rest) NoTexts =
+      left_out optional default (components_said reading (before ++ name ∷ []) rest NoTexts)
+  components_said reading before (Part name syntax optional default rest) (AndText own text others) =
       if same_name name own && is_meant name before
-      then option_and_then (λ v. option_map (Filled v) (components_said filter (before ++ name ∷ []) rest others))
-      (denoted filter syntax text)
-      else left_out optional default (components_said filter (before ++ name ∷ []) rest (AndText own text others))
+      then option_and_then (λ v. option_map (Filled v) (components_said reading (before ++ name ∷ []) rest others))
+      (denoted reading syntax text)
+      else left_out optional default (components_said reading (before ++ name ∷ []) rest (AndText own text others))
 
   -- the components that texts in any order denote
-  pub unordered_said : (TextValue → Option TypedValue) → List (List ℕ) → TypeParts → TextParts → Option TypedSlots
-  unordered_said filter before NoParts NoTexts = Some NoSlots
-  unordered_said filter before NoParts (AndText own text others) = None
-  unordered_said filter before (Part name syntax optional default rest) texts =
+  pub unordered_said : Reading → List (List ℕ) → TypeParts → TextParts → Option TypedSlots
+  unordered_said reading before NoParts NoTexts = Some NoSlots
+  unordered_said reading before NoParts (AndText own text others) = None
+  unordered_said reading before (Part name syntax optional default rest) texts =
       where_taken (only_where (is_meant name before) (taken_out name texts))
       (λ text others. option_and_then
-      (λ v. option_map (Filled v) (unordered_said filter (before ++ name ∷ []) rest others))
-      (denoted filter syntax text))
-      (left_out optional default (unordered_said filter (before ++ name ∷ []) rest texts))
+      (λ v. option_map (Filled v) (unordered_said reading (before ++ name ∷ []) rest others))
+      (denoted reading syntax text))
+      (left_out optional default (unordered_said reading (before ++ name ∷ []) rest texts))

@@ -16,7 +16,7 @@ use Rattle.term_values.specs.declared.charset.Charset.{Charset}
 use Rattle.token_grammar.specs.Kinds.{hexadecimal_kind}
 use Rattle.token_grammar.specs.TokenTests.{is_word_of}
 use Rattle.token_grammar.specs.declared.token.Token.{Token}
-use Rattle.asn1_values.specs.Arcs.{arcs_said, where_oid}
+use Rattle.asn1_values.specs.Arcs.{NamedArcs, arcs_said, where_oid}
 use Rattle.asn1_values.specs.Bits.{bits_of, packed, filled}
 use Rattle.asn1_values.specs.Literals.{number_said, named_number, string_of}
 use Rattle.asn1_values.specs.TextValues.{TextValue, TextParts}
@@ -102,8 +102,8 @@ octet_string_said sizes text =
     (literal_bits text)
 
 -- X.680, section 32.3
-abbrev pub identifier_said : TextValue → Option TypedValue
-identifier_said text = option_map Identifier (option_and_then where_oid (arcs_said text))
+abbrev pub identifier_said : NamedArcs → TextValue → Option TypedValue
+identifier_said names text = option_map Identifier (option_and_then where_oid (arcs_said names text))
 
 abbrev pub string_said : TextValue → Option (List ℕ)
 string_said (Literal token) = string_of token

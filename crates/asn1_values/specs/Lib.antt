@@ -3,6 +3,7 @@ pub mod TextValues
 pub mod Bits
 pub mod Literals
 pub mod Arcs
+pub mod FirstNames
 pub mod LeafTexts
 pub mod Denoted
 pub mod Filters

@@ -7,7 +7,7 @@ use Rattle.term_values.specs.declared.syntax.Part.{Part}
 use Rattle.term_values.specs.declared.value.Slot.{Slot}
 use Rattle.term_values.specs.declared.value.Slot.TheVariants.{Absent, Present}
 use Rattle.asn1_values_syntax.specs.declared.value.ValuePart.{ValuePart}
-use Rattle.asn1_values.specs.Denoted.{denoted, is_meant, taken_out, only_where}
+use Rattle.asn1_values.specs.Denoted.{Reading, denoted, is_meant, taken_out, only_where}
 use Rattle.asn1_values.specs.Literals.{same_name}
 use Rattle.asn1_values.specs.TextValues.{TextValue, TextParts, said_name, said_value}
 use Rattle.asn1_values.specs.TextValues.TextParts.{NoTexts, AndText}
@@ -38,7 +38,7 @@ abbrev pub slot_by : Option (TextValue × TextParts) → (TextValue → Option T
 slot_by (Some taken) read absent = option_map (λ v. (Present v, taken.1)) (read taken.0)
 slot_by None read absent = absent
 
-abbrev pub next_slot : (TextValue → Option TypedValue) → List (List ℕ) → Part → TextParts → Option (Slot × TextParts)
-next_slot filter before part texts =
-    slot_by (only_where (is_meant part.name before) (taken_out part.name texts)) (denoted filter part.syntax)
+abbrev pub next_slot : Reading → List (List ℕ) → Part → TextParts → Option (Slot × TextParts)
+next_slot reading before part texts =
+    slot_by (only_where (is_meant part.name before) (taken_out part.name texts)) (denoted reading part.syntax)
     (option_map (λ slot. (slot, texts)) (slot_left_out part.optional part.default))

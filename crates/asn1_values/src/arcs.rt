@@ -1,16 +1,22 @@
 //! The arcs of an object identifier (X.680, section 32.3; X.660, annex A).
 
-ghost use Rattle.std.specs.Prelude.{◌≡◌, ◌∷◌, [], ◌++◌, IfOk, map, option_map, option_and_then, codes};
-ghost use Rattle.asn1_values.specs.Arcs.{first_arc, arc_number, arc_numbers, behind_first_name, arcs_said};
+ghost use Rattle.std.specs.Prelude.{◌≡◌, ◌∷◌, [], ◌++◌, true, IfOk, OnOk, Some, None, map, option_map, codes};
+ghost use Rattle.std.specs.Prelude.{List, ℕ, option_and_then, if◌then◌else◌};
+ghost use Rattle.std.specs.List.{list_all};
+ghost use Rattle.term_values.specs.Oid.{is_arc};
+ghost use Rattle.asn1_values.specs.Arcs.{first_arc, first_arcs, arc_number, arc_numbers, alone_said, arcs_said};
+ghost use Rattle.asn1_values.specs.Arcs.{behind_first_name, where_arcs};
+ghost use Rattle.asn1_values.specs.FirstNames.{arcs_named, with_name};
 ghost use Rattle.asn1_values.specs.TextValues.{arc_digits, arcs_digits, said, said_name, said_value};
-ghost use Rattle.asn1_values.specs.TextValues.TextValue.{InBraces};
-ghost use Rattle.asn1_values.specs.TextValues.TextParts.{NoTexts, AndText};
 
+use super::leaf_values::{part_name, part_value};
 use super::numbers::{read_arc_number, same_name};
 use asn1_values_syntax::value::{BracesText, NamedValue, ValuePart, ValueText};
 use asn1_values_syntax::{SignedNumber, SureArcs};
+use indexmap::IndexMap;
 use std::alloc::{AllocError, Global};
 use std::marker::Model;
+use token_grammar::Token;
 use token_grammar::object_identifier::Arc;
 
 /// Arcs in their order.
@@ -25,6 +31,38 @@ impl Model for ArcList {
     ghost Value = { List ℕ };
 
     ghost view = { λ arcs. arcs.items.items };
+}
+
+impl ArcList {
+    /// A copy of these arcs.
+    fn copy(&self, alloc: Global) -> Result<ArcList, AllocError>
+        ensures same { IfOk result (λ arcs. arcs ≡ self.now) }
+        ensures numbers { OnOk result (list_all is_arc self.now ≡ true) }
+    {
+        let items = self.items.as_slice();
+        Ok(ArcList {
+            items: Vec::from_slice(alloc, items)?,
+        })
+    }
+}
+
+/// Names that modules define, with which object identifiers begin, and the arcs for which they stand. A name that the
+/// standard has is none of them.
+pub type FirstNames<'a> = IndexMap<&'a [u8], ArcList>;
+
+/// Adds a name, unless it is there.
+pub fn add_first_name<'a>(
+    names: &mut FirstNames<'a>,
+    name: &'a [u8],
+    arcs: ArcList,
+) -> Result<(), AllocError>
+    ensures { OnOk result ((other : List ℕ) → arcs_named names.new other
+        ≡ with_name (arcs_named names.old) name.now arcs other) }
+{
+    if names.get(name).is_none() {
+        names.insert(name, arcs)?;
+    }
+    Ok(())
 }
 
 /// The number of a first arc that the standard names.
@@ -106,45 +144,91 @@ fn with_sure_arcs(arcs: ArcList, sure: &SureArcs) -> Result<Option<ArcList>, All
     }
 }
 
-/// The arc that a first name stands for.
-fn begun_by(alloc: Global, name: &[u8]) -> Result<Option<ArcList>, AllocError>
-    ensures { IfOk result (λ found. option_map (λ n. n ∷ []) (first_arc name.now) ≡ found) }
+/// The arcs that a module gives a name.
+fn defined_arcs(
+    alloc: Global,
+    names: &FirstNames,
+    name: &[u8],
+) -> Result<Option<ArcList>, AllocError>
+    ensures { IfOk result (λ found. option_and_then where_arcs (arcs_named names.now name.now) ≡ found) }
 {
-    match first_arc(name) {
+    match names.get(name) {
         None => Ok(None),
-        Some(number) => {
-            let mut items = Vec::new(alloc);
-            items.push(number)?;
-            Ok(Some(ArcList { items }))
+        Some(arcs) => {
+            let copy = arcs.copy(alloc)?;
+            Ok(Some(copy))
         }
     }
 }
 
-/// The arcs of `{name number}`, which is kept as a list of one part.
-fn named_arcs(alloc: Global, part: &ValuePart) -> Result<Option<ArcList>, AllocError>
-    ensures { IfOk result (λ found.
-        arcs_said (InBraces (AndText (said_name part.now) (said_value part.now) NoTexts)) ≡ found) }
+/// One arc.
+fn one_arc(alloc: Global, number: u32) -> Result<ArcList, AllocError>
+    ensures { IfOk result (λ arcs. arcs ≡ number ∷ []) }
 {
-    match part {
-        ValuePart::Named {
-            name,
-            value: ValueText::Number(
-                SignedNumber {
-                    minus: None,
-                    number,
-                },
-            ),
-        } => match begun_by(alloc, name.text.as_slice())? {
-            None => Ok(None),
-            Some(arcs) => with_arc(arcs, number.text.as_slice()),
-        },
+    let mut items = Vec::new(alloc);
+    items.push(number)?;
+    Ok(ArcList { items })
+}
+
+/// The arcs that a first name stands for.
+fn begun_by(alloc: Global, names: &FirstNames, name: &[u8]) -> Result<Option<ArcList>, AllocError>
+    ensures { IfOk result (λ found. first_arcs (arcs_named names.now) name.now ≡ found) }
+{
+    match first_arc(name) {
+        None => defined_arcs(alloc, names, name),
+        Some(number) => Ok(Some(one_arc(alloc, number)?)),
+    }
+}
+
+/// The arcs of `{name number}`.
+fn numbered_arcs(
+    alloc: Global,
+    names: &FirstNames,
+    name: &[u8],
+    number: &Token,
+) -> Result<Option<ArcList>, AllocError>
+    ensures { IfOk result (λ found. behind_first_name (arcs_named names.now) (Some name.now)
+        (arc_numbers (number.now.text ∷ [])) ≡ found) }
+{
+    match begun_by(alloc, names, name)? {
+        None => Ok(None),
+        Some(arcs) => with_arc(arcs, number.text.as_slice()),
+    }
+}
+
+/// The arcs of `{name number}` and `{name}`, which are kept as lists of one part.
+fn alone_arcs(
+    alloc: Global,
+    names: &FirstNames,
+    part: &ValuePart,
+) -> Result<Option<ArcList>, AllocError>
+    ensures { IfOk result (λ found.
+        alone_said (arcs_named names.now) (said_value part.now) (said_name part.now) ≡ found) }
+{
+    match part_value(part) {
+        ValueText::Number(
+            SignedNumber {
+                minus: None,
+                number,
+            },
+        ) => numbered_arcs(alloc, names, part_name(part), number),
+        ValueText::Named(NamedValue::Name(name)) => {
+            if part_name(part).is_empty() {
+                return begun_by(alloc, names, name.text.as_slice());
+            }
+            Ok(None)
+        }
         _ => Ok(None),
     }
 }
 
 /// The arcs that a text says.
-pub fn read_arcs(alloc: Global, text: &ValueText) -> Result<Option<ArcList>, AllocError>
-    ensures { IfOk result (λ found. arcs_said (said text.now) ≡ found) }
+pub fn read_arcs(
+    alloc: Global,
+    names: &FirstNames,
+    text: &ValueText,
+) -> Result<Option<ArcList>, AllocError>
+    ensures { IfOk result (λ found. arcs_said (arcs_named names.now) (said text.now) ≡ found) }
 {
     let ValueText::Braces { content, .. } = text else {
         return Ok(None);
@@ -156,7 +240,7 @@ pub fn read_arcs(alloc: Global, text: &ValueText) -> Result<Option<ArcList>, All
             with_sure_arcs(ArcList { items }, sure)
         }
         BracesText::NamedArcs { first, others } => {
-            match begun_by(alloc, first.text.as_slice())? {
+            match begun_by(alloc, names, first.text.as_slice())? {
                 None => Ok(None),
                 Some(arcs) => with_sure_arcs(arcs, others),
             }
@@ -166,7 +250,7 @@ pub fn read_arcs(alloc: Global, text: &ValueText) -> Result<Option<ArcList>, All
             if parts.len() != 1 {
                 return Ok(None);
             }
-            named_arcs(alloc, &parts[0])
+            alone_arcs(alloc, names, &parts[0])
         }
     }
 }

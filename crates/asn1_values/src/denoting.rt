@@ -10,12 +10,15 @@ ghost use Rattle.term_values.specs.Typed.TypedValue.{Parts as PartsValue};
 ghost use Rattle.term_values.specs.Written.{der};
 ghost use Rattle.asn1_values_syntax.specs.declared.value.ValuePart.{ValuePart};
 ghost use Rattle.asn1_values.specs.Denoted.{denoted, is_meant, members_said, taken_out, chosen_by, picked_said};
-ghost use Rattle.asn1_values.specs.Denoted.{components_said, unordered_said};
+ghost use Rattle.asn1_values.specs.Denoted.{components_said, reading_of, unordered_said};
+ghost use Rattle.asn1_values.specs.Arcs.{NamedArcs};
+ghost use Rattle.asn1_values.specs.FirstNames.{arcs_named};
 ghost use Rattle.asn1_values.specs.Literals.{same_name};
 ghost use Rattle.asn1_values.specs.Steps.{part_names, next_comes, left_of, no_texts, next_slot};
 ghost use Rattle.asn1_values.specs.TextValues.{TextValue, said, said_value, parts_of, parts_said};
 
 use super::any_values::read_any;
+use super::arcs::FirstNames;
 use super::leaf_values::{
     part_name, part_value, parts_of, read_bit_string, read_enumerated, read_identifier, read_null,
     read_octet_string, read_text, read_time, read_truth, read_whole,
@@ -29,11 +32,15 @@ use term_values::{Part, Parts, Ranges, Slot, Slots, Syntax, SyntaxForm, Value, V
 
 /// Which CMISFilter a text denotes.
 pub trait FilterReading {
-    ghost reading: { TextValue → Option TypedValue };
+    ghost reading: { NamedArcs → TextValue → Option TypedValue };
 
     /// The CMISFilter that the text denotes.
-    fn read_filter(alloc: Global, text: &ValueText) -> Result<Option<Value>, AllocError>
-        ensures { IfOk result (λ found. reading (said text.now) ≡ found) };
+    fn read_filter(
+        alloc: Global,
+        names: &FirstNames,
+        text: &ValueText,
+    ) -> Result<Option<Value>, AllocError>
+        ensures { IfOk result (λ found. reading (arcs_named names.now) (said text.now) ≡ found) };
 }
 
 /// The members, where there may be so many.
@@ -54,10 +61,11 @@ fn sized(sizes: &Ranges, values: Values) -> Option<Value>
 #[cycle(denoting)]
 pub fn denote<F: FilterReading>(
     alloc: Global,
+    names: &FirstNames,
     syntax: &Syntax,
     text: &ValueText,
 ) -> Result<Option<Value>, AllocError>
-    ensures { IfOk result (λ found. denoted F.reading syntax.now (said text.now) ≡ found) }
+    ensures { IfOk result (λ found. denoted (reading_of F.reading (arcs_named names.now)) syntax.now (said text.now) ≡ found) }
 {
     match &syntax.form {
         SyntaxForm::Bool => Ok(read_truth(text)),
@@ -66,34 +74,35 @@ pub fn denote<F: FilterReading>(
         SyntaxForm::Bits(names, sizes) => read_bit_string(alloc, names, sizes, text),
         SyntaxForm::Octets(sizes) => read_octet_string(alloc, sizes, text),
         SyntaxForm::Null => Ok(read_null(text)),
-        SyntaxForm::Oid => read_identifier(alloc, text),
+        SyntaxForm::Oid => read_identifier(alloc, names, text),
         SyntaxForm::Text(charset, sizes) => read_text(alloc, *charset, sizes, text),
         SyntaxForm::Time => read_time(alloc, text),
-        SyntaxForm::Seq(parts) => denote_sequence::<F>(alloc, parts, text),
-        SyntaxForm::Unordered(parts) => denote_set::<F>(alloc, parts, text),
-        SyntaxForm::ListOf(member, sizes) => denote_list::<F>(alloc, member, sizes, text),
-        SyntaxForm::SetOf(member, sizes) => denote_set_of::<F>(alloc, member, sizes, text),
-        SyntaxForm::Choice(parts) => denote_choice::<F>(alloc, parts, text),
-        SyntaxForm::Tagged(_, _, inner) => denote::<F>(alloc, inner, text),
+        SyntaxForm::Seq(parts) => denote_sequence::<F>(alloc, names, parts, text),
+        SyntaxForm::Unordered(parts) => denote_set::<F>(alloc, names, parts, text),
+        SyntaxForm::ListOf(member, sizes) => denote_list::<F>(alloc, names, member, sizes, text),
+        SyntaxForm::SetOf(member, sizes) => denote_set_of::<F>(alloc, names, member, sizes, text),
+        SyntaxForm::Choice(parts) => denote_choice::<F>(alloc, names, parts, text),
+        SyntaxForm::Tagged(_, _, inner) => denote::<F>(alloc, names, inner, text),
         SyntaxForm::Any => read_any(alloc, text),
-        SyntaxForm::Filter => F::read_filter(alloc, text),
+        SyntaxForm::Filter => F::read_filter(alloc, names, text),
     }
 }
 
 #[cycle(denoting)]
 fn denote_sequence<F: FilterReading>(
     alloc: Global,
+    names: &FirstNames,
     parts: &Parts,
     text: &ValueText,
 ) -> Result<Option<Value>, AllocError>
     ensures { IfOk result (λ found.
-        option_map PartsValue (option_and_then (components_said F.reading [] parts.now) (parts_of (said text.now)))
+        option_map PartsValue (option_and_then (components_said (reading_of F.reading (arcs_named names.now)) [] parts.now) (parts_of (said text.now)))
         ≡ found) }
 {
     let Some(texts) = parts_of(text) else {
         return Ok(None);
     };
-    match denote_components::<F>(alloc, parts, texts)? {
+    match denote_components::<F>(alloc, names, parts, texts)? {
         None => Ok(None),
         Some(slots) => Ok(Some(Value {
             form: ValueForm::Parts(slots),
@@ -104,17 +113,18 @@ fn denote_sequence<F: FilterReading>(
 #[cycle(denoting)]
 fn denote_set<F: FilterReading>(
     alloc: Global,
+    names: &FirstNames,
     parts: &Parts,
     text: &ValueText,
 ) -> Result<Option<Value>, AllocError>
     ensures { IfOk result (λ found.
-        option_map PartsValue (option_and_then (unordered_said F.reading [] parts.now) (parts_of (said text.now)))
+        option_map PartsValue (option_and_then (unordered_said (reading_of F.reading (arcs_named names.now)) [] parts.now) (parts_of (said text.now)))
         ≡ found) }
 {
     let Some(texts) = parts_of(text) else {
         return Ok(None);
     };
-    match denote_unordered::<F>(alloc, parts, texts)? {
+    match denote_unordered::<F>(alloc, names, parts, texts)? {
         None => Ok(None),
         Some(slots) => Ok(Some(Value {
             form: ValueForm::Parts(slots),
@@ -125,18 +135,19 @@ fn denote_set<F: FilterReading>(
 #[cycle(denoting)]
 fn denote_list<F: FilterReading>(
     alloc: Global,
+    names: &FirstNames,
     member: &Syntax,
     sizes: &Ranges,
     text: &ValueText,
 ) -> Result<Option<Value>, AllocError>
     ensures { IfOk result (λ found.
         option_and_then (sized_members sizes.now)
-        (option_and_then (members_said (denoted F.reading member.now)) (parts_of (said text.now))) ≡ found) }
+        (option_and_then (members_said (denoted (reading_of F.reading (arcs_named names.now)) member.now)) (parts_of (said text.now))) ≡ found) }
 {
     let Some(texts) = parts_of(text) else {
         return Ok(None);
     };
-    match denote_members::<F>(alloc, member, texts)? {
+    match denote_members::<F>(alloc, names, member, texts)? {
         None => Ok(None),
         Some(values) => Ok(sized(sizes, values)),
     }
@@ -145,18 +156,19 @@ fn denote_list<F: FilterReading>(
 #[cycle(denoting)]
 fn denote_set_of<F: FilterReading>(
     alloc: Global,
+    names: &FirstNames,
     member: &Syntax,
     sizes: &Ranges,
     text: &ValueText,
 ) -> Result<Option<Value>, AllocError>
     ensures { IfOk result (λ found.
         option_and_then (sized_members sizes.now) (option_map (rising_by (der member.now))
-        (option_and_then (members_said (denoted F.reading member.now)) (parts_of (said text.now)))) ≡ found) }
+        (option_and_then (members_said (denoted (reading_of F.reading (arcs_named names.now)) member.now)) (parts_of (said text.now)))) ≡ found) }
 {
     let Some(texts) = parts_of(text) else {
         return Ok(None);
     };
-    match denote_members::<F>(alloc, member, texts)? {
+    match denote_members::<F>(alloc, names, member, texts)? {
         None => Ok(None),
         Some(values) => Ok(sized(sizes, rising_members(alloc, member, values)?)),
     }
@@ -166,31 +178,33 @@ fn denote_set_of<F: FilterReading>(
 #[cycle(denoting)]
 fn denote_choice<F: FilterReading>(
     alloc: Global,
+    names: &FirstNames,
     parts: &Parts,
     text: &ValueText,
 ) -> Result<Option<Value>, AllocError>
-    ensures { IfOk result (λ found. chosen_by (picked_said F.reading zero parts.now) (said text.now) ≡ found) }
+    ensures { IfOk result (λ found. chosen_by (picked_said (reading_of F.reading (arcs_named names.now)) zero parts.now) (said text.now) ≡ found) }
 {
     let ValueText::Named(NamedValue::Choice { name, value }) = text else {
         return Ok(None);
     };
-    denote_alternative::<F>(alloc, parts, name.text.as_slice(), value)
+    denote_alternative::<F>(alloc, names, parts, name.text.as_slice(), value)
 }
 
 /// The first alternative of that name.
 #[cycle(denoting)]
 fn denote_alternative<F: FilterReading>(
     alloc: Global,
+    names: &FirstNames,
     parts: &Parts,
     name: &[u8],
     text: &ValueText,
 ) -> Result<Option<Value>, AllocError>
-    ensures { IfOk result (λ found. picked_said F.reading zero parts.now name.now (said text.now) ≡ found) }
+    ensures { IfOk result (λ found. picked_said (reading_of F.reading (arcs_named names.now)) zero parts.now name.now (said text.now) ≡ found) }
 {
     let items = parts.items.as_slice();
     for k in 0..items.len() {
         if same_name(items[k].name.as_slice(), name) {
-            return match denote::<F>(alloc, &items[k].syntax, text)? {
+            return match denote::<F>(alloc, names, &items[k].syntax, text)? {
                 None => Ok(None),
                 Some(value) => Ok(Some(Value {
                     form: ValueForm::Pick(k as u32, Box::new(alloc, value)?),
@@ -205,17 +219,18 @@ fn denote_alternative<F: FilterReading>(
 #[cycle(denoting)]
 fn denote_members<F: FilterReading>(
     alloc: Global,
+    names: &FirstNames,
     member: &Syntax,
     texts: &[ValuePart],
 ) -> Result<Option<Values>, AllocError>
-    ensures { IfOk result (λ found. members_said (denoted F.reading member.now) (parts_said texts.now) ≡ found) }
+    ensures { IfOk result (λ found. members_said (denoted (reading_of F.reading (arcs_named names.now)) member.now) (parts_said texts.now) ≡ found) }
 {
     let mut items = Vec::new(alloc);
     for part in texts {
         if !part_name(part).is_empty() {
             return Ok(None);
         }
-        match denote::<F>(alloc, member, part_value(part))? {
+        match denote::<F>(alloc, names, member, part_value(part))? {
             None => return Ok(None),
             Some(value) => items.push(value)?,
         }
@@ -272,10 +287,11 @@ fn left_out(alloc: Global, part: &Part) -> Result<Option<Slot>, AllocError>
 #[cycle(denoting)]
 fn denote_components<F: FilterReading>(
     alloc: Global,
+    names: &FirstNames,
     parts: &Parts,
     texts: &[ValuePart],
 ) -> Result<Option<Slots>, AllocError>
-    ensures { IfOk result (λ found. components_said F.reading [] parts.now (parts_said texts.now) ≡ found) }
+    ensures { IfOk result (λ found. components_said (reading_of F.reading (arcs_named names.now)) [] parts.now (parts_said texts.now) ≡ found) }
 {
     let items = parts.items.as_slice();
     let mut slots = Vec::new(alloc);
@@ -283,7 +299,7 @@ fn denote_components<F: FilterReading>(
     for k in 0..items.len() {
         let part = &items[k];
         if comes(part, &items[..k], texts, next) {
-            match denote::<F>(alloc, &part.syntax, part_value(&texts[next]))? {
+            match denote::<F>(alloc, names, &part.syntax, part_value(&texts[next]))? {
                 None => return Ok(None),
                 Some(value) => slots.push(Slot::Present(value))?,
             }
@@ -335,6 +351,7 @@ fn some_left(texts: &[ValuePart], taken: &[bool]) -> bool
 #[cycle(denoting)]
 fn denote_component<F: FilterReading>(
     alloc: Global,
+    names: &FirstNames,
     part: &Part,
     before: &[Part],
     texts: &[ValuePart],
@@ -343,7 +360,7 @@ fn denote_component<F: FilterReading>(
     requires { length taken.old ≡ length texts.now }
     ensures len { length taken.new ≡ length taken.old }
     ensures found { IfOk result (λ found.
-        next_slot F.reading (part_names before.now) part.now (left_of taken.old texts.now)
+        next_slot (reading_of F.reading (arcs_named names.now)) (part_names before.now) part.now (left_of taken.old texts.now)
         ≡ option_map (λ slot. (slot, left_of taken.new texts.now)) found) }
 {
     if !is_meant(part, before) {
@@ -353,7 +370,7 @@ fn denote_component<F: FilterReading>(
         None => left_out(alloc, part),
         Some(k) => {
             taken[k] = true;
-            match denote::<F>(alloc, &part.syntax, part_value(&texts[k]))? {
+            match denote::<F>(alloc, names, &part.syntax, part_value(&texts[k]))? {
                 None => Ok(None),
                 Some(value) => Ok(Some(Slot::Present(value))),
             }
@@ -365,16 +382,17 @@ fn denote_component<F: FilterReading>(
 #[cycle(denoting)]
 fn denote_unordered<F: FilterReading>(
     alloc: Global,
+    names: &FirstNames,
     parts: &Parts,
     texts: &[ValuePart],
 ) -> Result<Option<Slots>, AllocError>
-    ensures { IfOk result (λ found. unordered_said F.reading [] parts.now (parts_said texts.now) ≡ found) }
+    ensures { IfOk result (λ found. unordered_said (reading_of F.reading (arcs_named names.now)) [] parts.now (parts_said texts.now) ≡ found) }
 {
     let items = parts.items.as_slice();
     let mut taken = vec![in alloc; false; texts.len()]?;
     let mut slots = Vec::new(alloc);
     for k in 0..items.len() {
-        match denote_component::<F>(alloc, &items[k], &items[..k], texts, &mut taken)? {
+        match denote_component::<F>(alloc, names, &items[k], &items[..k], texts, &mut taken)? {
             None => return Ok(None),
             Some(slot) => slots.push(slot)?,
         }

@@ -6,8 +6,10 @@ ghost use Rattle.term_values.specs.Typed.TypedValue.{Pick, Raw};
 ghost use Rattle.term_values.specs.Written.{der};
 ghost use Rattle.asn1_values.specs.Filters.{no_filter, item_said, alternative, rising_filters, where_unnamed};
 ghost use Rattle.asn1_values.specs.Filters.{filter_said, filters_said, each_said};
+ghost use Rattle.asn1_values.specs.FirstNames.{arcs_named};
 ghost use Rattle.asn1_values.specs.TextValues.{said, said_name, said_value, parts_said};
 
+use super::arcs::FirstNames;
 use super::denoting::{FilterReading, denote};
 use super::filter_syntaxes::{filter, filter_choice, filter_item};
 use super::leaf_values::part_name;
@@ -25,7 +27,11 @@ struct NoFilters;
 impl FilterReading for NoFilters {
     ghost reading = { no_filter };
 
-    fn read_filter(_alloc: Global, _text: &ValueText) -> Result<Option<Value>, AllocError> {
+    fn read_filter(
+        _alloc: Global,
+        _names: &FirstNames,
+        _text: &ValueText,
+    ) -> Result<Option<Value>, AllocError> {
         Ok(None)
     }
 }
@@ -36,8 +42,12 @@ pub struct Filters;
 impl FilterReading for Filters {
     ghost reading = { filter_said };
 
-    fn read_filter(alloc: Global, text: &ValueText) -> Result<Option<Value>, AllocError> {
-        read_filter(alloc, text)
+    fn read_filter(
+        alloc: Global,
+        names: &FirstNames,
+        text: &ValueText,
+    ) -> Result<Option<Value>, AllocError> {
+        read_filter(alloc, names, text)
     }
 }
 
@@ -75,22 +85,30 @@ fn sorted(alloc: Global, values: Values) -> Result<Option<Value>, AllocError>
 }
 
 /// An item.
-fn read_item(alloc: Global, text: &ValueText) -> Result<Option<Value>, AllocError>
-    ensures { IfOk result (λ found. item_said (said text.now) ≡ found) }
+fn read_item(
+    alloc: Global,
+    names: &FirstNames,
+    text: &ValueText,
+) -> Result<Option<Value>, AllocError>
+    ensures { IfOk result (λ found. item_said (arcs_named names.now) (said text.now) ≡ found) }
 {
     let item = filter_item(alloc)?;
-    denote::<NoFilters>(alloc, &item, text)
+    denote::<NoFilters>(alloc, names, &item, text)
 }
 
 /// The filter that the text denotes.
 #[cycle(filtering)]
-pub fn read_filter(alloc: Global, text: &ValueText) -> Result<Option<Value>, AllocError>
-    ensures { IfOk result (λ found. filter_said (said text.now) ≡ found) }
+pub fn read_filter(
+    alloc: Global,
+    names: &FirstNames,
+    text: &ValueText,
+) -> Result<Option<Value>, AllocError>
+    ensures { IfOk result (λ found. filter_said (arcs_named names.now) (said text.now) ≡ found) }
 {
     let ValueText::Named(NamedValue::Choice { name, value }) = text else {
         return Ok(None);
     };
-    match read_alternative(alloc, name.text.as_slice(), value)? {
+    match read_alternative(alloc, names, name.text.as_slice(), value)? {
         None => Ok(None),
         Some(chosen) => Ok(Some(encoded(alloc, &chosen)?)),
     }
@@ -100,31 +118,36 @@ pub fn read_filter(alloc: Global, text: &ValueText) -> Result<Option<Value>, All
 #[cycle(filtering)]
 fn read_alternative(
     alloc: Global,
+    names: &FirstNames,
     name: &[u8],
     text: &ValueText,
 ) -> Result<Option<Value>, AllocError>
-    ensures { IfOk result (λ found. alternative name.now (item_said (said text.now)) (filters_said (said text.now))
-        (filter_said (said text.now)) ≡ found) }
+    ensures { IfOk result (λ found. alternative name.now (item_said (arcs_named names.now) (said text.now)) (filters_said (arcs_named names.now) (said text.now))
+        (filter_said (arcs_named names.now) (said text.now)) ≡ found) }
 {
     if same_name(name, b"item") {
-        return picked(alloc, 0, read_item(alloc, text)?);
+        return picked(alloc, 0, read_item(alloc, names, text)?);
     }
     if same_name(name, b"and") {
-        return picked(alloc, 1, read_set(alloc, text)?);
+        return picked(alloc, 1, read_set(alloc, names, text)?);
     }
     if same_name(name, b"or") {
-        return picked(alloc, 2, read_set(alloc, text)?);
+        return picked(alloc, 2, read_set(alloc, names, text)?);
     }
     if same_name(name, b"not") {
-        return picked(alloc, 3, read_filter(alloc, text)?);
+        return picked(alloc, 3, read_filter(alloc, names, text)?);
     }
     Ok(None)
 }
 
 /// The filters of a set, by rising encoding.
 #[cycle(filtering)]
-fn read_set(alloc: Global, text: &ValueText) -> Result<Option<Value>, AllocError>
-    ensures { IfOk result (λ found. option_map rising_filters (filters_said (said text.now)) ≡ found) }
+fn read_set(
+    alloc: Global,
+    names: &FirstNames,
+    text: &ValueText,
+) -> Result<Option<Value>, AllocError>
+    ensures { IfOk result (λ found. option_map rising_filters (filters_said (arcs_named names.now) (said text.now)) ≡ found) }
 {
     let ValueText::Braces { content, .. } = text else {
         return Ok(None);
@@ -136,7 +159,7 @@ fn read_set(alloc: Global, text: &ValueText) -> Result<Option<Value>, AllocError
                 items: Vec::new(alloc),
             },
         ),
-        BracesText::Parts(parts) => match read_each(alloc, parts.as_slice())? {
+        BracesText::Parts(parts) => match read_each(alloc, names, parts.as_slice())? {
             None => Ok(None),
             Some(values) => sorted(alloc, values),
         },
@@ -146,27 +169,35 @@ fn read_set(alloc: Global, text: &ValueText) -> Result<Option<Value>, AllocError
 
 /// The filter of a part without a name.
 #[cycle(filtering)]
-fn read_member(alloc: Global, part: &ValuePart) -> Result<Option<Value>, AllocError>
+fn read_member(
+    alloc: Global,
+    names: &FirstNames,
+    part: &ValuePart,
+) -> Result<Option<Value>, AllocError>
     ensures { IfOk result (λ found.
-        where_unnamed (said_name part.now) (filter_said (said_value part.now)) ≡ found) }
+        where_unnamed (said_name part.now) (filter_said (arcs_named names.now) (said_value part.now)) ≡ found) }
 {
     if !part_name(part).is_empty() {
         return Ok(None);
     }
     match part {
-        ValuePart::Named { value, .. } => read_filter(alloc, value),
-        ValuePart::Unnamed(value) => read_filter(alloc, value),
+        ValuePart::Named { value, .. } => read_filter(alloc, names, value),
+        ValuePart::Unnamed(value) => read_filter(alloc, names, value),
     }
 }
 
 /// The filters of a set, as they come.
 #[cycle(filtering)]
-fn read_each(alloc: Global, texts: &[ValuePart]) -> Result<Option<Values>, AllocError>
-    ensures { IfOk result (λ found. each_said (parts_said texts.now) ≡ found) }
+fn read_each(
+    alloc: Global,
+    names: &FirstNames,
+    texts: &[ValuePart],
+) -> Result<Option<Values>, AllocError>
+    ensures { IfOk result (λ found. each_said (arcs_named names.now) (parts_said texts.now) ≡ found) }
 {
     let mut items = Vec::new(alloc);
     for part in texts {
-        match read_member(alloc, part)? {
+        match read_member(alloc, names, part)? {
             None => return Ok(None),
             Some(value) => items.push(value)?,
         }

@@ -1,13 +1,14 @@
 //! Values of types that hold no others (X.680, sections 18 to 24, 32, 41 and 46).
 
 ghost use Rattle.std.specs.Prelude.{◌≡◌, [], IfOk, Option, option_map, option_and_then};
+ghost use Rattle.asn1_values.specs.FirstNames.{arcs_named};
 ghost use Rattle.asn1_values.specs.LeafTexts.{truth_said, null_said, number_of, whole_said, enumerated_said};
 ghost use Rattle.asn1_values.specs.LeafTexts.{literal_bits, bit_of, bit_numbers, bits_named, bits_said, bit_string};
 ghost use Rattle.asn1_values.specs.LeafTexts.{bit_string_said, octet_string_said, identifier_said, string_said};
 ghost use Rattle.asn1_values.specs.LeafTexts.{text_said, time_said};
 ghost use Rattle.asn1_values.specs.TextValues.{said, said_name, said_value, parts_of, parts_said};
 
-use super::arcs::read_arcs;
+use super::arcs::{FirstNames, read_arcs};
 use super::bits::{BitList, count_filled, pack, read_bits, set_bit};
 use super::numbers::{named_number, read_number};
 use super::strings::read_string;
@@ -256,10 +257,14 @@ pub fn read_octet_string(
 }
 
 /// A value of OBJECT IDENTIFIER.
-pub fn read_identifier(alloc: Global, text: &ValueText) -> Result<Option<Value>, AllocError>
-    ensures { IfOk result (λ found. identifier_said (said text.now) ≡ found) }
+pub fn read_identifier(
+    alloc: Global,
+    names: &FirstNames,
+    text: &ValueText,
+) -> Result<Option<Value>, AllocError>
+    ensures { IfOk result (λ found. identifier_said (arcs_named names.now) (said text.now) ≡ found) }
 {
-    let Some(arcs) = read_arcs(alloc, text)? else {
+    let Some(arcs) = read_arcs(alloc, names, text)? else {
         return Ok(None);
     };
     match Oid::from_arcs(arcs.items) {

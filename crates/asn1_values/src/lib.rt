@@ -5,12 +5,13 @@ ghost use Rattle.std.specs.Prelude.{◌≡◌, ◌≢◌, ◌<◌, ◌^◌, leng
 ghost use Rattle.term_values.specs.Fits.{Fits};
 ghost use Rattle.term_values.specs.Soundness.{HasFittingDefaults};
 ghost use Rattle.term_values.specs.Written.{der};
-ghost use Rattle.asn1_values.specs.Filters.{value_said};
+ghost use Rattle.asn1_values.specs.Filters.{value_named, value_said};
+ghost use Rattle.asn1_values.specs.FirstNames.{arcs_named};
 ghost use Rattle.asn1_values.specs.TextValues.{said, first_place};
 ghost use Rattle.asn1_values.specs.declared.value_refusal.ValueRefusal.TheVariants.{BadValue, Memory};
 
 mod any_values;
-mod arcs;
+pub mod arcs;
 mod bits;
 mod denoting;
 mod filter_syntaxes;
@@ -20,6 +21,7 @@ mod numbers;
 mod strings;
 pub mod value_refusal;
 
+pub use arcs::{ArcList, FirstNames, add_first_name};
 use asn1_values_syntax::value::{NamedValue, ValueText};
 use denoting::denote;
 use filtering::Filters;
@@ -28,7 +30,7 @@ use term_values::{Syntax, Value};
 pub use value_refusal::ValueRefusal;
 
 /// The place of the first token of a text.
-fn first_place(text: &ValueText) -> u64
+pub fn first_place(text: &ValueText) -> u64
     ensures { result ≡ first_place text.now }
 {
     match text {
@@ -43,11 +45,36 @@ fn first_place(text: &ValueText) -> u64
     }
 }
 
-/// The value of the syntax that the text denotes: X.680, sections 18 to 46; X.208, sections 20 to 28.
+/// The value of the syntax that the text denotes, where an object identifier may begin with one of these names: X.680,
+/// sections 18 to 46; X.208, sections 20 to 28.
 ///
 /// `BadValue` comes exactly where the text denotes none, with the place of its first token; `Memory` where there is no
 /// memory for the value. A component is looked for by its name alone, in a SEQUENCE from the next one on; members of a
 /// SET OF are sorted by their encodings. The recursion goes down what the text nests.
+pub fn value_with_names(
+    alloc: Global,
+    names: &FirstNames,
+    syntax: &Syntax,
+    text: &ValueText,
+) -> Result<Value, ValueRefusal>
+    ensures denoted { IfOk result (λ value. value_named (arcs_named names.now) syntax.now (said text.now)
+        ≡ Some value) }
+    ensures fits { IfOk result (λ value. HasFittingDefaults syntax.now → length (der syntax.now value) < 2 ^ 32
+        → Fits syntax.now value) }
+    ensures bad { IfErr result (λ refusal. refusal ≢ Memory → (refusal ≡ BadValue (first_place text.now))
+        × (value_named (arcs_named names.now) syntax.now (said text.now) ≡ None)) }
+{
+    match denote::<Filters>(alloc, names, syntax, text) {
+        Ok(Some(value)) => Ok(value),
+        Ok(None) => Err(ValueRefusal::BadValue {
+            token: first_place(text),
+        }),
+        Err(_) => Err(ValueRefusal::Memory),
+    }
+}
+
+/// The value of the syntax that the text denotes, where no module defines a name with which an object identifier
+/// begins.
 pub fn value_of(alloc: Global, syntax: &Syntax, text: &ValueText) -> Result<Value, ValueRefusal>
     ensures denoted { IfOk result (λ value. value_said syntax.now (said text.now) ≡ Some value) }
     ensures fits { IfOk result (λ value. HasFittingDefaults syntax.now → length (der syntax.now value) < 2 ^ 32
@@ -55,11 +82,6 @@ pub fn value_of(alloc: Global, syntax: &Syntax, text: &ValueText) -> Result<Valu
     ensures bad { IfErr result (λ refusal. refusal ≢ Memory → (refusal ≡ BadValue (first_place text.now))
         × (value_said syntax.now (said text.now) ≡ None)) }
 {
-    match denote::<Filters>(alloc, syntax, text) {
-        Ok(Some(value)) => Ok(value),
-        Ok(None) => Err(ValueRefusal::BadValue {
-            token: first_place(text),
-        }),
-        Err(_) => Err(ValueRefusal::Memory),
-    }
+    let names = FirstNames::new(alloc);
+    value_with_names(alloc, &names, syntax, text)
 }

@@ -2,6 +2,7 @@ use Rattle.std.proofs.Common.{rules, ◌≡◌, ◌∷◌, [], IfOk, None, lengt
 use Rattle.asn1_values_syntax.specs.declared.value.BracesText.TheVariants.{Parts}
 use Rattle.asn1_values.proofs.RowLaws.{parts_content, no_arcs, one_part}
 use Rattle.asn1_values.specs.Arcs.{arcs_said}
+use Rattle.asn1_values.specs.FirstNames.{arcs_named}
 use Rattle.asn1_values.specs.TextValues.{TextValue, said, said_name, said_value, content_said, parts_said}
 use Rattle.asn1_values.specs.TextValues.TextValue.{InBraces}
 use Rattle.asn1_values.specs.TextValues.TextParts.{NoTexts, AndText}
@@ -11,7 +12,8 @@ pub returns-then-parts-ne1 : goal.returns-then-parts-ne1
 returns-then-parts-ne1 c =
     let parts = c.in-Parts.parts in
     let text : said c.args.text.now ≡ content_said (Parts parts) = search rules in
-    ap arcs_said (text ∙ parts_content parts) ∙ no_arcs parts.items (search rules)
+    let names = arcs_named c.args.names.now in
+    ap (arcs_said names) (text ∙ parts_content parts) ∙ no_arcs names parts.items (search rules)
 
 pub returns-else-parts-ne1 : goal.returns-else-parts-ne1
 returns-else-parts-ne1 c =
@@ -22,4 +24,5 @@ returns-else-parts-ne1 c =
     one_part parts.items x (search rules) (search rules) in
     let whole : said c.args.text.now ≡ InBraces (AndText (said_name x) (said_value x) NoTexts) =
     text ∙ parts_content parts ∙ ap InBraces one in
-    subst (λ (s : TextValue). IfOk c.named_arcs.result (λ found. arcs_said s ≡ found)) (sym whole) c.named_arcs.ensures
+    subst (λ (s : TextValue). IfOk c.alone_arcs.result (λ found. arcs_said (arcs_named c.args.names.now) s ≡ found))
+    (sym whole) c.alone_arcs.ensures

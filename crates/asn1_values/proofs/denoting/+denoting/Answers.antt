@@ -10,7 +10,8 @@ use Rattle.term_values.specs.declared.value.Slot.TheVariants.{Present}
 use Rattle.asn1_values.proofs.ComponentLaws.{member_read, part_there, part_absent, part_missing, too_many, names_next}
 use Rattle.asn1_values.proofs.ComponentLaws.{drop_next, empty_is}
 use Rattle.asn1_values.proofs.UnorderedLaws.{component_read, component_missing, none_left, all_left}
-use Rattle.asn1_values.specs.Denoted.{denoted, members_said, components_said, unordered_said}
+use Rattle.asn1_values.specs.Denoted.{denoted, members_said, components_said, reading_of, unordered_said}
+use Rattle.asn1_values.specs.FirstNames.{arcs_named}
 use Rattle.asn1_values.specs.Steps.{part_names, next_comes, left_of, no_texts, next_slot}
 use Rattle.asn1_values.specs.TextValues.{said, said_name, said_value, parts_said}
 use Rattle.asn1_values.proofs.denoting.+denoting.Goals.{denote_components-then-comes+in_ok-denote+in-Some+in_ok-push-in-Some}
@@ -19,7 +20,7 @@ use Rattle.asn1_values.proofs.denoting.+denoting.Goals as goal
 
 pub denote-returns-in-ListOf : goal.denote-returns-in-ListOf
 denote-returns-in-ListOf g t c =
-    let reading = g.F.FilterReading.reading in
+    let reading = (reading_of g.F.FilterReading.reading (arcs_named c.args.names.now)) in
     let same : c.deref.result.now ≡ c.in-ListOf.member.value = search rules in
     let syntax : c.args.syntax.now ≡ SequenceOf c.in-ListOf.member.value c.in-ListOf.sizes = search rules in
     subst (λ s. IfOk c.denote_list.result (λ found. denoted reading s (said c.args.text.now) ≡ found)) (sym syntax)
@@ -29,7 +30,7 @@ denote-returns-in-ListOf g t c =
 
 pub denote-returns-in-SetOf : goal.denote-returns-in-SetOf
 denote-returns-in-SetOf g t c =
-    let reading = g.F.FilterReading.reading in
+    let reading = (reading_of g.F.FilterReading.reading (arcs_named c.args.names.now)) in
     let same : c.deref-in-SetOf.result.now ≡ c.in-SetOf.member.value = search rules in
     let syntax : c.args.syntax.now ≡ SetOf c.in-SetOf.member.value c.in-SetOf.sizes = search rules in
     subst (λ s. IfOk c.denote_set_of.result (λ found. denoted reading s (said c.args.text.now) ≡ found)) (sym syntax)
@@ -39,7 +40,7 @@ denote-returns-in-SetOf g t c =
 
 pub denote_components-returns-in-None-2 : goal.denote_components-returns-in-None-2
 denote_components-returns-in-None-2 g t c =
-    let reading = g.F.FilterReading.reading in
+    let reading = (reading_of g.F.FilterReading.reading (arcs_named c.args.names.now)) in
     let items = c.as_slice-items.result.now in
     let k = c.loop-k.k in
     let part = c.index-items-k.result in
@@ -54,7 +55,7 @@ denote_components-returns-in-None-2 g t c =
 
 pub denote_components-loop-k-preserved : goal.denote_components-loop-k-preserved
 denote_components-loop-k-preserved g t c =
-    let reading = g.F.FilterReading.reading in
+    let reading = (reading_of g.F.FilterReading.reading (arcs_named c.args.names.now)) in
     let items = c.as_slice-items.result.now in
     let k = c.loop-k.k in
     let part = c.index-items-k.result in
@@ -94,7 +95,7 @@ denote_components-loop-k-preserved g t c =
 
 pub denote_components-returns-then-next-texts : goal.denote_components-returns-then-next-texts
 denote_components-returns-then-next-texts g t c =
-    let reading = g.F.FilterReading.reading in
+    let reading = (reading_of g.F.FilterReading.reading (arcs_named c.args.names.now)) in
     let items = c.as_slice-items.result.now in
     let parts : c.args.parts.now ≡ parts_listed items = search rules in
     let none : drop c.loop-k.k items ≡ [] = nothing_left items c.loop-k.k (omega arith) in
@@ -112,7 +113,7 @@ denote_components-returns g t c =
 
 pub denote_members-loop-part-preserved : goal.denote_members-loop-part-preserved
 denote_members-loop-part-preserved g t c =
-    let member = denoted g.F.FilterReading.reading c.args.member.now in
+    let member = denoted (reading_of g.F.FilterReading.reading (arcs_named c.args.names.now)) c.args.member.now in
     let texts = c.args.texts.now in
     let i = c.loop-part.part-index in
     let x = c.part-item.result in
@@ -126,7 +127,7 @@ denote_members-loop-part-preserved g t c =
 
 pub denote_members-returns : goal.denote_members-returns
 denote_members-returns g t c =
-    let member = denoted g.F.FilterReading.reading c.args.member.now in
+    let member = denoted (reading_of g.F.FilterReading.reading (arcs_named c.args.names.now)) c.args.member.now in
     let none : drop c.loop-part.part-index c.args.texts.now ≡ [] =
     nothing_left c.args.texts.now c.loop-part.part-index (omega arith) in
     c.loop-part.invariant
@@ -142,13 +143,13 @@ denote_unordered-loop-k-init g t c =
     ap (λ bs. left_of bs texts) same ∙ all_left texts in
     record {
       long = search rules;
-      same = rw (none, all) (sym (nothing_before (unordered_said g.F.FilterReading.reading []
+      same = rw (none, all) (sym (nothing_before (unordered_said (reading_of g.F.FilterReading.reading (arcs_named c.args.names.now)) []
           (parts_listed c.as_slice-items.result.now) (parts_said texts))));
     }
 
 pub denote_unordered-returns-in-None : goal.denote_unordered-returns-in-None
 denote_unordered-returns-in-None g t c =
-    let reading = g.F.FilterReading.reading in
+    let reading = (reading_of g.F.FilterReading.reading (arcs_named c.args.names.now)) in
     let items = c.as_slice-items.result.now in
     let k = c.loop-k.k in
     let part = c.index-items-k.result in
@@ -163,7 +164,7 @@ denote_unordered-returns-in-None g t c =
 
 pub denote_unordered-loop-k-preserved : goal.denote_unordered-loop-k-preserved
 denote_unordered-loop-k-preserved g t c =
-    let reading = g.F.FilterReading.reading in
+    let reading = (reading_of g.F.FilterReading.reading (arcs_named c.args.names.now)) in
     let items = c.as_slice-items.result.now in
     let k = c.loop-k.k in
     let part = c.index-items-k.result in
@@ -191,7 +192,7 @@ denote_unordered-loop-k-preserved g t c =
 
 pub denote_unordered-returns : goal.denote_unordered-returns
 denote_unordered-returns g t c =
-    let reading = g.F.FilterReading.reading in
+    let reading = (reading_of g.F.FilterReading.reading (arcs_named c.args.names.now)) in
     let items = c.as_slice-items.result.now in
     let parts : c.args.parts.now ≡ parts_listed items = search rules in
     let none : drop c.loop-k.k items ≡ [] = nothing_left items c.loop-k.k (omega arith) in
