@@ -1,0 +1,4 @@
+-- The definitions that the contracts of this crate cite.
+pub mod FilledSyntaxes
+pub mod LinkedMeanings
+pub mod SaidTexts
