@@ -1,0 +1,4 @@
+pub mod UnitStops
+pub mod OneUnit
+pub mod UnitRows
+mod UnitFacts
