@@ -1,0 +1,2 @@
+mod ClassFacts
+pub mod NotingLaws
