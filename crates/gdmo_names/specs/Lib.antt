@@ -29,7 +29,6 @@ pub mod FaultSets
 pub mod LabelSteps
 pub mod InStep
 pub mod TargetTables
-pub mod SectionTables
 pub mod FindingSteps
 pub mod SectionFaults
 pub mod GroupFaults

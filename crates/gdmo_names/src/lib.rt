@@ -8,11 +8,9 @@ pub mod finding_members;
 pub mod finding_packages;
 pub mod first_fault;
 pub mod found;
-pub mod labels;
 pub mod parsed;
 pub mod refusal;
 pub mod roles;
-pub mod section_references;
 
 pub use parsed::Parsed;
 pub use refusal::LabelRefusal;

@@ -6,7 +6,7 @@ use extra_syntax::instance::InstanceKind;
 use extra_syntax::section::Section;
 use gdmo_names::found::Body;
 use gdmo_names::roles::Role;
-use gdmo_names::section_references::InstanceTargets;
+use gdmo_targets::section_references::InstanceTargets;
 use gdmo_types::attribute_types::targets_in_role;
 use gdmo_types::linkage::Linkage;
 use std::alloc::{AllocError, Global};
