@@ -105,7 +105,7 @@ syntax_example : TellsSyntax net (TypeAt 0 1 type_u) (Some (Sequence (APart (cod
 syntax_example = of_type u_denotes
 
 no_syntax_example : TellsSyntax net Nothing None
-no_syntax_example syntax has = elim has [ ]
+no_syntax_example = refl
 
 no_number_example : TellsSyntaxAt net 3 None
 unfolding numbered_at

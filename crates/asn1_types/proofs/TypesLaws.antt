@@ -21,7 +21,7 @@ use Rattle.asn1_names.specs.FirstModuleFault.FaultKind.{NotSupported}
 use Rattle.asn1_names.specs.ModuleFaults.UnsupportedAt.{too_many_nodes}
 use Rattle.asn1_names.specs.ModuleTerms.{ModuleTerm, TypeTerm}
 use Rattle.asn1_names.specs.NameMeaning.{Meaning, meaning_within, module_meaning}
-use Rattle.asn1_names.specs.NameMeaning.Meaning.{StandardType as MeansStandard}
+use Rattle.asn1_names.specs.NameMeaning.Meaning.{Nothing, StandardType as MeansStandard}
 use Rattle.asn1_names.specs.NodeCount.{HasNodes}
 use Rattle.asn1_names.specs.Occurrences.{Assigns, first_word, type_assigned}
 use Rattle.asn1_names.specs.ResolvedTypes.{HasSyntax, HasText, meaning_of}
@@ -112,6 +112,14 @@ syntax_told tables inside self number m of syntax = told_of_type (λ ms h t. Den
     number m of
 
 -- ---- the syntax of a meaning
+
+nothing_has_none : {ms : List ModuleTerm} {syntax : TypeSyntax} → HasSyntax ms Nothing syntax → ⊥
+nothing_has_none has = elim has [ ]
+
+-- where nothing is meant there is no syntax
+pub no_syntax : (ms : List ModuleTerm) (meant : Meaning) → TellsSyntax ms meant None → (syntax : TypeSyntax) →
+    HasSyntax ms meant syntax → ⊥
+no_syntax ms meant none syntax has = nothing_has_none (subst (λ m. HasSyntax ms m syntax) none has)
 
 pub type_syntax : (ms : List ModuleTerm) (number : ℕ) (meant : Meaning) (told : Option TypeSyntax) →
     IsTypeNumber ms number meant → TellsSyntaxAt ms number told → TellsSyntax ms meant told

@@ -21,9 +21,9 @@ place_meant (ValueAt m i of number text) = Some m
 place_meant (StandardType syntax) = None
 place_meant Nothing = None
 
--- the syntax that a meaning has, or that it has none
+-- the syntax that a meaning has, or that nothing is meant: a type and a value have a syntax
 abbrev pub TellsSyntax : List ModuleTerm → Meaning → Option TypeSyntax → Type 0
-TellsSyntax ms meant None = (syntax : TypeSyntax) → ¬ HasSyntax ms meant syntax
+TellsSyntax ms meant None = meant ≡ Nothing
 TellsSyntax ms meant (Some syntax) = HasSyntax ms meant syntax
 
 -- the syntax of the type of the assignment with a number, or that no assignment has it
