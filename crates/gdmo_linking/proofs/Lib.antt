@@ -7,6 +7,3 @@ pub mod KindLaws
 pub mod CountLaws
 pub mod NameLaws
 pub mod PlaceLaws
-pub mod BodyLaws
-pub mod MemberLaws
-pub mod TextLaws

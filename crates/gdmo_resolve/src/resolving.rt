@@ -7,12 +7,14 @@ use asn1_types::Types;
 use gdmo_names::finding_classes::find_templates;
 use gdmo_names::first_fault::Faults;
 use gdmo_names::found::Found;
-use gdmo_names::labels::{label_table, note_double_labels, note_fixed_groups, targets_of};
 use gdmo_names::parsed::Parsed;
 use gdmo_names::refusal::LabelRefusal;
-use gdmo_names::section_references::{Labelled, SectionTargets, note_stated_twice};
 use gdmo_rules::class_members::class_graph;
 use gdmo_rules::rule_faults::RuleJudge;
+use gdmo_targets::fixed_groups::note_fixed_groups;
+use gdmo_targets::labels::{label_table, note_double_labels, targets_of};
+use gdmo_targets::section_references::{Labelled, SectionTargets};
+use gdmo_targets::stated_rules::note_stated_twice;
 use gdmo_types::attribute_types::attribute_types;
 use gdmo_types::linkage::Linkage;
 use gdmo_types::module_names::{NamedThings, module_names};
@@ -80,7 +82,8 @@ fn note_typed<'a, 't>(
 ) -> Result<(), AllocError> {
     note_fields(linkage, numbers, faults)?;
     let sections = parts.sections.as_slice();
-    note_stated_twice(linkage.alloc, sections, targets.rules.as_slice(), faults)?;
+    let rules = targets.rules.as_slice();
+    note_stated_twice(linkage.alloc, linkage.templates, sections, rules, faults)?;
     judge_rules(linkage, numbers, parts, targets, faults)
 }
 

@@ -1,9 +1,0 @@
-use Rattle.std.proofs.Common.{ℕ, take}
-use Rattle.gdmo_names.specs.InStep.{AreEach}
-use Rattle.gdmo_names.specs.PartTerms.{PartTerms}
-use Rattle.gdmo_linking.specs.MemberTexts.{IsFieldText, LinksField}
-use Rattle.gdmo_linking.proofs.linking_members.linked_fields.Given as goal
-
-abbrev pub invariant-loop-k : goal.invariant-loop-k
-invariant-loop-k l = (parts : PartTerms) (document : ℕ) → AreEach (LinksField parts document) l.fields l.attributes →
-    AreEach (IsFieldText parts document) (take l.k l.fields) l.linked.items

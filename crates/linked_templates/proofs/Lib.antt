@@ -1,0 +1,4 @@
+-- The lemmas of this crate.
+pub mod BodyLaws
+pub mod MemberLaws
+pub mod TextLaws
