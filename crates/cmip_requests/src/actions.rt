@@ -9,8 +9,8 @@ ghost use Rattle.term_model.specs.Comparing.{is_same_oid};
 ghost use Rattle.term_model.specs.ArgumentRows.{at_end, held_under};
 ghost use Rattle.term_model.specs.ScopedReading.{action_behind, action_inside, action_syntax, action_with};
 
-use crate::asserting::{copy_id, given, read_id};
-use crate::rows::{at_end, held_under};
+use argument_parts::asserting::{copy_id, given, read_id};
+use argument_parts::rows::{at_end, held_under};
 use std::alloc::{AllocError, Global};
 use term_model::{ActRec, ActRecs, Given, IdRef};
 use term_values::{Oid, Syntax, Tree};

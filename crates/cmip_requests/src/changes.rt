@@ -7,9 +7,9 @@ ghost use Rattle.term_model.specs.Assertions.{attribute_given};
 ghost use Rattle.term_model.specs.ArgumentRows.{all_in};
 ghost use Rattle.term_model.specs.ScopedReading.{change_behind, change_in, change_inside, change_with, operator_of};
 
-use crate::asserting::{attribute_given, copy_id, read_id};
-use crate::parts::{at_most_one, inside_of, integer_of};
-use crate::rows::at_front;
+use argument_parts::asserting::{attribute_given, copy_id, read_id};
+use argument_parts::parts::{at_most_one, inside_of, integer_of};
+use argument_parts::rows::at_front;
 use std::alloc::{AllocError, Global};
 use term_model::request::REPLACE;
 use term_model::{AttrRecs, Change, Changes, Given, IdRef};

@@ -10,11 +10,11 @@ ghost use Rattle.term_model.specs.CreateReading.{create_attributes, create_in, c
 ghost use Rattle.term_model.specs.CreateReading.{create_trees, create_with, givens_of, place_in, place_of};
 ghost use Rattle.term_model.specs.CreateReading.{reference_of};
 
-use crate::asserting::read_id;
-use crate::heads::is_controlled;
-use crate::instances::{inside_any, read_instance};
-use crate::lists::read_givens;
-use crate::rows::{at_end, at_front, is_context, one_under, place_at_front};
+use argument_parts::asserting::read_id;
+use argument_parts::heads::is_controlled;
+use argument_parts::instances::{inside_any, read_instance};
+use argument_parts::lists::read_givens;
+use argument_parts::rows::{at_end, at_front, is_context, one_under, place_at_front};
 use std::alloc::{AllocError, Global};
 use term_model::{AttrRecs, Givens, IdRef, Instance, Place, Request, Set};
 use term_values::Tree;

@@ -9,9 +9,9 @@ ghost use Rattle.term_model.specs.ReportReading.{event_of, event_with, notificat
 ghost use Rattle.term_model.specs.ReportReading.{report_of, report_trees, report_with, time_in, time_of};
 
 use crate::actions::given_any;
-use crate::asserting::read_id;
-use crate::heads::read_object;
-use crate::rows::{at_end, at_front, held_under};
+use argument_parts::asserting::read_id;
+use argument_parts::heads::read_object;
+use argument_parts::rows::{at_end, at_front, held_under};
 use ber_values::string_reading::read_octets;
 use std::alloc::{AllocError, Global};
 use term_model::{Given, IdRef, Instance, NoteRec, NoteRecs, Request, Set};

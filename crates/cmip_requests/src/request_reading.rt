@@ -12,17 +12,17 @@ ghost use Rattle.term_model.specs.ArgumentRows.{inside_last};
 use crate::actions::read_action;
 use crate::changes::read_changes;
 use crate::creating::read_create;
-use crate::heads::{Scoped, read_head, scoped_in};
-use crate::instances::inside_any;
-use crate::lists::read_ids;
 use crate::operations::{
     M_ACTION, M_ACTION_CONFIRMED, M_CREATE, M_DELETE, M_EVENT_REPORT, M_EVENT_REPORT_CONFIRMED,
     M_GET, M_SET, M_SET_CONFIRMED,
 };
-use crate::parts::{inside_of, integer_of, is_end};
 use crate::reports::read_report;
 use crate::request_refusal::RequestRefusal;
-use crate::rows::{at_end, inside_last};
+use argument_parts::heads::{Scoped, read_head, scoped_in};
+use argument_parts::instances::inside_any;
+use argument_parts::lists::read_ids;
+use argument_parts::parts::{inside_of, integer_of, is_end};
+use argument_parts::rows::{at_end, inside_last};
 use std::alloc::{AllocError, Global};
 use term_model::{ActRecs, AttrRecs, Changes, Given, IdRef, Ids, Request, Set};
 use term_values::{Tag, Tree};

@@ -5,7 +5,7 @@ use Rattle.term_values.specs.Tree.{listed}
 use Rattle.term_model.specs.declared.request.IdRef.{IdRef}
 use Rattle.term_model.specs.ArgumentRows.{all_in}
 use Rattle.term_model.specs.Assertions.{id_in}
-use Rattle.cmip_requests.proofs.lists.read_ids.Given as goal
+use Rattle.argument_parts.proofs.lists.read_ids.Given as goal
 
 abbrev pub invariant-loop-tree : goal.invariant-loop-tree
 invariant-loop-tree l = all_in (id_in 0 1) (listed l.trees)

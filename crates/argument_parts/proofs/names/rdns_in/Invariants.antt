@@ -3,8 +3,8 @@ use Rattle.std.proofs.Common.{◌≡◌, drop}
 use Rattle.std.specs.Option.{option_map}
 use Rattle.term_values.specs.Tree.{listed}
 use Rattle.term_model.specs.InstanceNames.{rdns_in}
-use Rattle.cmip_requests.proofs.NameParts.{behind}
-use Rattle.cmip_requests.proofs.names.rdns_in.Given as goal
+use Rattle.argument_parts.proofs.NameParts.{behind}
+use Rattle.argument_parts.proofs.names.rdns_in.Given as goal
 
 abbrev pub invariant-loop-tree : goal.invariant-loop-tree
 invariant-loop-tree l = rdns_in l.records (listed l.trees)
