@@ -1,7 +1,7 @@
 //! From a line to its answer.
 
 use crate::row_fault::RowFault;
-use crate::{apdu_rows, encoding_rows, journal_rows, object_rows, schema_rows, script_rows};
+use crate::{apdu_rows, encoding_rows, object_rows, schema_rows};
 use std::alloc::{AllocError, Global};
 use term_model::Set;
 
@@ -19,8 +19,6 @@ fn answer_call(
         "schema" => schema_rows::answer(alloc, schema, call, arguments, out),
         "op_object" => object_rows::answer(alloc, schema, call, arguments, out),
         "cmip_apdus" => apdu_rows::answer(alloc, call, arguments, out),
-        "journal_text" => journal_rows::answer(alloc, call, arguments, out),
-        "first_script" => script_rows::answer(alloc, call, arguments, out),
         _ => Err(RowFault::Call),
     }
 }

@@ -5,12 +5,10 @@
 mod answering;
 mod apdu_rows;
 mod encoding_rows;
-mod journal_rows;
 mod object_rows;
 mod reading;
 mod row_fault;
 mod schema_rows;
-mod script_rows;
 mod showing;
 
 use answering::answer_line;

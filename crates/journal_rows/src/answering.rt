@@ -1,0 +1,44 @@
+//! From a line to its answer.
+
+use crate::row_fault::RowFault;
+use crate::{entry_rows, script_rows};
+use std::alloc::{AllocError, Global};
+
+/// Appends the answer to a call, whose crate, name and arguments these are.
+fn answer_call(
+    alloc: Global,
+    place: &str,
+    call: &str,
+    arguments: &str,
+    out: &mut String,
+) -> Result<(), RowFault> {
+    match place {
+        "journal_text" => entry_rows::answer(alloc, call, arguments, out),
+        "first_script" => script_rows::answer(alloc, call, arguments, out),
+        _ => Err(RowFault::Call),
+    }
+}
+
+/// Appends the answer to a row, or why there is none.
+fn answer_row(alloc: Global, row: &str, out: &mut String) -> Result<(), AllocError> {
+    let (name, arguments) = row.split_once(' ').unwrap_or((row, ""));
+    let (place, call) = name.split_once("::").unwrap_or((name, ""));
+    match answer_call(alloc, place, call, arguments, out) {
+        Ok(()) => Ok(()),
+        Err(fault) => {
+            out.clear();
+            out.push_str(fault.text())
+        }
+    }
+}
+
+/// What is printed for a line.
+pub fn answer_line(alloc: Global, line: &str) -> Result<String, AllocError> {
+    let mut out = String::new(alloc);
+    if line.is_empty() || line.starts_with('#') {
+        out.push_str(line)?;
+    } else {
+        answer_row(alloc, line, &mut out)?;
+    }
+    Ok(out)
+}
