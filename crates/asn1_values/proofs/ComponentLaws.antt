@@ -16,10 +16,10 @@ use Rattle.term_values.specs.declared.value.Slot.TheVariants.{Absent, Present}
 use Rattle.asn1_values_syntax.specs.declared.value.ValuePart.{ValuePart}
 use Rattle.asn1_values.specs.Denoted.{Reading, denoted, is_meant, members_said, components_said, unordered_said, taken_out}
 use Rattle.asn1_values.specs.Denoted.{only_where, where_taken}
-use Rattle.asn1_values.specs.Literals.{same_name}
+use Rattle.asn1_leaf_values.specs.Literals.{same_name}
 use Rattle.asn1_values.specs.Steps.{part_names, next_comes, left_of, no_texts, slot_by, next_slot}
-use Rattle.asn1_values.specs.TextValues.{TextValue, TextParts, said_name, said_value, parts_said}
-use Rattle.asn1_values.specs.TextValues.TextParts.{NoTexts, AndText}
+use Rattle.asn1_leaf_values.specs.TextValues.{TextValue, TextParts, said_name, said_value, parts_said}
+use Rattle.asn1_leaf_values.specs.TextValues.TextParts.{NoTexts, AndText}
 
 -- ---- members
 

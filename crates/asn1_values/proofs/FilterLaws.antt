@@ -5,9 +5,9 @@ use Rattle.ber_values.specs.Left.{values_before}
 use Rattle.term_values.specs.Typed.{TypedValue}
 use Rattle.asn1_values_syntax.specs.declared.value.ValuePart.{ValuePart}
 use Rattle.asn1_values.proofs.ComponentLaws.{value_read}
-use Rattle.asn1_values.specs.Arcs.{NamedArcs}
+use Rattle.asn1_leaf_values.specs.Arcs.{NamedArcs}
 use Rattle.asn1_values.specs.Filters.{where_unnamed, filter_said, each_said}
-use Rattle.asn1_values.specs.TextValues.{said_name, said_value, parts_said}
+use Rattle.asn1_leaf_values.specs.TextValues.{said_name, said_value, parts_said}
 
 pub each_read : (names : NamedArcs) (before : List TypedValue) (part : ValuePart) (left rest : List ValuePart) (v : TypedValue)
     → left ≡ part ∷ rest → where_unnamed (said_name part) (filter_said names (said_value part)) ≡ Some v

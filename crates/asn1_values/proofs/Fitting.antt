@@ -35,15 +35,15 @@ use Rattle.typed_laws.specs.Nesting.{nesting}
 use Rattle.asn1_values.specs.Denoted.{Reading, denoted, components_said, unordered_said, picked_said, chosen_by}
 use Rattle.asn1_values.specs.Denoted.{is_meant, members_said, only_where, reading_of, taken_out, where_taken}
 use Rattle.asn1_values.specs.Filters.{filter_said, filters_said, each_said, item_said, no_filter, alternative}
-use Rattle.asn1_values.specs.Arcs.{NamedArcs}
+use Rattle.asn1_leaf_values.specs.Arcs.{NamedArcs}
 use Rattle.asn1_values.specs.Filters.{rising_filters, where_unnamed, value_named}
-use Rattle.asn1_values.specs.Literals.{same_name}
-use Rattle.asn1_values.specs.TextValues.{TextValue, TextParts, parts_of}
-use Rattle.asn1_values.specs.TextValues.TextValue.{Literal, Number, Name, Chosen, InBraces, InArcs}
-use Rattle.asn1_values.specs.TextValues.TextParts.{NoTexts, AndText}
-use Rattle.asn1_values.proofs.FittingAny.{any_fits}
-use Rattle.asn1_values.proofs.FittingLeaves.{truth_fits, null_fits, whole_fits, enumerated_fits, bit_string_fits}
-use Rattle.asn1_values.proofs.FittingLeaves.{octet_string_fits, text_fits, time_fits, identifier_fits}
+use Rattle.asn1_leaf_values.specs.Literals.{same_name}
+use Rattle.asn1_leaf_values.specs.TextValues.{TextValue, TextParts, parts_of}
+use Rattle.asn1_leaf_values.specs.TextValues.TextValue.{Literal, Number, Name, Chosen, InBraces, InArcs}
+use Rattle.asn1_leaf_values.specs.TextValues.TextParts.{NoTexts, AndText}
+use Rattle.asn1_leaf_values.proofs.FittingAny.{any_fits}
+use Rattle.asn1_leaf_values.proofs.FittingLeaves.{truth_fits, null_fits, whole_fits, enumerated_fits, bit_string_fits}
+use Rattle.asn1_leaf_values.proofs.FittingLeaves.{octet_string_fits, text_fits, time_fits, identifier_fits}
 use Rattle.asn1_values.proofs.FittingParts.{Few, IsFitting, AreFitting, there_fits, absent_fits, rising_few}
 use Rattle.asn1_values.proofs.FittingParts.{members_fit, all_few, all_rising, rising_rises}
 

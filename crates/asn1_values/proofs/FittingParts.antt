@@ -21,8 +21,8 @@ use Rattle.typed_laws.proofs.Choosing.{map_some, then_some}
 use Rattle.typed_laws.proofs.SameIs.{same_is}
 use Rattle.typed_laws.proofs.WritableLaws.{front_within, back_within}
 use Rattle.asn1_values.specs.Denoted.{members_said}
-use Rattle.asn1_values.specs.TextValues.{TextValue, TextParts}
-use Rattle.asn1_values.specs.TextValues.TextParts.{NoTexts, AndText}
+use Rattle.asn1_leaf_values.specs.TextValues.{TextValue, TextParts}
+use Rattle.asn1_leaf_values.specs.TextValues.TextParts.{NoTexts, AndText}
 
 -- fewer octets than a length of 32 bits can say
 abbrev pub Few : List ℕ → Type 0

@@ -16,12 +16,12 @@ use Rattle.term_values.specs.Typed.TypedValues.{Nothing, Then}
 use Rattle.term_values.specs.declared.charset.Charset.TheVariants as charsets
 use Rattle.token_grammar.specs.declared.token.Token.{Token}
 use Rattle.std.specs.Prelude.{if◌then◌else◌}
-use Rattle.asn1_values.specs.Arcs.{NamedArcs}
+use Rattle.asn1_leaf_values.specs.Arcs.{NamedArcs}
 use Rattle.asn1_values.specs.Filters.{value_named, value_said}
-use Rattle.asn1_values.specs.Literals.{same_name}
-use Rattle.asn1_values.specs.TextValues.{TextValue, TextParts}
-use Rattle.asn1_values.specs.TextValues.TextValue.{Literal, Number, Name, Chosen, InBraces, InArcs}
-use Rattle.asn1_values.specs.TextValues.TextParts.{NoTexts, AndText}
+use Rattle.asn1_leaf_values.specs.Literals.{same_name}
+use Rattle.asn1_leaf_values.specs.TextValues.{TextValue, TextParts}
+use Rattle.asn1_leaf_values.specs.TextValues.TextValue.{Literal, Number, Name, Chosen, InBraces, InArcs}
+use Rattle.asn1_leaf_values.specs.TextValues.TextParts.{NoTexts, AndText}
 
 abbrev literal : ℕ → List ℕ → TextValue
 literal kind text = Literal (record { kind = kind; at = 0; text = text })

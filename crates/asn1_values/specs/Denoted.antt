@@ -14,13 +14,14 @@ use Rattle.term_values.specs.Typed.TypedValue.{Parts, Many, Pick}
 use Rattle.term_values.specs.Typed.TypedSlots.{NoSlots, Filled}
 use Rattle.term_values.specs.Typed.TypedValues.{Nothing, Then}
 use Rattle.term_values.specs.Written.{der}
-use Rattle.asn1_values.specs.Arcs.{NamedArcs}
-use Rattle.asn1_values.specs.LeafTexts.{truth_said, whole_said, enumerated_said, bit_string_said, octet_string_said}
-use Rattle.asn1_values.specs.LeafTexts.{null_said, identifier_said, text_said, time_said, any_said}
-use Rattle.asn1_values.specs.Literals.{same_name}
-use Rattle.asn1_values.specs.TextValues.{TextValue, TextParts, parts_of}
-use Rattle.asn1_values.specs.TextValues.TextValue.{Chosen}
-use Rattle.asn1_values.specs.TextValues.TextParts.{NoTexts, AndText}
+use Rattle.asn1_leaf_values.specs.Arcs.{NamedArcs}
+use Rattle.asn1_leaf_values.specs.LeafTexts.{truth_said, whole_said, enumerated_said, bit_string_said}
+use Rattle.asn1_leaf_values.specs.LeafTexts.{octet_string_said, null_said, identifier_said, text_said}
+use Rattle.asn1_leaf_values.specs.LeafTexts.{time_said, any_said}
+use Rattle.asn1_leaf_values.specs.Literals.{same_name}
+use Rattle.asn1_leaf_values.specs.TextValues.{TextValue, TextParts, parts_of}
+use Rattle.asn1_leaf_values.specs.TextValues.TextValue.{Chosen}
+use Rattle.asn1_leaf_values.specs.TextValues.TextParts.{NoTexts, AndText}
 
 -- Of two components of one name a text means the first. A component without a name is written by its value alone.
 abbrev pub is_meant : List ℕ → List (List ℕ) → Bool

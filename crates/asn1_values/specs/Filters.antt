@@ -9,12 +9,12 @@ use Rattle.term_values.specs.Typed.{TypedValue, TypedValues}
 use Rattle.term_values.specs.Typed.TypedValue.{Many, Pick, Raw}
 use Rattle.term_values.specs.Typed.TypedValues.{Nothing, Then}
 use Rattle.term_values.specs.Written.{der}
-use Rattle.asn1_values.specs.Arcs.{NamedArcs, no_names}
+use Rattle.asn1_leaf_values.specs.Arcs.{NamedArcs, no_names}
 use Rattle.asn1_values.specs.Denoted.{denoted, reading_of}
-use Rattle.asn1_values.specs.Literals.{same_name}
-use Rattle.asn1_values.specs.TextValues.{TextValue, TextParts}
-use Rattle.asn1_values.specs.TextValues.TextValue.{Literal, Number, Name, Chosen, InBraces, InArcs}
-use Rattle.asn1_values.specs.TextValues.TextParts.{NoTexts, AndText}
+use Rattle.asn1_leaf_values.specs.Literals.{same_name}
+use Rattle.asn1_leaf_values.specs.TextValues.{TextValue, TextParts}
+use Rattle.asn1_leaf_values.specs.TextValues.TextValue.{Literal, Number, Name, Chosen, InBraces, InArcs}
+use Rattle.asn1_leaf_values.specs.TextValues.TextParts.{NoTexts, AndText}
 
 -- an item holds no filter
 abbrev pub no_filter : NamedArcs → TextValue → Option TypedValue

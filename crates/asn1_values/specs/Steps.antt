@@ -8,9 +8,9 @@ use Rattle.term_values.specs.declared.value.Slot.{Slot}
 use Rattle.term_values.specs.declared.value.Slot.TheVariants.{Absent, Present}
 use Rattle.asn1_values_syntax.specs.declared.value.ValuePart.{ValuePart}
 use Rattle.asn1_values.specs.Denoted.{Reading, denoted, is_meant, taken_out, only_where}
-use Rattle.asn1_values.specs.Literals.{same_name}
-use Rattle.asn1_values.specs.TextValues.{TextValue, TextParts, said_name, said_value}
-use Rattle.asn1_values.specs.TextValues.TextParts.{NoTexts, AndText}
+use Rattle.asn1_leaf_values.specs.Literals.{same_name}
+use Rattle.asn1_leaf_values.specs.TextValues.{TextValue, TextParts, said_name, said_value}
+use Rattle.asn1_leaf_values.specs.TextValues.TextParts.{NoTexts, AndText}
 
 -- the names of components
 abbrev pub part_names : List Part → List (List ℕ)

@@ -11,19 +11,19 @@ ghost use Rattle.term_values.specs.Written.{der};
 ghost use Rattle.asn1_values_syntax.specs.declared.value.ValuePart.{ValuePart};
 ghost use Rattle.asn1_values.specs.Denoted.{denoted, is_meant, members_said, taken_out, chosen_by, picked_said};
 ghost use Rattle.asn1_values.specs.Denoted.{components_said, reading_of, unordered_said};
-ghost use Rattle.asn1_values.specs.Arcs.{NamedArcs};
-ghost use Rattle.asn1_values.specs.FirstNames.{arcs_named};
-ghost use Rattle.asn1_values.specs.Literals.{same_name};
+ghost use Rattle.asn1_leaf_values.specs.Arcs.{NamedArcs};
+ghost use Rattle.asn1_leaf_values.specs.FirstNames.{arcs_named};
+ghost use Rattle.asn1_leaf_values.specs.Literals.{same_name};
 ghost use Rattle.asn1_values.specs.Steps.{part_names, next_comes, left_of, no_texts, next_slot};
-ghost use Rattle.asn1_values.specs.TextValues.{TextValue, said, said_value, parts_of, parts_said};
+ghost use Rattle.asn1_leaf_values.specs.TextValues.{TextValue, said, said_value, parts_of, parts_said};
 
-use super::any_values::read_any;
-use super::arcs::FirstNames;
-use super::leaf_values::{
+use asn1_leaf_values::any_values::read_any;
+use asn1_leaf_values::arcs::FirstNames;
+use asn1_leaf_values::leaf_values::{
     part_name, part_value, parts_of, read_bit_string, read_enumerated, read_identifier, read_null,
     read_octet_string, read_text, read_time, read_truth, read_whole,
 };
-use super::numbers::same_name;
+use asn1_leaf_values::numbers::same_name;
 use asn1_values_syntax::value::{NamedValue, ValuePart, ValueText};
 use ber_values::member_order::rising_members;
 use std::alloc::{AllocError, Global};

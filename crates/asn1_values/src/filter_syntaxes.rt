@@ -2,9 +2,9 @@
 
 ghost use Rattle.std.specs.Prelude.{◌≡◌, IfOk};
 ghost use Rattle.term_values.specs.CmipTypes.{attribute, attribute_id, piece, substrings, filter_item, filter_choice};
-ghost use Rattle.term_values.specs.CmipTypes.{one, implicit, set_of};
+ghost use Rattle.term_values.specs.CmipTypes.{one, implicit, sequence_of, set_of};
 ghost use Rattle.term_values.specs.PartsView.{parts_listed};
-ghost use Rattle.term_values.specs.Syntaxes.TypeSyntax.{Any, Choice, Filter, Sequence, Tagged};
+ghost use Rattle.term_values.specs.Syntaxes.TypeSyntax.{Any, Choice, Filter, ObjectIdentifier, Sequence, Tagged};
 ghost use Rattle.term_values.specs.Syntaxes.TypeParts.{NoParts};
 ghost use Rattle.term_values.specs.Tag.{context};
 ghost use Rattle.asn1_values.specs.Components.{IsOne};
@@ -62,19 +62,52 @@ fn choice(items: Vec<Part>) -> Result<Syntax, AllocError>
     })
 }
 
+/// A SEQUENCE of these components.
+fn sequence(items: Vec<Part>) -> Result<Syntax, AllocError>
+    ensures { IfOk result (λ syntax. syntax ≡ Sequence (parts_listed items.items)) }
+{
+    Ok(Syntax {
+        form: SyntaxForm::Seq(listed(items)?),
+    })
+}
+
+/// ANY.
+fn any() -> Syntax
+    ensures { result ≡ Any }
+{
+    Syntax {
+        form: SyntaxForm::Any,
+    }
+}
+
+/// A component or an alternative that must be there, under a tag of the context class.
+fn one_tagged(
+    alloc: Global,
+    name: &str,
+    number: u32,
+    explicit: bool,
+    inner: Syntax,
+) -> Result<Part, AllocError>
+    ensures { IfOk result (IsOne name.now (Tagged (context number) explicit inner)) }
+{
+    one(alloc, name, tagged(alloc, number, explicit, inner)?)
+}
+
+/// OBJECT IDENTIFIER.
+fn identifier() -> Syntax
+    ensures { result ≡ ObjectIdentifier }
+{
+    Syntax {
+        form: SyntaxForm::Oid,
+    }
+}
+
 /// AttributeId.
 fn attribute_id(alloc: Global) -> Result<Syntax, AllocError>
     ensures { IfOk result (λ syntax. syntax ≡ attribute_id) }
 {
-    let identifier = Syntax {
-        form: SyntaxForm::Oid,
-    };
-    let global = one(alloc, "globalForm", tagged(alloc, 0, false, identifier)?)?;
-    let local = one(
-        alloc,
-        "localForm",
-        tagged(alloc, 1, false, Syntax::integer(alloc))?,
-    )?;
+    let global = one_tagged(alloc, "globalForm", 0, false, identifier())?;
+    let local = one_tagged(alloc, "localForm", 1, false, Syntax::integer(alloc))?;
     choice(vec![in alloc; global, local]?)
 }
 
@@ -82,14 +115,9 @@ fn attribute_id(alloc: Global) -> Result<Syntax, AllocError>
 fn assertion(alloc: Global, id: &str, value: &str) -> Result<Syntax, AllocError>
     ensures { IfOk result (λ syntax. syntax ≡ Sequence (one id.now attribute_id (one value.now Any NoParts))) }
 {
-    let any = Syntax {
-        form: SyntaxForm::Any,
-    };
     let first = one(alloc, id, attribute_id(alloc)?)?;
-    let second = one(alloc, value, any)?;
-    Ok(Syntax {
-        form: SyntaxForm::Seq(listed(vec![in alloc; first, second]?)?),
-    })
+    let second = one(alloc, value, any())?;
+    sequence(vec![in alloc; first, second]?)
 }
 
 /// Attribute.
@@ -110,16 +138,23 @@ fn piece(alloc: Global, name: &str, number: u32) -> Result<Part, AllocError>
     )
 }
 
-/// The pieces of a substrings item.
-fn substrings(alloc: Global) -> Result<Syntax, AllocError>
-    ensures { IfOk result (λ syntax. syntax ≡ substrings) }
+/// A piece of a substrings item.
+fn any_piece(alloc: Global) -> Result<Syntax, AllocError>
+    ensures { IfOk result (λ syntax. sequence_of syntax ≡ substrings) }
 {
     let initial = piece(alloc, "initial", 0)?;
     let any = piece(alloc, "any", 1)?;
     let last = piece(alloc, "final", 2)?;
-    let piece = choice(vec![in alloc; initial, any, last]?)?;
+    choice(vec![in alloc; initial, any, last]?)
+}
+
+/// The pieces of a substrings item.
+fn substrings(alloc: Global) -> Result<Syntax, AllocError>
+    ensures { IfOk result (λ syntax. syntax ≡ substrings) }
+{
+    let member = any_piece(alloc)?;
     Ok(Syntax {
-        form: SyntaxForm::ListOf(Box::new(alloc, piece)?, Ranges::new(alloc)),
+        form: SyntaxForm::ListOf(Box::new(alloc, member)?, Ranges::new(alloc)),
     })
 }
 

@@ -6,22 +6,16 @@ ghost use Rattle.term_values.specs.Fits.{Fits};
 ghost use Rattle.term_values.specs.Soundness.{HasFittingDefaults};
 ghost use Rattle.term_values.specs.Written.{der};
 ghost use Rattle.asn1_values.specs.Filters.{value_named, value_said};
-ghost use Rattle.asn1_values.specs.FirstNames.{arcs_named};
-ghost use Rattle.asn1_values.specs.TextValues.{said, first_place};
+ghost use Rattle.asn1_leaf_values.specs.FirstNames.{arcs_named};
+ghost use Rattle.asn1_leaf_values.specs.TextValues.{said, first_place};
 ghost use Rattle.asn1_values.specs.declared.value_refusal.ValueRefusal.TheVariants.{BadValue, Memory};
 
-mod any_values;
-pub mod arcs;
-mod bits;
 mod denoting;
 mod filter_syntaxes;
 mod filtering;
-mod leaf_values;
-mod numbers;
-mod strings;
 pub mod value_refusal;
 
-pub use arcs::{ArcList, FirstNames, add_first_name};
+pub use asn1_leaf_values::{ArcList, FirstNames, add_first_name};
 use asn1_values_syntax::value::{NamedValue, ValueText};
 use denoting::denote;
 use filtering::Filters;

@@ -1,10 +1,10 @@
 -- No module defines a name.
 use Rattle.std.proofs.Common.{rules, ◌≡◌, Some, None, IfOk, IfErr, subst}
 use Rattle.std.specs.Prelude.{◌≢◌}
-use Rattle.asn1_values.proofs.NameLaws.{empty_named}
-use Rattle.asn1_values.specs.Arcs.{NamedArcs}
+use Rattle.asn1_leaf_values.proofs.NameLaws.{empty_named}
+use Rattle.asn1_leaf_values.specs.Arcs.{NamedArcs}
 use Rattle.asn1_values.specs.Filters.{value_named}
-use Rattle.asn1_values.specs.TextValues.{first_place, said}
+use Rattle.asn1_leaf_values.specs.TextValues.{first_place, said}
 use Rattle.asn1_values.specs.declared.value_refusal.ValueRefusal.TheVariants.{BadValue, Memory}
 use Rattle.asn1_values.proofs.value_of.Goals as goal
 

@@ -11,9 +11,9 @@ use Rattle.asn1_values.proofs.ComponentLaws.{member_read, part_there, part_absen
 use Rattle.asn1_values.proofs.ComponentLaws.{drop_next, empty_is}
 use Rattle.asn1_values.proofs.UnorderedLaws.{component_read, component_missing, none_left, all_left}
 use Rattle.asn1_values.specs.Denoted.{denoted, members_said, components_said, reading_of, unordered_said}
-use Rattle.asn1_values.specs.FirstNames.{arcs_named}
+use Rattle.asn1_leaf_values.specs.FirstNames.{arcs_named}
 use Rattle.asn1_values.specs.Steps.{part_names, next_comes, left_of, no_texts, next_slot}
-use Rattle.asn1_values.specs.TextValues.{said, said_name, said_value, parts_said}
+use Rattle.asn1_leaf_values.specs.TextValues.{said, said_name, said_value, parts_said}
 use Rattle.asn1_values.proofs.denoting.+denoting.Goals.{denote_components-then-comes+in_ok-denote+in-Some+in_ok-push-in-Some}
 use Rattle.asn1_values.proofs.denoting.+denoting.Goals.{denote_components-else-comes+in_ok-left_out+in-Some-2+in_ok-push-in-Some-2}
 use Rattle.asn1_values.proofs.denoting.+denoting.Goals as goal

@@ -2,9 +2,9 @@ use Rattle.std.proofs.Common.{◌≡◌, ◌≤◌, zero, [], length, drop, take
 use Rattle.ber_values.specs.Left.{values_before, slots_before}
 use Rattle.term_values.specs.PartsView.{parts_listed}
 use Rattle.asn1_values.specs.Denoted.{denoted, members_said, picked_said, components_said, reading_of, unordered_said}
-use Rattle.asn1_values.specs.FirstNames.{arcs_named}
+use Rattle.asn1_leaf_values.specs.FirstNames.{arcs_named}
 use Rattle.asn1_values.specs.Steps.{part_names, left_of}
-use Rattle.asn1_values.specs.TextValues.{said, parts_said}
+use Rattle.asn1_leaf_values.specs.TextValues.{said, parts_said}
 use Rattle.asn1_values.proofs.denoting.+denoting.Given as goal
 
 abbrev pub invariant-denote_alternative-loop-k : goal.invariant-denote_alternative-loop-k

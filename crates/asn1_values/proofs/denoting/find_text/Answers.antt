@@ -2,8 +2,8 @@ use Rattle.std.proofs.Common.{rules, ◌≡◌, ◌<◌, true, false, not, get_o
 use Rattle.std.proofs.lemmas.List.{get_or_default}
 use Rattle.ber_values.proofs.UnorderedLaws.{is_free}
 use Rattle.asn1_values.proofs.UnorderedLaws.{found_at, found_nowhere}
-use Rattle.asn1_values.specs.Literals.{same_name}
-use Rattle.asn1_values.specs.TextValues.{said_name}
+use Rattle.asn1_leaf_values.specs.Literals.{same_name}
+use Rattle.asn1_leaf_values.specs.TextValues.{said_name}
 use Rattle.asn1_values.proofs.denoting.find_text.Goals as goal
 
 pub returns-then-same_name-clause-found : goal.returns-then-same_name-clause-found

@@ -1,7 +1,7 @@
 use Rattle.std.proofs.Common.{◌≡◌, ◌<◌, ℕ, true, false, get_or}
 use Rattle.asn1_values_syntax.specs.declared.value.ValuePart.{ValuePart}
-use Rattle.asn1_values.specs.Literals.{same_name}
-use Rattle.asn1_values.specs.TextValues.{said_name}
+use Rattle.asn1_leaf_values.specs.Literals.{same_name}
+use Rattle.asn1_leaf_values.specs.TextValues.{said_name}
 use Rattle.asn1_values.proofs.denoting.find_text.Given as goal
 
 abbrev pub invariant-loop-k : goal.invariant-loop-k

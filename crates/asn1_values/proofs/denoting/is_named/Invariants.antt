@@ -1,6 +1,6 @@
 use Rattle.std.proofs.Common.{◌≡◌, drop}
 use Rattle.std.specs.List.{list_any}
-use Rattle.asn1_values.specs.Literals.{same_name}
+use Rattle.asn1_leaf_values.specs.Literals.{same_name}
 use Rattle.asn1_values.specs.Steps.{part_names}
 use Rattle.asn1_values.proofs.denoting.is_named.Given as goal
 

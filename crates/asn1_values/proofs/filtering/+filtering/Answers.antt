@@ -4,12 +4,12 @@ use Rattle.ber_values.proofs.DecodingLaws.{values_all, nothing_left}
 use Rattle.ber_values.specs.Left.{values_before}
 use Rattle.asn1_values.proofs.ComponentLaws.{drop_next}
 use Rattle.asn1_values.proofs.FilterLaws.{each_read}
-use Rattle.asn1_values.proofs.RowLaws.{parts_content}
+use Rattle.asn1_leaf_values.proofs.RowLaws.{parts_content}
 use Rattle.asn1_values_syntax.specs.declared.value.BracesText.TheVariants.{Parts}
 use Rattle.term_values.specs.Typed.{TypedValue}
 use Rattle.asn1_values.specs.Filters.{rising_filters, where_unnamed, filter_said, filters_said, each_said}
-use Rattle.asn1_values.specs.FirstNames.{arcs_named}
-use Rattle.asn1_values.specs.TextValues.{said, said_name, said_value, content_said, parts_said}
+use Rattle.asn1_leaf_values.specs.FirstNames.{arcs_named}
+use Rattle.asn1_leaf_values.specs.TextValues.{said, said_name, said_value, content_said, parts_said}
 use Rattle.asn1_values.proofs.filtering.+filtering.Goals as goal
 
 pub read_each-loop-part-preserved : goal.read_each-loop-part-preserved
