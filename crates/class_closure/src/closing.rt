@@ -1,23 +1,22 @@
 //! The call that closes the classes of linked parts, or tells the first fault (X.722, sections 5.2 and 8; docs/PROFILE.md,
 //! section 18).
 
-use crate::class_faults::note_classes;
-use crate::class_records::{JoinedClasses, class_records};
-use crate::closing_parts::{ClosingParts, MemberTypes, action_types, notification_types};
-use crate::derived_attributes::{DerivedAttributes, derived_attributes};
-use crate::first_fault::{Faults, refusal_of};
-use crate::inheriting::{Inheriting, Statement};
-use crate::member_records::{
-    action_records, attribute_records, binding_records, group_records, notification_records,
-};
+use crate::joined_faults::note_classes;
 use crate::package_faults::{all_statements, note_packages};
-use crate::refusal::ClassRefusal;
-use crate::section_values::{InstanceValues, instance_values, rule_records};
-use crate::type_table::TypeTable;
 use asn1_syntax::module::Module;
 use asn1_types::Types;
+use class_faults::{ClassRefusal, Faults, refusal_of};
 use filled_syntaxes::{BadTexts, NamedThings};
+use joined_properties::{AssignedValues, Inheriting, Statement};
 use linked_parts::Linked;
+use linked_types::{ClosingParts, TypeTable, types_of_parts};
+use schema_records::class_records::{JoinedClasses, class_records};
+use schema_records::member_records::{
+    action_records, attribute_records, binding_records, group_records, notification_records,
+};
+use section_values::InstanceValues;
+use section_values::instances::instance_values;
+use section_values::rules::rule_records;
 use std::alloc::{AllocError, Global};
 use term_model::{ActRecs, AttrRecs, BindRecs, ClassRecs, GroupRecs, NoteRecs, RuleRecs};
 use term_values::Value;
@@ -43,62 +42,80 @@ pub struct Classes {
     pub instances: Vec<InstanceValues>,
 }
 
-/// The tables of linked parts, and what is noted while they are made.
-#[derive(Drop)]
-struct Tables {
-    table: TypeTable,
-    values: Vec<Option<Value>>,
-    attributes: DerivedAttributes,
-    actions: Vec<MemberTypes>,
-    notifications: Vec<MemberTypes>,
-    stated: Vec<Vec<Statement>>,
-    bad: BadTexts,
-    faults: Faults,
+/// No records yet but those of sections.
+fn section_records(alloc: Global, rules: RuleRecs, instances: Vec<InstanceValues>) -> Classes {
+    Classes {
+        classes: ClassRecs::new(alloc),
+        attributes: AttrRecs::new(alloc),
+        groups: GroupRecs {
+            items: Vec::new(alloc),
+        },
+        bindings: BindRecs {
+            items: Vec::new(alloc),
+        },
+        actions: ActRecs {
+            items: Vec::new(alloc),
+        },
+        notifications: NoteRecs {
+            items: Vec::new(alloc),
+        },
+        rules,
+        instances,
+    }
 }
 
-/// The types and values that names mean, and what packages state.
-fn tables_of(things: &NamedThings, linked: &Linked) -> Result<Tables, AllocError> {
-    let mut bad = BadTexts::none();
-    let mut faults = Faults { first: None };
-    let values = things.assigned_values(&mut bad)?;
-    let mut table = TypeTable::new(things.alloc, values.as_slice().len())?;
-    let attributes = derived_attributes(things, linked, &mut table, &mut bad, &mut faults)?;
-    let actions = action_types(things, linked, &mut table, &mut bad)?;
-    let notifications = notification_types(things, linked, &mut table, &mut bad)?;
-    let packages = linked.packages.as_slice();
-    let stated = all_statements(things, values.as_slice(), &mut table, packages, &mut bad)?;
-    Ok(Tables {
-        table,
-        values,
-        attributes,
-        actions,
-        notifications,
-        stated,
-        bad,
-        faults,
-    })
+/// Puts the records of templates in their places.
+fn keep_records(
+    parts: &ClosingParts,
+    joined: &JoinedClasses,
+    into: &mut Classes,
+) -> Result<(), AllocError> {
+    into.classes = class_records(parts, joined)?;
+    into.attributes = attribute_records(parts)?;
+    into.groups = group_records(parts)?;
+    into.bindings = binding_records(parts)?;
+    into.actions = action_records(parts)?;
+    into.notifications = notification_records(parts)?;
+    Ok(())
 }
 
-/// The records, where there is no fault; else the first one.
+/// The records, where there is no fault.
 fn records_of(
     parts: &ClosingParts,
     joined: &JoinedClasses,
     rules: RuleRecs,
     instances: Vec<InstanceValues>,
 ) -> Result<Classes, AllocError> {
-    Ok(Classes {
-        classes: class_records(parts, joined)?,
-        attributes: attribute_records(parts)?,
-        groups: group_records(parts)?,
-        bindings: binding_records(parts)?,
-        actions: action_records(parts)?,
-        notifications: notification_records(parts)?,
-        rules,
-        instances,
-    })
+    let mut records = section_records(parts.alloc, rules, instances);
+    keep_records(parts, joined, &mut records)?;
+    Ok(records)
 }
 
-/// Joins the properties of classes, and judges them and the values of sections.
+/// Tells the first fault, where there is one.
+fn tell_fault(bad: &BadTexts, faults: &mut Faults) -> Result<(), ClassRefusal> {
+    faults.note_texts(bad);
+    match faults.first {
+        Some(fault) => Err(refusal_of(fault)),
+        None => Ok(()),
+    }
+}
+
+/// Judges what is joined and the values of sections.
+fn close_joined(
+    parts: &ClosingParts,
+    joined: &JoinedClasses,
+    bad: &mut BadTexts,
+    faults: &mut Faults,
+) -> Result<Classes, ClassRefusal> {
+    note_classes(parts, joined.properties, faults)?;
+    note_packages(parts, faults)?;
+    let rules = rule_records(parts, bad)?;
+    let instances = instance_values(parts, bad)?;
+    tell_fault(bad, faults)?;
+    Ok(records_of(parts, joined, rules, instances)?)
+}
+
+/// Joins the properties of classes.
 fn close_parts(
     parts: &ClosingParts,
     stated: &[Vec<Statement>],
@@ -109,22 +126,38 @@ fn close_parts(
         alloc: parts.alloc,
         classes: parts.linked.classes.as_slice(),
         stated,
-        values: parts.assigned_values(),
+        values: AssignedValues {
+            items: parts.values,
+        },
     };
     let properties = inheriting.properties(faults)?;
-    note_classes(parts, properties.as_slice(), faults)?;
-    note_packages(parts, faults)?;
-    let rules = rule_records(parts, bad)?;
-    let instances = instance_values(parts, bad)?;
-    faults.note_texts(bad);
-    if let Some(fault) = faults.first {
-        return Err(refusal_of(fault));
-    }
     let joined = JoinedClasses {
         stated,
         properties: properties.as_slice(),
     };
-    Ok(records_of(parts, &joined, rules, instances)?)
+    close_joined(parts, &joined, bad, faults)
+}
+
+/// Closes the classes of linked parts, whose assignments have these values.
+fn close_named(
+    things: &NamedThings,
+    linked: &Linked,
+    values: &[Option<Value>],
+    bad: &mut BadTexts,
+) -> Result<Classes, ClassRefusal> {
+    let mut faults = Faults { first: None };
+    let mut table = TypeTable::new(things.alloc, values.len())?;
+    let types = types_of_parts(things, linked, &mut table, bad, &mut faults)?;
+    let stated = all_statements(things, values, &mut table, linked.packages.as_slice(), bad)?;
+    let parts = ClosingParts {
+        alloc: things.alloc,
+        linked,
+        things,
+        table: &table,
+        types: &types,
+        values,
+    };
+    close_parts(&parts, stated.as_slice(), bad, &mut faults)
 }
 
 /// Closes the classes of linked parts: each class has what it states and what the classes state from which it derives,
@@ -138,21 +171,7 @@ pub fn close_classes<'a, 't>(
     modules: &'a [Module],
 ) -> Result<Classes, ClassRefusal> {
     let things = NamedThings::new(alloc, modules, types, linked)?;
-    let mut tables = tables_of(&things, &*linked)?;
-    let parts = ClosingParts {
-        alloc,
-        linked: &*linked,
-        things: &things,
-        table: &tables.table,
-        attributes: &tables.attributes,
-        actions: tables.actions.as_slice(),
-        notifications: tables.notifications.as_slice(),
-        values: tables.values.as_slice(),
-    };
-    close_parts(
-        &parts,
-        tables.stated.as_slice(),
-        &mut tables.bad,
-        &mut tables.faults,
-    )
+    let mut bad = BadTexts::none();
+    let values = things.assigned_values(&mut bad)?;
+    close_named(&things, &*linked, values.as_slice(), &mut bad)
 }

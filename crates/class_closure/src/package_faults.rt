@@ -1,15 +1,12 @@
 //! What packages state of attributes, and what is wrong with it: ADD or REMOVE on what is no set, and values that don't
 //! fit (X.722, section 8.4; docs/PROFILE.md, section 18).
 
-use crate::closing_parts::ClosingParts;
-use crate::first_fault::{FaultKind, Faults};
-use crate::inheriting::Statement;
-use crate::joined::{Held, Joined};
-use crate::permitted_ranges::is_set_valued;
-use crate::type_table::TypeTable;
 use asn1_names::Meaning;
+use class_faults::{FaultKind, Faults};
 use filled_syntaxes::{BadTexts, NamedThings};
+use joined_properties::{AssignedValues, Held, Joined, Statement, is_set_valued};
 use linked_parts::linked::{LinkedName, LinkedPackage, LinkedUse};
+use linked_types::{ClosingParts, TypeTable};
 use std::alloc::AllocError;
 use term_values::{Syntax, Value};
 use token_grammar::Token;
@@ -130,7 +127,10 @@ fn note_value(
     let Some(number) = value_number(parts.things, name) else {
         return Ok(());
     };
-    let Some(value) = parts.assigned_values().value(number) else {
+    let values = AssignedValues {
+        items: parts.values,
+    };
+    let Some(value) = values.value(number) else {
         return Ok(());
     };
     if !fits(parts.alloc, syntax, value)? {

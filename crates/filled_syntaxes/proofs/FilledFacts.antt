@@ -11,7 +11,7 @@ use Rattle.term_values.specs.Syntaxes.{TypeSyntax}
 use Rattle.term_values.specs.Syntaxes.TypeParts.{NoParts, Part}
 use Rattle.term_values.specs.Syntaxes.TypeSyntax.{Boolean, Integer, Sequence, SequenceOf}
 use Rattle.term_values.specs.Typed.TypedValue.{Int}
-use Rattle.asn1_values.specs.Arcs.{no_names}
+use Rattle.asn1_leaf_values.specs.Arcs.{no_names}
 use Rattle.filled_syntaxes.specs.FilledSyntaxes.{IsFilled, TextsAt}
 use Rattle.filled_syntaxes.specs.FilledSyntaxes.IsPresence.{with_none, with_value, without}
 use Rattle.filled_syntaxes.specs.SaidTexts.{DenotesNone, DenotesValue}

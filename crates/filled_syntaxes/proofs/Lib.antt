@@ -1,1 +1,2 @@
 mod FilledFacts
+pub mod NotingTexts

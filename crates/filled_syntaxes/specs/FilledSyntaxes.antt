@@ -10,7 +10,7 @@ use Rattle.term_values.specs.Typed.{TypedValue}
 use Rattle.asn1_names.specs.ModuleTerms.{ModuleTerm}
 use Rattle.asn1_names.specs.NameMeaning.{Meaning}
 use Rattle.asn1_names.specs.ResolvedTypes.{HasDefaultText, HasSyntax}
-use Rattle.asn1_values.specs.Arcs.{NamedArcs}
+use Rattle.asn1_leaf_values.specs.Arcs.{NamedArcs}
 use Rattle.filled_syntaxes.specs.SaidTexts.{DenotesValue, DenotesNone}
 
 -- which text stands at a path of component numbers

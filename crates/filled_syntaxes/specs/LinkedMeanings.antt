@@ -8,8 +8,8 @@ use Rattle.asn1_names.specs.ModuleTerms.{AssignmentTerm, ModuleTerm, NumberTerm,
 use Rattle.asn1_names.specs.NameMeaning.{Meaning, assigned_meaning, standard_meaning}
 use Rattle.asn1_names.specs.NameMeaning.Meaning.{Nothing, ValueAt}
 use Rattle.asn1_names.specs.StandardModule.{standard_type}
-use Rattle.asn1_values.specs.Arcs.{NamedArcs}
-use Rattle.asn1_values.specs.Literals.{same_name}
+use Rattle.asn1_leaf_values.specs.Arcs.{NamedArcs}
+use Rattle.asn1_leaf_values.specs.Literals.{same_name}
 use Rattle.linked_parts.specs.declared.linked.Linked.{Linked}
 use Rattle.linked_parts.specs.declared.linked.LinkedFirstName.{LinkedFirstName}
 use Rattle.linked_parts.specs.declared.linked.NamedMeaning.{NamedMeaning}

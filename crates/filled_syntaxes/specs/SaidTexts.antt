@@ -5,9 +5,9 @@ use Rattle.asn1_values_syntax.specs.ValueTrees.{value_tree}
 use Rattle.asn1_values_syntax.specs.declared.value.ValueText.{ValueText}
 use Rattle.term_values.specs.Syntaxes.{TypeSyntax}
 use Rattle.term_values.specs.Typed.{TypedValue}
-use Rattle.asn1_values.specs.Arcs.{NamedArcs}
+use Rattle.asn1_leaf_values.specs.Arcs.{NamedArcs}
 use Rattle.asn1_values.specs.Filters.{value_named}
-use Rattle.asn1_values.specs.TextValues.{first_place, said}
+use Rattle.asn1_leaf_values.specs.TextValues.{first_place, said}
 
 -- the text of a value that is told by this tree denotes this value of a syntax, where modules give names these arcs
 pub record DenotesValue (names : NamedArcs) (syntax : TypeSyntax) (tree : Tree) (value : TypedValue) : Type 0 where

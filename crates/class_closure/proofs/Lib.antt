@@ -1,2 +1,0 @@
-mod ClassFacts
-pub mod NotingLaws

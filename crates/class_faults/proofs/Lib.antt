@@ -1,0 +1,4 @@
+mod ClassFacts
+pub mod CyclicLaws
+pub mod NotingLaws
+pub mod PlaceFaultLaws

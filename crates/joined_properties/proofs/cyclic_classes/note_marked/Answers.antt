@@ -1,0 +1,26 @@
+-- A class more, and all of them.
+use Rattle.std.proofs.Common.{◌<◌, ◌≤◌, arith, length}
+use Rattle.linked_parts.specs.declared.linked.LinkedClass.{LinkedClass}
+use Rattle.class_faults.specs.CyclicFaults.{MarkedFault, superclasses_of}
+use Rattle.class_faults.proofs.CyclicLaws.{marks_noted}
+use Rattle.class_faults.proofs.PlaceFaultLaws.{before_all, before_none, before_step, got_at}
+use Rattle.joined_properties.proofs.cyclic_classes.note_marked.Goals as goal
+
+pub loop-place-init : goal.loop-place-init
+loop-place-init c =
+    before_none (λ k (x : LinkedClass). MarkedFault c.args.cyclic.now k x.head) c.args.classes.now c.args.faults.now.first
+
+pub loop-place-preserved : goal.loop-place-preserved
+loop-place-preserved c =
+    let k = c.loop-place.place in
+    let item = c.index-classes-place.result in
+    let within : k < length c.args.classes.now = omega (arith, c.loop-place-test.true) in
+    before_step (λ k (x : LinkedClass). MarkedFault c.args.cyclic.now k x.head) c.args.classes.now k item
+    (got_at c.args.classes.now k item within c.index-classes-place.is) c.loop-place.invariant c.note_cyclic.ensures
+
+pub returns : goal.returns
+returns c = λ marking.
+    let past : length c.args.classes.now ≤ c.loop-place.place = omega (arith, c.loop-place-test.false) in
+    marks_noted (λ (x : LinkedClass). x.head) (superclasses_of c.args.classes.now) c.args.cyclic.now c.args.classes.now
+    marking (before_all (λ k (x : LinkedClass). MarkedFault c.args.cyclic.now k x.head) c.args.classes.now
+    c.loop-place.place past c.loop-place.invariant)
