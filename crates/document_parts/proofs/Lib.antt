@@ -1,0 +1,3 @@
+pub mod GatheringLaws
+pub mod DocumentLaws
+mod StandardFacts
