@@ -1,0 +1,193 @@
+//! Why documents are not compiled: the first fault of the phases (docs/PROFILE.md, section 2).
+
+ghost use Rattle.std.specs.Prelude.{◌≡◌};
+ghost use Rattle.template_compile.specs.declared.refusal.CompileRefusal.TheVariants.{Memory};
+
+use asn1_resolve::ModuleRefusal;
+use class_closure::ClassRefusal;
+use document_parts::DocumentRefusal;
+use gdmo_names::LabelRefusal;
+use std::alloc::{AllocError, AllocFailed};
+use text_lex::LexKind;
+use thiserror::Error;
+
+/// What is wrong in a document. The phases stand in their order, and in each the faults of which the first is told where
+/// several lie at one token.
+#[derive(Clone, Copy, PartialEq, Eq, Debug, Drop)]
+pub enum Kind {
+    /// An octet begins no token, or may stand in strings and comments alone.
+    BadByte,
+    /// A string has no end.
+    OpenString,
+    /// A number is greater than 18,446,744,073,709,551,615.
+    BadNumber,
+    /// What begins with an apostrophe is no hexadecimal and no binary string.
+    BadBits,
+    /// No document goes on with a token, or the tokens end too early.
+    Syntax,
+    /// A name stands for no type or value.
+    UnknownType,
+    /// A name stands for no module.
+    UnknownModule,
+    /// A type contains itself.
+    CyclicType,
+    /// A type, a tag, a number or a constraint isn't supported.
+    Unsupported,
+    /// Tags don't tell alternatives or components apart.
+    AmbiguousTags,
+    /// No template, module, type or value has a name.
+    UnknownLabel,
+    /// What a name means may not stand there.
+    WrongKind,
+    /// A name has two meanings.
+    DoubleLabel,
+    /// Two templates are registered under one identifier.
+    DoubleIdentifier,
+    /// A class, or an attribute, derives from itself.
+    CyclicClass,
+    /// Two defaults, or two initial values, of one attribute are unequal.
+    UnequalDefault,
+    /// No value of an attribute is permitted.
+    EmptyPermitted,
+    /// Members are added to, or removed from, what is no set.
+    NotSetValued,
+    /// A value doesn't fit.
+    BadValue,
+}
+
+/// A fault at a place of a document.
+#[derive(Clone, Copy, PartialEq, Eq, Debug, Drop)]
+pub struct DocumentFault {
+    /// The number of the document, counted from 1.
+    pub document: u32,
+    /// The place in octets, from 0, of the token or octet at fault; none where the tokens end too early.
+    pub at: Option<u64>,
+    /// What is wrong there.
+    pub kind: Kind,
+}
+
+/// Why documents are not compiled.
+#[derive(PartialEq, Eq, Debug, Drop, Error)]
+pub enum CompileRefusal {
+    /// The first fault: by phase, by document and by place.
+    #[error("bad document {document} {line} {kind:?}")]
+    BadDocument {
+        /// The number of the document, counted from 1.
+        document: u32,
+        /// The line of the fault, counted from 1.
+        line: u32,
+        /// What is wrong there.
+        kind: Kind,
+    },
+    /// There was no memory for the records.
+    #[error("out of memory")]
+    Memory,
+}
+
+impl From<AllocError> for CompileRefusal {
+    ghost from_gives = { λ _ refusal. refusal ≡ Memory };
+
+    fn from(_error: AllocError) -> CompileRefusal {
+        CompileRefusal::Memory
+    }
+}
+
+impl<T: Drop> From<AllocFailed<T>> for CompileRefusal {
+    ghost from_gives = { λ _ refusal. refusal ≡ Memory };
+
+    fn from(_error: AllocFailed<T>) -> CompileRefusal {
+        CompileRefusal::Memory
+    }
+}
+
+fn lexing_kind(kind: LexKind) -> Kind {
+    match kind {
+        LexKind::BadByte => Kind::BadByte,
+        LexKind::OpenString => Kind::OpenString,
+        LexKind::BadNumber => Kind::BadNumber,
+        LexKind::BadBits => Kind::BadBits,
+    }
+}
+
+fn fault_at(document: u32, at: u64, kind: Kind) -> DocumentFault {
+    DocumentFault {
+        document,
+        at: Some(at),
+        kind,
+    }
+}
+
+/// The fault of the octets of documents; none for want of memory, and none of a fault of their tokens.
+pub fn fault_of_octets(refusal: &DocumentRefusal) -> Option<DocumentFault> {
+    match refusal {
+        DocumentRefusal::Lexing { document, at, kind } => {
+            Some(fault_at(*document, *at, lexing_kind(*kind)))
+        }
+        DocumentRefusal::Syntax { .. } | DocumentRefusal::Memory => None,
+    }
+}
+
+/// The fault of modules; none for want of memory.
+pub fn fault_of_modules(refusal: &ModuleRefusal) -> Option<DocumentFault> {
+    match refusal {
+        ModuleRefusal::UnknownType { document, token } => {
+            Some(fault_at(*document, *token, Kind::UnknownType))
+        }
+        ModuleRefusal::UnknownModule { document, token } => {
+            Some(fault_at(*document, *token, Kind::UnknownModule))
+        }
+        ModuleRefusal::CyclicType { document, token } => {
+            Some(fault_at(*document, *token, Kind::CyclicType))
+        }
+        ModuleRefusal::Unsupported {
+            document,
+            token,
+            ..
+        } => Some(fault_at(*document, *token, Kind::Unsupported)),
+        ModuleRefusal::AmbiguousTags { document, token } => {
+            Some(fault_at(*document, *token, Kind::AmbiguousTags))
+        }
+        ModuleRefusal::Memory => None,
+    }
+}
+
+/// The fault of labels; none for want of memory.
+pub fn fault_of_labels(refusal: &LabelRefusal) -> Option<DocumentFault> {
+    match refusal {
+        LabelRefusal::UnknownLabel { document, token } => {
+            Some(fault_at(*document, *token, Kind::UnknownLabel))
+        }
+        LabelRefusal::WrongKind { document, token } => {
+            Some(fault_at(*document, *token, Kind::WrongKind))
+        }
+        LabelRefusal::DoubleLabel { document, token } => {
+            Some(fault_at(*document, *token, Kind::DoubleLabel))
+        }
+        LabelRefusal::DoubleIdentifier { document, token } => {
+            Some(fault_at(*document, *token, Kind::DoubleIdentifier))
+        }
+        LabelRefusal::Memory => None,
+    }
+}
+
+/// The fault of classes; none for want of memory.
+pub fn fault_of_classes(refusal: &ClassRefusal) -> Option<DocumentFault> {
+    match refusal {
+        ClassRefusal::CyclicClass { document, token } => {
+            Some(fault_at(*document, *token, Kind::CyclicClass))
+        }
+        ClassRefusal::UnequalDefault { document, token } => {
+            Some(fault_at(*document, *token, Kind::UnequalDefault))
+        }
+        ClassRefusal::EmptyPermitted { document, token } => {
+            Some(fault_at(*document, *token, Kind::EmptyPermitted))
+        }
+        ClassRefusal::NotSetValued { document, token } => {
+            Some(fault_at(*document, *token, Kind::NotSetValued))
+        }
+        ClassRefusal::BadValue { document, token } => {
+            Some(fault_at(*document, *token, Kind::BadValue))
+        }
+        ClassRefusal::Memory => None,
+    }
+}
