@@ -1,5 +1,5 @@
 -- BuildingLaws: a list of numbers is built from its front on.
-use Rattle.std.proofs.Common.{◌≡◌, ◌<◌, ◌≤◌, ◌++◌, ◌∷◌, [], ◌+◌, ◌-◌, ◌∙◌, ℕ, ℤ, suc, zero, List, Bool, Some, append_assoc, ap, arith, drop, get_or, length, refl, sym, take}
+use Rattle.std.proofs.Common.{◌≡◌, ◌<◌, ◌≤◌, ◌++◌, ◌∷◌, [], ◌+◌, ◌-◌, ◌∙◌, ℕ, ℤ, suc, List, Bool, Some, append_assoc, ap, arith, drop, get_or, length, refl, sym, take}
 use Rattle.std.proofs.Math.Path.{subst}
 use Rattle.std.proofs.lemmas.List.{drop_more, take_more}
 use Rattle.std.specs.List.{slice_get}

@@ -5,4 +5,5 @@ pub mod SketchLaws
 pub mod KeyLaws
 pub mod BuildingLaws
 pub mod QueryLaws
+pub mod NameLaws
 pub mod StandardFacts

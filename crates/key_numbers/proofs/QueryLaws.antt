@@ -1,5 +1,5 @@
 -- QueryLaws: what the number of a type tells of it: what stands beneath its tags, its names and its components.
-use Rattle.std.proofs.Common.{◌≡◌, ◌<◌, ◌≤◌, ◌==◌, ◌∷◌, [], ◌∙◌, ℕ, suc, zero, List, Bool, true, false, Option, None, Some, MatchOption, arith, ap, refl, sym, true≢false, if◌then◌else◌}
+use Rattle.std.proofs.Common.{◌≡◌, ◌<◌, ◌≤◌, ◌==◌, ◌∙◌, ℕ, suc, zero, Bool, true, false, Option, None, Some, arith, ap, refl, sym, true≢false}
 use Rattle.std.proofs.Math.Path.{subst}
 use Rattle.std.proofs.lemmas.Bool.{eqb-true}
 use Rattle.std.specs.List.{slice_get}
@@ -109,7 +109,7 @@ untagged : (key : TypeKey) → is_tag_key key ≡ false → beneath_key key ≡ 
 untagged (TaggedKey tag explicit of) bare = absurd (true≢false bare)
 untagged _ bare = refl
 
-bare_beneath : (key : TypeKey) → is_tag_key (beneath_key key) ≡ false
+pub bare_beneath : (key : TypeKey) → is_tag_key (beneath_key key) ≡ false
 bare_beneath (TaggedKey tag explicit of) = bare_beneath of
 bare_beneath _ = refl
 

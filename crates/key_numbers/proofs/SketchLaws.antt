@@ -1,11 +1,11 @@
 -- SketchLaws: a tree has one number, and a number is that of one tree.
-use Rattle.std.proofs.Common.{◌≡◌, ◌<◌, ◌≤◌, ◌++◌, ◌∷◌, [], ◌+◌, ◌∙◌, ℕ, ℤ, pos, negsuc, suc, zero, List, Bool, true, false, Option, None, Some, append_assoc, arith, ap, length, refl, sym, true≢false}
+use Rattle.std.proofs.Common.{◌≡◌, ◌≤◌, ◌++◌, ◌∷◌, [], ◌∙◌, ℕ, ℤ, pos, negsuc, suc, zero, List, Bool, true, false, Option, None, Some, append_assoc, arith, ap, length, refl, sym, true≢false}
 use Rattle.std.proofs.Math.Path.{subst}
 use Rattle.std.proofs.lemmas.Option.{slice_get_within}
 use Rattle.std.specs.List.{slice_get}
 use Rattle.term_values.specs.Sketch.{Sketch}
 use Rattle.term_values.specs.Sketch.Sketch.{Leaf, Join}
-use Rattle.key_numbers.specs.KeyNumbers.{IsSketchNumber, leaf_code, pair_code, pairs_code, signed_code}
+use Rattle.key_numbers.specs.KeyNumbers.{IsSketchNumber, leaf_code, pairs_code, signed_code}
 use Rattle.key_numbers.specs.KeyNumbers.IsSketchNumber.{leaf, join}
 use Rattle.key_numbers.specs.NumberedLists.{AreOnce, Grows, IsList, Row}
 use Rattle.key_numbers.proofs.ListLaws.{list_grows, one_list, one_number}

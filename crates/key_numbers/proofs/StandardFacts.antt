@@ -1,5 +1,5 @@
 -- StandardFacts: examples of the definitions, computed.
-use Rattle.std.proofs.Common.{◌≡◌, ◌∷◌, [], ℕ, List, Bool, true, false, Option, None, Some, codes, pos, refl}
+use Rattle.std.proofs.Common.{◌≡◌, ◌∷◌, [], true, false, None, Some, codes, pos, refl}
 use Rattle.term_values.specs.Syntaxes.TypeSyntax.{Boolean, Sequence}
 use Rattle.term_values.specs.Syntaxes.TypeParts.{NoParts, Part}
 use Rattle.key_numbers.specs.ComponentKeys.{component_key, has_number_key, is_integer_key}

@@ -1,6 +1,5 @@
 -- TakenLaws: the numbers of a list are taken from its end.
-use Rattle.std.proofs.Common.{◌≡◌, ◌<◌, ◌≤◌, ◌++◌, ◌∷◌, [], ◌+◌, ◌∙◌, ℕ, suc, zero, List, MatchOption, Option, None, Some, append_assoc, arith, ap, length, length-append, refl, reverse, sym}
-use Rattle.std.proofs.Math.Path.{subst}
+use Rattle.std.proofs.Common.{◌≡◌, ◌<◌, ◌≤◌, ◌++◌, ◌∷◌, [], ◌+◌, ◌∙◌, ℕ, List, MatchOption, Option, Some, append_assoc, arith, ap, length, length-append, refl, reverse, sym}
 use Rattle.std.proofs.lemmas.List.{length-reverse, reverse-append}
 use Rattle.key_numbers.specs.NumberedLists.{IsList, Row}
 

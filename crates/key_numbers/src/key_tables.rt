@@ -2,11 +2,12 @@
 
 ghost use Rattle.std.specs.Prelude.{◌≡◌, ◌<◌, ◌++◌, ◌∷◌, [], ℕ, IfOk, IfSome, List};
 ghost use Rattle.term_values.specs.SyntaxPieces.{mark, tag_sketch};
-ghost use Rattle.key_numbers.specs.KeyNumbers.{IsKeyNumber, IsSketchNumber, TellsTwo, leaf_code, names_sketch, pair_code, pairs_code, sign_mark, signed_code};
-ghost use Rattle.key_numbers.specs.ComponentKeys.{beneath_key, is_integer_key};
-ghost use Rattle.key_numbers.specs.TypeKeys.{TypeKey};
+ghost use Rattle.key_numbers.specs.KeyNumbers.{IsKeyNumber, IsSketchNumber, TellsTwo, leaf_code, names_sketch, pair_code, pairs_code, parts_sketch, sign_mark, signed_code};
+ghost use Rattle.key_numbers.specs.ComponentKeys.{TellsComponent, beneath_key, component_key, has_number_key, is_integer_key, names_one, part_key};
+ghost use Rattle.key_numbers.specs.TypeKeys.{PartKeys, TypeKey};
 ghost use Rattle.key_numbers.specs.NumberedLists.{Grows, IsList};
 ghost use Rattle.term_values.specs.Sketch.{Sketch};
+ghost use Rattle.term_values.specs.Syntaxes.{Named};
 ghost use Rattle.term_values.specs.Sketch.Sketch.{Join, Leaf};
 
 use crate::number_lists::{EMPTY_LIST, NumberLists};
@@ -256,7 +257,11 @@ impl NumberLists {
     }
 
     /// Whether one of names with numbers has this number of its own.
-    fn has_name(&self, names: usize, called: usize) -> bool {
+    fn has_name(&self, names: usize, called: usize) -> bool
+        ensures { (name : List ℕ) (xs : Named) → IsSketchNumber self.now (Leaf 0 name []) called →
+            IsSketchNumber self.now (names_sketch xs) names → result ≡ names_one name xs }
+    {
+        self.has_each_once();
         let mut at = names;
         'names: loop {
             let Some((_, one, other)) = self.two(at) else {
@@ -273,25 +278,46 @@ impl NumberLists {
     }
 
     /// Whether a type, under any tags, is an INTEGER or ENUMERATED with a number of this name.
-    pub fn names_number(&mut self, number: usize, name: &[u8]) -> Result<bool, AllocError> {
+    pub fn names_number(&mut self, number: usize, name: &[u8]) -> Result<bool, AllocError>
+        ensures grows { Grows self.old self.new }
+        ensures told { IfOk result (λ has. (key : TypeKey) → IsKeyNumber self.old key number →
+            has ≡ has_number_key name.now key) }
+    {
         let called = self.leaf(0, name, &[])?;
+        Ok(self.number_called(number, called))
+    }
+
+    /// Whether a type has a number whose name has this number.
+    fn number_called(&self, number: usize, called: usize) -> bool
+        ensures { (name : List ℕ) (key : TypeKey) → IsSketchNumber self.now (Leaf 0 name []) called →
+            IsKeyNumber self.now key number → result ≡ has_number_key name key }
+    {
         match self.two(self.beneath_tags(number)) {
             Some((form, _, names)) => {
-                Ok(
-                    (form == INTEGER_FORM || form == ENUMERATED_FORM)
-                        && self.has_name(names, called),
-                )
+                if form == INTEGER_FORM || form == ENUMERATED_FORM {
+                    return self.has_name(names, called);
+                }
+                false
             }
-            None => Ok(false),
+            None => false,
         }
     }
 
     /// The number of the type of the first of parts whose name has this number.
-    fn part_called(&self, parts: usize, called: usize) -> Option<usize> {
+    fn part_called(&self, parts: usize, called: usize) -> Option<usize>
+        ensures { (name : List ℕ) (keys : PartKeys) → IsSketchNumber self.now (Leaf 0 name []) called →
+            IsSketchNumber self.now (parts_sketch keys) parts →
+            TellsComponent self.now (part_key name keys) result }
+    {
+        self.has_each_once();
         let mut at = parts;
         'parts: loop {
-            let (_, one, other) = self.two(at)?;
-            let (_, of, rest) = self.two(other)?;
+            let Some((_, one, other)) = self.two(at) else {
+                return None;
+            };
+            let Some((_, of, rest)) = self.two(other) else {
+                return None;
+            };
             if one == called {
                 return Some(of);
             }
@@ -300,16 +326,28 @@ impl NumberLists {
     }
 
     /// The number of the type of the first component of this name, of a SEQUENCE or SET under any tags.
-    pub fn component(&mut self, number: usize, name: &[u8]) -> Result<Option<usize>, AllocError> {
+    pub fn component(&mut self, number: usize, name: &[u8]) -> Result<Option<usize>, AllocError>
+        ensures grows { Grows self.old self.new }
+        ensures told { IfOk result (λ told. (key : TypeKey) → IsKeyNumber self.old key number →
+            TellsComponent self.new (component_key name.now key) told) }
+    {
         let called = self.leaf(0, name, &[])?;
+        Ok(self.component_called(number, called))
+    }
+
+    /// The number of the type of the first component whose name has this number.
+    fn component_called(&self, number: usize, called: usize) -> Option<usize>
+        ensures { (name : List ℕ) (key : TypeKey) → IsSketchNumber self.now (Leaf 0 name []) called →
+            IsKeyNumber self.now key number → TellsComponent self.now (component_key name key) result }
+    {
         match self.two(self.beneath_tags(number)) {
             Some((form, _, parts)) => {
                 if form == SEQUENCE_FORM || form == SET_FORM {
-                    return Ok(self.part_called(parts, called));
+                    return self.part_called(parts, called);
                 }
-                Ok(None)
+                None
             }
-            None => Ok(None),
+            None => None,
         }
     }
 }

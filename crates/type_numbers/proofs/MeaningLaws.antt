@@ -1,11 +1,6 @@
 -- MeaningLaws: a type has one key: its syntax and the places of DEFAULT tell it.
-use Rattle.std.proofs.Common.{◌≡◌, ◌∷◌, [], ◌∙◌, ℕ, suc, zero, List, Bool, true, false, ap, refl, sym, true≢false}
-use Rattle.std.proofs.Math.Path.{subst}
-use Rattle.term_values.specs.Syntaxes.{TypeSyntax, TypeParts}
-use Rattle.term_values.specs.Syntaxes.TypeSyntax.{Boolean, Integer, Enumerated, BitString, OctetString, NullType}
-use Rattle.term_values.specs.Syntaxes.TypeSyntax.{ObjectIdentifier, TextString, GeneralizedTime, Sequence, SetType}
-use Rattle.term_values.specs.Syntaxes.TypeSyntax.{SequenceOf, SetOf, Choice, Tagged, Any, Filter}
-use Rattle.term_values.specs.Syntaxes.TypeParts.{NoParts, Part}
+use Rattle.std.proofs.Common.{◌≡◌, ◌∷◌, [], ◌∙◌, ℕ, suc, List, Bool, true, false, ap, refl, sym}
+use Rattle.term_values.specs.Syntaxes.{TypeSyntax}
 use Rattle.key_numbers.specs.TypeKeys.{TypeKey, PartKeys, has_mark, has_mark_at, key_parts, key_syntax}
 use Rattle.key_numbers.specs.TypeKeys.TypeKey.{BooleanKey, IntegerKey, EnumeratedKey, BitStringKey, OctetStringKey}
 use Rattle.key_numbers.specs.TypeKeys.TypeKey.{NullKey, IdentifierKey, TextKey, TimeKey, SequenceKey, SetKey}
@@ -13,42 +8,17 @@ use Rattle.key_numbers.specs.TypeKeys.TypeKey.{SequenceOfKey, SetOfKey, ChoiceKe
 use Rattle.key_numbers.specs.TypeKeys.PartKeys.{NoKeys, PartKey}
 use Rattle.asn1_names.specs.ModuleTerms.{ModuleTerm}
 use Rattle.asn1_names.specs.NameMeaning.{Meaning}
-use Rattle.asn1_names.specs.NodeCount.{IsNoType}
 use Rattle.asn1_names.specs.ResolvedTypes.{HasSyntax}
 use Rattle.asn1_names.specs.ResolvedTypes.HasSyntax.{of_type, of_value, of_standard}
 use Rattle.asn1_names.proofs.DenotedOnce.{one_syntax}
+use Rattle.type_numbers.specs.MarkedKeys.{marked, marked_parts}
 use Rattle.type_numbers.specs.MeaningKeys.{IsKeyOf, StandsDefault}
 
 -- ---- a key from its syntax and its marks
 
-abbrev mutual
-  marked : TypeSyntax → (List ℕ → Bool) → TypeKey
-  marked Boolean f = BooleanKey
-  marked (Integer names bounds) f = IntegerKey names bounds
-  marked (Enumerated names) f = EnumeratedKey names
-  marked (BitString names bounds) f = BitStringKey names bounds
-  marked (OctetString bounds) f = OctetStringKey bounds
-  marked NullType f = NullKey
-  marked ObjectIdentifier f = IdentifierKey
-  marked (TextString charset bounds) f = TextKey charset bounds
-  marked GeneralizedTime f = TimeKey
-  marked (Sequence parts) f = SequenceKey (marked_parts parts (λ k path. f (k ∷ path)))
-  marked (SetType parts) f = SetKey (marked_parts parts (λ k path. f (k ∷ path)))
-  marked (SequenceOf of bounds) f = SequenceOfKey (marked of f) bounds
-  marked (SetOf of bounds) f = SetOfKey (marked of f) bounds
-  marked (Choice parts) f = ChoiceKey (marked_parts parts (λ k path. f (k ∷ path)))
-  marked (Tagged tag explicit of) f = TaggedKey tag explicit (marked of f)
-  marked Any f = AnyKey
-  marked Filter f = FilterKey
-
-  marked_parts : TypeParts → (ℕ → List ℕ → Bool) → PartKeys
-  marked_parts NoParts f = NoKeys
-  marked_parts (Part name syntax optional default rest) f =
-      PartKey name (marked syntax (λ path. f 0 path)) optional (f 0 []) (marked_parts rest (λ k path. f (suc k) path))
-
 mutual
-  marked_again : (key : TypeKey) (f : List ℕ → Bool) → ((k : ℕ) (path : List ℕ) → f (k ∷ path) ≡ has_mark key (k ∷ path)) →
-      marked (key_syntax key) f ≡ key
+  pub marked_again : (key : TypeKey) (f : List ℕ → Bool) →
+      ((k : ℕ) (path : List ℕ) → f (k ∷ path) ≡ has_mark key (k ∷ path)) → marked (key_syntax key) f ≡ key
   marked_again BooleanKey f h = refl
   marked_again (IntegerKey names bounds) f h = refl
   marked_again (EnumeratedKey names) f h = refl

@@ -1,6 +1,6 @@
 -- AskedTypes: what numbers of types tell: two types have one number exactly where they have one key (KeyLaws), however
 -- often and in whatever order they are asked for (docs/PROFILE.md, section 12).
-use Rattle.std.specs.Prelude.{◌≡◌, ◌≢◌, ℕ, List, Option, None, Some}
+use Rattle.std.specs.Prelude.{◌≡◌, ℕ, List, Option, None, Some}
 use Rattle.std.specs.List.{slice_get}
 use Rattle.asn1_names.specs.CodeMeanings.{IsTypeNumber}
 use Rattle.asn1_names.specs.ModuleTerms.{ModuleTerm}
@@ -36,3 +36,9 @@ pub record AreNumbers (ms : List ModuleTerm) (numbers : TypeNumbers) : Type 0 wh
 pub record StayNumbers (ms : List ModuleTerm) (before after : TypeNumbers) : Type 0 where
   pub are_numbers : AreNumbers ms after
   pub grows : Grows before.lists after.lists
+
+-- the modules, their texts and what is kept of assignments stay
+pub record KeepsOthers (before after : TypeNumbers) : Type 0 where
+  pub types : after.types ≡ before.types
+  pub texts : after.texts ≡ before.texts
+  pub known : after.known ≡ before.known

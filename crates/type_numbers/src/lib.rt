@@ -2,5 +2,7 @@
 //! docs/PROFILE.md, section 12).
 #![tactic(auto)]
 
+pub mod laws;
 pub mod numbered_types;
+mod syntax_numbers;
 pub mod type_texts;

@@ -2,12 +2,31 @@
 //! often it is compared (docs/PROFILE.md, section 12). Tags, OPTIONAL, names of numbers, bits and components, and
 //! bounds count, and whether DEFAULT stands at a component; names of types, and the values of DEFAULT, don't.
 
-use crate::type_texts::{PlacedText, TypeTexts, has_default, member_text, text_beneath};
+ghost use Rattle.std.specs.Prelude.{◌≡◌, ℕ, Bool, IfOk, IfSome, List};
+ghost use Rattle.asn1_names.specs.CodeMeanings.{IsTypeNumber, Means};
+ghost use Rattle.asn1_names.specs.ModuleTerms.{ModuleTerm};
+ghost use Rattle.asn1_names.specs.NameMeaning.{Meaning as Meant};
+ghost use Rattle.asn1_names.specs.NameMeaning.Meaning.{StandardType as MeansStandard};
+ghost use Rattle.asn1_names.specs.TermViews.{module_terms};
+ghost use Rattle.asn1_names.specs.WordViews.{standard_syntax_of};
+ghost use Rattle.key_numbers.specs.ComponentKeys.{TellsComponent, component_key, has_number_key, is_integer_key};
+ghost use Rattle.key_numbers.specs.KeyNumbers.{IsKeyNumber};
+ghost use Rattle.key_numbers.specs.NumberedLists.{AreOnce, Grows};
+ghost use Rattle.key_numbers.specs.TypeKeys.{TypeKey};
+ghost use Rattle.type_numbers.specs.AskedTypes.{AreNumbers, HasNumber, KeepsOthers, StayNumbers, TellsNumber};
+ghost use Rattle.type_numbers.specs.KeysBeside.{IsBesideAt};
+ghost use Rattle.type_numbers.specs.MarkedKeys.{marked};
+ghost use Rattle.type_numbers.specs.PlacedTerms.{placed_terms};
+ghost use Rattle.type_numbers.specs.TextLeads.{IsTextOf};
+
+use crate::syntax_numbers::syntax_number;
+use crate::type_texts::{PlacedText, TypeTexts};
 use asn1_names::Meaning;
+use asn1_names::standard_module::StandardType;
 use asn1_types::Types;
 use key_numbers::number_lists::NumberLists;
 use std::alloc::{AllocError, Global};
-use term_values::{Charset, Names, Part, Parts, Ranges, Syntax, SyntaxForm, Tag};
+use term_values::Syntax;
 
 /// Types by numbers.
 #[derive(Drop)]
@@ -23,208 +42,43 @@ pub struct TypeNumbers<'a, 't> {
     pub known: Vec<Option<usize>>,
 }
 
-/// The kinds of what has no parts.
-const BOOLEAN: u8 = 0;
-
-const NULL: u8 = 1;
-
-const OBJECT_IDENTIFIER: u8 = 2;
-
-const GENERALIZED_TIME: u8 = 3;
-
-const ANY: u8 = 4;
-
-const FILTER: u8 = 5;
-
-const OCTET_STRING: u8 = 6;
-
-/// The kinds of what joins two.
-const INTEGER: u8 = 0;
-
-const ENUMERATED: u8 = 1;
-
-const BIT_STRING: u8 = 2;
-
-const STRING: u8 = 3;
-
-const SEQUENCE: u8 = 4;
-
-const SET: u8 = 5;
-
-const CHOICE: u8 = 6;
-
-const SEQUENCE_OF: u8 = 7;
-
-const SET_OF: u8 = 8;
-
-const TAGGED: u8 = 9;
-
-/// The kind of a string type.
-fn charset_kind(charset: Charset) -> u8 {
-    match charset {
-        Charset::Numeric => 0,
-        Charset::Printable => 1,
-        Charset::Ia5 => 2,
-        Charset::Visible => 3,
-        Charset::Graphic => 4,
-    }
-}
-
-/// The kind of a component: whether it may be left out, and whether DEFAULT stands at it.
-fn presence_kind(optional: bool, has_default: bool) -> u8 {
-    match (optional, has_default) {
-        (false, false) => 0,
-        (true, false) => 1,
-        (false, true) => 2,
-        (true, true) => 3,
-    }
-}
-
-/// Names with numbers, and bounds.
-fn with_names(
-    lists: &mut NumberLists,
-    kind: u8,
-    names: &Names,
-    ranges: &Ranges,
-) -> Result<usize, AllocError> {
-    let bounds = lists.bounds(ranges)?;
-    let names = lists.names(names)?;
-    lists.joined(kind, bounds, names)
-}
-
-fn enumerated(lists: &mut NumberLists, names: &Names) -> Result<usize, AllocError> {
-    let nothing = lists.leaf(0, &[], &[])?;
-    let names = lists.names(names)?;
-    lists.joined(ENUMERATED, nothing, names)
-}
-
-fn string(lists: &mut NumberLists, charset: Charset, sizes: &Ranges) -> Result<usize, AllocError> {
-    let bounds = lists.bounds(sizes)?;
-    let charset = lists.leaf(charset_kind(charset), &[], &[])?;
-    lists.joined(STRING, bounds, charset)
-}
-
-/// The elements of a list.
-fn list_of(
-    lists: &mut NumberLists,
-    kind: u8,
-    of: usize,
-    sizes: &Ranges,
-) -> Result<usize, AllocError> {
-    let bounds = lists.bounds(sizes)?;
-    lists.joined(kind, bounds, of)
-}
-
-/// Components or alternatives.
-fn with_parts(lists: &mut NumberLists, kind: u8, parts: usize) -> Result<usize, AllocError> {
-    let nothing = lists.leaf(0, &[], &[])?;
-    lists.joined(kind, nothing, parts)
-}
-
-/// What stands under a tag.
-fn tagged(
-    lists: &mut NumberLists,
-    tag: Tag,
-    explicit: bool,
-    of: usize,
-) -> Result<usize, AllocError> {
-    let own = lists.tag(tag, explicit)?;
-    lists.joined(TAGGED, own, of)
-}
-
-/// A component with its name and its type, before others.
-fn with_part(
-    lists: &mut NumberLists,
-    part: &Part,
-    of: usize,
-    has_default: bool,
-    rest: usize,
-) -> Result<usize, AllocError> {
-    let called = lists.leaf(0, part.name.as_slice(), &[])?;
-    let typed = lists.joined(0, of, rest)?;
-    lists.joined(presence_kind(part.optional, has_default), called, typed)
-}
-
-/// The number of the types of parts.
-#[cycle(type_numbers)]
-fn parts_number<'a>(
-    lists: &mut NumberLists,
-    texts: &TypeTexts<'a, '_>,
-    parts: &Parts,
-    text: Option<PlacedText<'a>>,
-) -> Result<usize, AllocError> {
-    let items = parts.items.as_slice();
-    let mut rest = lists.leaf(0, &[], &[])?;
-    for i in 0..items.len() {
-        let place = items.len() - 1 - i;
-        let of = syntax_number(lists, texts, &items[place].syntax, member_text(text, place))?;
-        rest = with_part(lists, &items[place], of, has_default(text, place), rest)?;
-    }
-    Ok(rest)
-}
-
-/// The number of a type. `stated` is its text; none where it has no DEFAULT.
-#[cycle(type_numbers)]
-fn syntax_number<'a>(
-    lists: &mut NumberLists,
-    texts: &TypeTexts<'a, '_>,
-    syntax: &Syntax,
-    stated: Option<PlacedText<'a>>,
-) -> Result<usize, AllocError> {
-    let text = texts.at_end(stated);
-    match &syntax.form {
-        SyntaxForm::Bool => lists.leaf(BOOLEAN, &[], &[]),
-        SyntaxForm::Int(names, ranges) => with_names(lists, INTEGER, names, ranges),
-        SyntaxForm::Enumerated(names) => enumerated(lists, names),
-        SyntaxForm::Bits(names, ranges) => with_names(lists, BIT_STRING, names, ranges),
-        SyntaxForm::Octets(ranges) => lists.leaf(OCTET_STRING, &[], ranges.items.as_slice()),
-        SyntaxForm::Null => lists.leaf(NULL, &[], &[]),
-        SyntaxForm::Oid => lists.leaf(OBJECT_IDENTIFIER, &[], &[]),
-        SyntaxForm::Text(charset, ranges) => string(lists, *charset, ranges),
-        SyntaxForm::Time => lists.leaf(GENERALIZED_TIME, &[], &[]),
-        SyntaxForm::Seq(parts) => {
-            let members = parts_number(lists, texts, parts, text)?;
-            with_parts(lists, SEQUENCE, members)
-        }
-        SyntaxForm::Unordered(parts) => {
-            let members = parts_number(lists, texts, parts, text)?;
-            with_parts(lists, SET, members)
-        }
-        SyntaxForm::ListOf(of, sizes) => {
-            let member = syntax_number(lists, texts, of, text_beneath(text))?;
-            list_of(lists, SEQUENCE_OF, member, sizes)
-        }
-        SyntaxForm::SetOf(of, sizes) => {
-            let member = syntax_number(lists, texts, of, text_beneath(text))?;
-            list_of(lists, SET_OF, member, sizes)
-        }
-        SyntaxForm::Choice(parts) => {
-            let members = parts_number(lists, texts, parts, text)?;
-            with_parts(lists, CHOICE, members)
-        }
-        SyntaxForm::Tagged(tag, explicit, of) => {
-            let beneath = syntax_number(lists, texts, of, text_beneath(text))?;
-            tagged(lists, *tag, *explicit, beneath)
-        }
-        SyntaxForm::Any => lists.leaf(ANY, &[], &[]),
-        SyntaxForm::Filter => lists.leaf(FILTER, &[], &[]),
-    }
-}
-
 impl<'a, 't> TypeNumbers<'a, 't> {
     /// No type was asked for yet. The texts are to be those of the modules of the types.
     pub fn new(
         alloc: Global,
         types: &'t Types<'a>,
         texts: &'t TypeTexts<'a, 't>,
-    ) -> Result<TypeNumbers<'a, 't>, AllocError> {
+    ) -> Result<TypeNumbers<'a, 't>, AllocError>
+        ensures { IfOk result (λ numbers. module_terms texts.now ≡ module_terms types.now →
+            AreNumbers (module_terms types.now) numbers) }
+    {
+        let known = vec![in alloc; None; texts.count()]?;
+        let lists = NumberLists::new(alloc);
         Ok(TypeNumbers {
             alloc,
             types,
             texts,
-            lists: NumberLists::new(alloc),
-            known: vec![in alloc; None; texts.count()]?,
+            lists,
+            known,
         })
+    }
+
+    /// The number of a type with its text.
+    fn number_of(
+        &mut self,
+        syntax: &Syntax,
+        text: Option<PlacedText<'a>>,
+    ) -> Result<usize, AllocError>
+        ensures is { IfOk result (λ n. (f : List ℕ → Bool) →
+            IsBesideAt (module_terms self.old.texts.now) (placed_terms text.entry) (marked syntax.now f) →
+            IsKeyNumber self.new.lists (marked syntax.now f) n) }
+        ensures grows { Grows self.old.lists self.new.lists }
+        ensures once { AreOnce self.new.lists }
+        ensures others { KeepsOthers self.old self.new }
+    {
+        let number = syntax_number(&mut self.lists, self.texts, syntax, text);
+        self.lists.has_each_once();
+        number
     }
 
     /// The number of the type of a meaning that isn't known yet.
@@ -232,18 +86,40 @@ impl<'a, 't> TypeNumbers<'a, 't> {
         &mut self,
         meaning: Meaning,
         text: Option<PlacedText<'a>>,
-    ) -> Result<Option<usize>, AllocError> {
+    ) -> Result<Option<usize>, AllocError>
+        ensures is { IfOk result (λ told. (ms : List ModuleTerm) (meant : Meant) → AreNumbers ms self.old →
+            Means ms meaning meant → IsTextOf meant (placed_terms text.entry) →
+            TellsNumber ms self.new.lists meant told) }
+        ensures grows { Grows self.old.lists self.new.lists }
+        ensures once { AreOnce self.old.lists → AreOnce self.new.lists }
+        ensures others { KeepsOthers self.old self.new }
+    {
         match self.types.syntax(self.alloc, meaning)? {
-            Some(syntax) => Ok(Some(syntax_number(&mut self.lists, self.texts, &syntax, text)?)),
+            Some(syntax) => {
+                let number = self.number_of(&syntax, text)?;
+                Ok(Some(number))
+            }
             None => Ok(None),
         }
     }
 
-    /// The number of the type of the assignment with a number.
-    fn assigned_number(&mut self, assignment: usize) -> Result<Option<usize>, AllocError> {
-        if let Some(Some(number)) = self.known.get(assignment) {
-            return Ok(Some(*number));
+    /// The number of the type of the assignment with a number, where it is known.
+    fn known_number(&self, assignment: usize) -> Option<usize>
+        ensures { (ms : List ModuleTerm) (meant : Meant) → AreNumbers ms self.now → IsTypeNumber ms assignment meant →
+            IfSome result (λ n. HasNumber ms self.now.lists meant n) }
+    {
+        match self.known.get(assignment) {
+            Some(known) => *known,
+            None => None,
         }
+    }
+
+    /// The number of the type of the assignment with a number, which is kept from now on.
+    fn kept_number(&mut self, assignment: usize) -> Result<Option<usize>, AllocError>
+        ensures told { IfOk result (λ told. (ms : List ModuleTerm) (meant : Meant) → AreNumbers ms self.old →
+            IsTypeNumber ms assignment meant → TellsNumber ms self.new.lists meant told) }
+        ensures stays { (ms : List ModuleTerm) → AreNumbers ms self.old → StayNumbers ms self.old self.new }
+    {
         let text = self.texts.type_at(assignment);
         let number = self.new_number(Meaning::TypeAt(assignment), text)?;
         if let Some(slot) = self.known.get_mut(assignment) {
@@ -252,27 +128,74 @@ impl<'a, 't> TypeNumbers<'a, 't> {
         Ok(number)
     }
 
+    /// The number of the type of the assignment with a number.
+    fn assigned_number(&mut self, assignment: usize) -> Result<Option<usize>, AllocError>
+        ensures told { IfOk result (λ told. (ms : List ModuleTerm) (meant : Meant) → AreNumbers ms self.old →
+            IsTypeNumber ms assignment meant → TellsNumber ms self.new.lists meant told) }
+        ensures stays { (ms : List ModuleTerm) → AreNumbers ms self.old → StayNumbers ms self.old self.new }
+    {
+        match self.known_number(assignment) {
+            Some(number) => Ok(Some(number)),
+            None => self.kept_number(assignment),
+        }
+    }
+
+    /// The number of the type of CMIP-1.
+    fn standard_number(&mut self, standard: StandardType) -> Result<Option<usize>, AllocError>
+        ensures told { IfOk result (λ told. (ms : List ModuleTerm) (meant : Meant) → AreNumbers ms self.old →
+            meant ≡ MeansStandard (standard_syntax_of standard) → TellsNumber ms self.new.lists meant told) }
+        ensures stays { (ms : List ModuleTerm) → AreNumbers ms self.old → StayNumbers ms self.old self.new }
+    {
+        self.new_number(Meaning::Standard(standard), None)
+    }
+
     /// The number of the type that a name means; none where it means no type.
-    pub fn type_number(&mut self, meaning: Meaning) -> Result<Option<usize>, AllocError> {
+    pub fn type_number(&mut self, meaning: Meaning) -> Result<Option<usize>, AllocError>
+        // the number of the key of the type that is meant, or none where none is
+        ensures told { IfOk result (λ told. (ms : List ModuleTerm) (meant : Meant) → AreNumbers ms self.old →
+            Means ms meaning meant → TellsNumber ms self.new.lists meant told) }
+
+        // what had a number keeps it
+        ensures stays { (ms : List ModuleTerm) → AreNumbers ms self.old → StayNumbers ms self.old self.new }
+    {
         match meaning {
             Meaning::TypeAt(assignment) => self.assigned_number(assignment),
-            Meaning::Standard(_) => self.new_number(meaning, None),
-            Meaning::ValueAt(_) | Meaning::Nothing => Ok(None),
+            Meaning::Standard(standard) => self.standard_number(standard),
+            Meaning::ValueAt(_) => Ok(None),
+            Meaning::Nothing => Ok(None),
         }
     }
 
     /// Whether a type is INTEGER, under any tags.
-    pub fn is_integer(&self, number: usize) -> bool {
+    pub fn is_integer(&self, number: usize) -> bool
+        ensures { (key : TypeKey) → IsKeyNumber self.now.lists key number → result ≡ is_integer_key key }
+    {
         self.lists.is_integer(number)
     }
 
     /// Whether a type, under any tags, is an INTEGER or ENUMERATED with a number of this name.
-    pub fn names_number(&mut self, number: usize, name: &[u8]) -> Result<bool, AllocError> {
-        self.lists.names_number(number, name)
+    pub fn names_number(&mut self, number: usize, name: &[u8]) -> Result<bool, AllocError>
+        ensures told { IfOk result (λ has. (key : TypeKey) → IsKeyNumber self.old.lists key number →
+            has ≡ has_number_key name.now key) }
+
+        // what had a number keeps it
+        ensures stays { (ms : List ModuleTerm) → AreNumbers ms self.old → StayNumbers ms self.old self.new }
+    {
+        let has = self.lists.names_number(number, name);
+        self.lists.has_each_once();
+        has
     }
 
     /// The number of the type of the first component of this name, of a SEQUENCE or SET under any tags.
-    pub fn component(&mut self, number: usize, name: &[u8]) -> Result<Option<usize>, AllocError> {
-        self.lists.component(number, name)
+    pub fn component(&mut self, number: usize, name: &[u8]) -> Result<Option<usize>, AllocError>
+        ensures told { IfOk result (λ told. (key : TypeKey) → IsKeyNumber self.old.lists key number →
+            TellsComponent self.new.lists (component_key name.now key) told) }
+
+        // what had a number keeps it
+        ensures stays { (ms : List ModuleTerm) → AreNumbers ms self.old → StayNumbers ms self.old self.new }
+    {
+        let component = self.lists.component(number, name);
+        self.lists.has_each_once();
+        component
     }
 }

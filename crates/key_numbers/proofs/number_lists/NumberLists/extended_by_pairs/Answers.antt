@@ -1,6 +1,6 @@
 -- Pairs of numbers behind a list.
-use Rattle.std.proofs.Common.{get_or, take}
-use Rattle.key_numbers.specs.KeyNumbers.{pair_code, pairs_code}
+use Rattle.std.proofs.Common.{take}
+use Rattle.key_numbers.specs.KeyNumbers.{pairs_code}
 use Rattle.key_numbers.proofs.BuildingLaws.{built_more, pairs_more}
 use Rattle.key_numbers.proofs.number_lists.NumberLists.extended_by_pairs.Goals as goal
 

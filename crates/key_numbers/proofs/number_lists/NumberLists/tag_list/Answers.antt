@@ -1,8 +1,5 @@
 -- The list of a tag.
 use Rattle.std.proofs.Common.{[]}
-use Rattle.std.proofs.Math.Path.{subst}
-use Rattle.key_numbers.specs.KeyNumbers.{leaf_code}
-use Rattle.key_numbers.specs.NumberedLists.{IsList}
 use Rattle.key_numbers.specs.NumberedLists.IsList.{empty}
 use Rattle.key_numbers.proofs.BuildingLaws.{tag_told}
 use Rattle.key_numbers.proofs.number_lists.NumberLists.tag_list.Goals as goal
