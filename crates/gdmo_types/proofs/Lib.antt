@@ -6,4 +6,6 @@ pub mod TypeChainLaws
 pub mod PlaceFaultLaws
 pub mod ModuleNameLaws
 pub mod QualifiedLaws
+pub mod ComparedLaws
+pub mod ComponentLaws
 pub mod StandardFacts

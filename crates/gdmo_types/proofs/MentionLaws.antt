@@ -1,5 +1,5 @@
 -- MentionLaws: DERIVED FROM of an attribute alone names a template in the role of a base.
-use Rattle.std.specs.Prelude.{◌≡◌, ℕ, zero, suc, List, [], ◌∷◌, ◌++◌, Bool, true, false, None, Some, Contains}
+use Rattle.std.specs.Prelude.{◌≡◌, ℕ, zero, suc, List, [], ◌∷◌, ◌++◌, Bool, true, false, Some, Contains}
 use Rattle.std.specs.Prelude.{refl, slice_get}
 use Rattle.std.proofs.Common.{ap, sym, inl, inr, ◌∙◌}
 use Rattle.std.proofs.lemmas.Bool.{true≢false}

@@ -10,10 +10,10 @@ use Rattle.indexmap.specs.IndexMap.{IndexMap}
 use Rattle.token_grammar.specs.declared.token.Token.{Token}
 use Rattle.asn1_names.specs.FirstNames.{found}
 use Rattle.asn1_names.specs.ModuleTerms.{AssignmentTerm, ModuleTerm}
-use Rattle.asn1_names.specs.NameMeaning.{ModuleMeaning, first_module, is_called, module_meaning}
+use Rattle.asn1_names.specs.NameMeaning.{first_module, is_called, module_meaning}
 use Rattle.asn1_names.specs.NameMeaning.ModuleMeaning.{Standard, ModuleAt, NoModule}
 use Rattle.asn1_names.specs.StandardModule.{is_same_name, standard_module_name}
-use Rattle.gdmo_names.specs.DoubleNames.{DoubleLabelAt, IsAssignedAgain, IsModuleAgain}
+use Rattle.gdmo_names.specs.DoubleNames.{IsAssignedAgain, IsModuleAgain}
 use Rattle.gdmo_names.specs.DoubleNames.DoubleLabelAt.{module_name, assigned_name}
 use Rattle.gdmo_names.specs.DoubleNames.IsModuleAgain.{standard, earlier}
 use Rattle.gdmo_names.specs.FaultSets.{Notes, OneFault}

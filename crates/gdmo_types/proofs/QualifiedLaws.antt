@@ -1,5 +1,5 @@
 -- QualifiedLaws: what is wrong with the names of types and values in templates.
-use Rattle.std.specs.Prelude.{◌≡◌, ◌≢◌, ◌⊎◌, ℕ, List, [], ◌∷◌, ◌++◌, Option, None, Some, Contains, refl}
+use Rattle.std.specs.Prelude.{◌≡◌, ◌≢◌, ℕ, List, [], ◌∷◌, ◌++◌, Option, Some, Contains, refl}
 use Rattle.std.proofs.Common.{ap, inl, inr, map, sym, subst, ◌∙◌}
 use Rattle.std.specs.declared.alloc.Global.{Global}
 use Rattle.std.specs.declared.vec.Vec.{Vec}
@@ -7,7 +7,7 @@ use Rattle.token_grammar.specs.declared.qualified_name.QualifiedName.{QualifiedN
 use Rattle.asn1_names.specs.CodeMeanings.{IsTypeNumber, IsValueNumber}
 use Rattle.asn1_names.specs.ModuleTerms.{ModuleTerm}
 use Rattle.asn1_names.specs.NameMeaning.{Meaning, meaning_within, module_meaning}
-use Rattle.asn1_names.specs.NameMeaning.Meaning.{TypeAt, ValueAt, StandardType, Nothing}
+use Rattle.asn1_names.specs.NameMeaning.Meaning.{StandardType, Nothing}
 use Rattle.asn1_names.specs.NameMeaning.ModuleMeaning.{NoModule}
 use Rattle.asn1_names.specs.NodeCount.{IsNoType}
 use Rattle.asn1_names.specs.ResolvedTypes.{meaning_of}
@@ -27,7 +27,7 @@ use Rattle.gdmo_names.specs.WrongKinds.{IsOfOtherSort, IsTypeMeaning, IsValueMea
 use Rattle.gdmo_names.specs.WrongKinds.IsOfOtherSort.{value_for_type, type_for_value}
 use Rattle.gdmo_names.specs.WrongKinds.WrongKindAt.{other_sort}
 use Rattle.gdmo_names.specs.declared.first_fault.LabelFault.{LabelFault as NotedFault}
-use Rattle.gdmo_names.proofs.NotingLaws.{any_none, both_noted, left_noted, none_noted, noted_by, one_not, one_there}
+use Rattle.gdmo_names.proofs.NotingLaws.{any_none, both_noted, left_noted, noted_by, one_there}
 use Rattle.gdmo_names.proofs.NotingLaws.{right_noted}
 use Rattle.gdmo_types.specs.QualifiedFaults.{BodyNameFaults, IsNotAssigned, NameFaults, PropertyFaults}
 use Rattle.gdmo_types.specs.QualifiedFaults.{QualifiedFaults, TypeNameFaults, UnknownName, ValueNameFaults}

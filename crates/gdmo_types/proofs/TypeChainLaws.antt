@@ -1,5 +1,5 @@
 -- TypeChainLaws: of which type each attribute is, as its chain of DERIVED FROM tells.
-use Rattle.std.specs.Prelude.{◌≡◌, ◌≢◌, ℕ, List, Option, None, Some, Contains, refl, length, slice_get}
+use Rattle.std.specs.Prelude.{◌≡◌, ℕ, List, Option, None, Some, Contains, refl, length, slice_get}
 use Rattle.std.proofs.Common.{ap, arith, inl, inr, sym, subst, ◌∙◌}
 use Rattle.std.proofs.lemmas.List.{length-map}
 use Rattle.std.proofs.lemmas.Option.{same_Some, slice_get_within}
@@ -34,8 +34,8 @@ use Rattle.gdmo_names.specs.TypeMeaning.{qualified_meaning}
 use Rattle.gdmo_names.specs.declared.found.Body.{Body}
 use Rattle.gdmo_names.specs.declared.found.Body.TheVariants as bodies
 use Rattle.gdmo_names.specs.declared.found.Found.{Found}
-use Rattle.gdmo_types.specs.AttributeTypes.{AreAttributeTypes, IsEndless, TellsMissing, TellsType}
-use Rattle.gdmo_types.specs.RoleTargets.{IsFirstTarget, MeansNumber}
+use Rattle.gdmo_types.specs.AttributeTypes.{AreAttributeTypes, IsEndless, TellsType}
+use Rattle.gdmo_types.specs.RoleTargets.{IsFirstTarget}
 use Rattle.gdmo_types.specs.TypeChains.{AreTypeLinks, IsEndType, IsTypeLink, LeadsOn, LinksTemplate, TellsChain}
 use Rattle.gdmo_types.specs.TypeChains.{TellsEnd, TellsNamedType, TellsStated}
 use Rattle.gdmo_types.specs.declared.attribute_types.AttributeType.{AttributeType}
@@ -62,7 +62,7 @@ same_reference : (syntax : Option SyntaxTerm) (a b : ReferenceTerm) → syntax �
 same_reference syntax a b is also =
     ap (reference_in a) (same_Some (OfAttribute a) (OfAttribute b) (sym is ∙ also))
 
-not_both : (syntax : Option SyntaxTerm) (name : QualifiedName) (a : ReferenceTerm) → syntax ≡ Some (OfType name) →
+pub not_both : (syntax : Option SyntaxTerm) (name : QualifiedName) (a : ReferenceTerm) → syntax ≡ Some (OfType name) →
     syntax ≡ Some (OfAttribute a) → ⊥
 not_both syntax name a is also = let e = same_Some (OfType name) (OfAttribute a) (sym is ∙ also) in absurd (cc)
 
@@ -75,7 +75,7 @@ leads_alone parts x a b one other =
     same_Some a b (sym (subst (λ r. Means parts x.document BaseAttribute r a) same one.means).is_target
     ∙ other.means.is_target)
 
-lost_alone : (parts : PartTerms) (x to : Placed) → Leads parts x BaseAttribute to →
+pub lost_alone : (parts : PartTerms) (x to : Placed) → Leads parts x BaseAttribute to →
     LeadsNowhere parts x BaseAttribute → ⊥
 lost_alone parts x to leads nowhere =
     let same = same_reference (syntax_of (body_of x.template)) leads.reference nowhere.reference

@@ -3,6 +3,7 @@ pub mod RoleTargets
 pub mod AttributeTypes
 pub mod TypeChains
 pub mod Linkages
+pub mod ComparedTypes
 pub mod PlaceFaults
 pub mod ModuleNames
 pub mod QualifiedFaults

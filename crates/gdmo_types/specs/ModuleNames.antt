@@ -1,9 +1,8 @@
 -- ModuleNames: the names of the modules that there are, CMIP-1 among them, and the faults of names that two modules
 -- have, or that a module assigns twice (X.680, section 13; docs/PROFILE.md, section 12).
-use Rattle.std.specs.Prelude.{◌≡◌, ◌<◌, ◌⊎◌, ◌↔◌, ℕ, List, Bool, true, None, Some, is_some, slice_get}
+use Rattle.std.specs.Prelude.{◌≡◌, ◌⊎◌, ◌↔◌, ℕ, List, Bool, true, None, is_some}
 use Rattle.std.specs.Borrow.{Bor}
 use Rattle.indexmap.specs.IndexMap.{IndexMap}
-use Rattle.token_grammar.specs.declared.token.Token.{Token}
 use Rattle.asn1_names.specs.FirstNames.{found}
 use Rattle.asn1_names.specs.ModuleTerms.{AssignmentTerm, ModuleTerm}
 use Rattle.asn1_names.specs.NameMeaning.{module_meaning}

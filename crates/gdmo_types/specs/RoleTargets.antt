@@ -1,7 +1,7 @@
 -- RoleTargets: the numbers of the templates that a template names in a role, and that they tell where it leads (X.722,
 -- section 8; docs/PROFILE.md, section 12).
-use Rattle.std.specs.Prelude.{◌≡◌, ◌≢◌, ◌↔◌, ℕ, List, [], ◌∷◌, Option, None, Some, Contains, slice_get}
-use Rattle.gdmo_names.specs.FoundViews.{found_term, found_view, found_views}
+use Rattle.std.specs.Prelude.{◌≡◌, ◌≢◌, ◌↔◌, ℕ, List, [], ◌∷◌, Option, None, Some, slice_get}
+use Rattle.gdmo_names.specs.FoundViews.{found_term, found_views}
 use Rattle.gdmo_names.specs.LabelMeaning.{Leads, LeadsNowhere, Means}
 use Rattle.gdmo_names.specs.Mentions.{Role, Mention, template_mentions}
 use Rattle.gdmo_names.specs.PartTerms.{Placed, PartTerms}

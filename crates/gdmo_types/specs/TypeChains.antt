@@ -1,6 +1,6 @@
 -- TypeChains: where DERIVED FROM of an attribute leads on, by the numbers of the templates, and of which type an
 -- attribute is at the end (X.722, section 8.7; docs/PROFILE.md, section 12).
-use Rattle.std.specs.Prelude.{◌≡◌, ◌≢◌, ◌⊎◌, ℕ, List, Option, None, Some, length, slice_get}
+use Rattle.std.specs.Prelude.{◌≡◌, ℕ, List, Option, None, Some, length, slice_get}
 use Rattle.token_grammar.specs.declared.qualified_name.QualifiedName.{QualifiedName}
 use Rattle.link_graphs.specs.declared.chains.Link.{Link}
 use Rattle.link_graphs.specs.declared.chains.Link.TheVariants.{End, Next, Stop}
@@ -14,7 +14,7 @@ use Rattle.gdmo_names.specs.Mentions.Role.{BaseAttribute}
 use Rattle.gdmo_names.specs.PartTerms.{Placed, PartTerms}
 use Rattle.gdmo_names.specs.TypeMeaning.{qualified_meaning}
 use Rattle.gdmo_names.specs.declared.found.Found.{Found}
-use Rattle.gdmo_types.specs.AttributeTypes.{IsOfMeaning, TellsMissing, TellsType}
+use Rattle.gdmo_types.specs.AttributeTypes.{IsOfMeaning, TellsMissing}
 use Rattle.gdmo_types.specs.declared.attribute_types.AttributeType.{AttributeType}
 use Rattle.gdmo_types.specs.declared.attribute_types.AttributeType.TheVariants.{Of, Endless, Missing}
 

@@ -1,5 +1,5 @@
 -- The template at the end, and a number that none has.
-use Rattle.std.proofs.Common.{◌∙◌, sym}
+use Rattle.std.proofs.Common.{sym}
 use Rattle.std.proofs.Math.Path.{subst}
 use Rattle.std.proofs.lemmas.Option.{slice_get_past}
 use Rattle.gdmo_types.specs.TypeChains.{TellsChain}

@@ -1,5 +1,5 @@
 -- A mention in the role, one that isn't, and the end.
-use Rattle.std.proofs.Common.{◌≡◌, ◌≢◌, ◌<◌, ◌≤◌, Some, arith, length, rules, slice_get}
+use Rattle.std.proofs.Common.{◌≡◌, ◌≢◌, ◌<◌, ◌≤◌, arith, length, rules}
 use Rattle.gdmo_names.specs.Roles.{role_term}
 use Rattle.gdmo_types.proofs.RoleLaws.{first_end, first_of_all, none_step}
 use Rattle.gdmo_types.proofs.StepLaws.{got_at}

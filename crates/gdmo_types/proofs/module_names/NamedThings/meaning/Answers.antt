@@ -1,5 +1,5 @@
 -- The table has the module's name, or it hasn't.
-use Rattle.std.proofs.Common.{◌≡◌, ◌∙◌, None, ap, option_map, sym}
+use Rattle.std.proofs.Common.{◌≡◌}
 use Rattle.std.proofs.Math.Path.{subst}
 use Rattle.asn1_names.specs.FirstNames.{found}
 use Rattle.asn1_names.specs.NameMeaning.{module_meaning}
