@@ -1,10 +1,9 @@
-//! Object identifiers: which arcs they have, and with which first names they begin, those in values too (X.660, annex
-//! A; X.680, section 32; docs/PROFILE.md, section 12).
+//! The identifiers of modules and templates: faults of their first names and of their arcs, and which object identifier
+//! each template has (X.660, annex A; X.680, section 32; docs/PROFILE.md, section 12).
 #![tactic(auto)]
 
-pub mod arc_texts;
-pub mod begun_names;
-pub mod first_names;
+mod first_faults;
 pub mod identifiers;
-pub mod module_values;
-pub mod section_values;
+pub mod module_identifiers;
+mod oids;
+mod registrations;

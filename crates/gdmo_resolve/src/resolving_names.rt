@@ -1,20 +1,22 @@
 //! What depends on first names and identifiers, at the end of which everything is linked, or the first fault told
-//! (X.680, section 32; X.722, section 8; docs/PROFILE.md, section 12). Each step makes one table and lends it to the next
-//! one.
+//! (X.680, section 32; X.722, section 8; docs/PROFILE.md, section 12). Each step makes one table and lends it to the
+//! next one.
 
 use crate::unequal_names::{linked_first_names, note_unequal};
 use asn1_names::name_tables::NameTables;
+use gdmo_begun_names::begun_names::BegunNames;
+use gdmo_begun_names::identifier_names::mark_identifiers;
+use gdmo_begun_names::module_values::mark_module_values;
+use gdmo_begun_names::values_of_sections::mark_section_values;
 use gdmo_first_names::assigned_names::{AssignedNames, assigned_names};
-use gdmo_identifiers::begun_names::BegunNames;
-use gdmo_identifiers::first_names::FirstNames;
-use gdmo_identifiers::identifiers::{first_names, judge_modules, judge_templates};
-use gdmo_identifiers::module_values::mark_module_values;
-use gdmo_identifiers::section_values::mark_section_values;
+use gdmo_identifiers::identifiers::judge_templates;
+use gdmo_identifiers::module_identifiers::judge_modules;
 use gdmo_names::first_fault::{Faults, refusal_of};
 use gdmo_names::parsed::Parsed;
 use gdmo_names::refusal::LabelRefusal;
 use gdmo_targets::section_references::SectionTargets;
 use gdmo_types::linkage::Linkage;
+use identifier_arcs::known_arcs::{KnownArcs, known_arcs};
 use linked_documents::link_parts;
 use linked_parts::linked::{Linked, LinkedFirstName};
 use std::alloc::AllocError;
@@ -59,18 +61,18 @@ fn told_names<'a>(
     tables: &NameTables<'a>,
     parts: &'a Parsed,
     assigned: &AssignedNames<'a>,
-    first: &mut FirstNames<'a, '_>,
+    known: &KnownArcs<'a, '_>,
     begun: &[bool],
     faults: &mut Faults,
 ) -> Result<Vec<LinkedFirstName>, AllocError> {
     let alloc = linkage.alloc;
     let modules = parts.modules.as_slice();
     let definers = assigned.definers.as_slice();
-    note_unequal(alloc, tables, modules, definers, first, begun, faults)?;
-    linked_first_names(alloc, tables, first, definers, begun)
+    note_unequal(alloc, tables, modules, definers, known, begun, faults)?;
+    linked_first_names(alloc, tables, known, definers, begun)
 }
 
-/// Marks the first names with which values begin, and judges the identifiers of modules.
+/// Marks the first names with which values and identifiers begin, and judges the identifiers of modules.
 fn mark_names<'a>(
     linkage: &Linkage<'a, '_>,
     tables: &NameTables<'a>,
@@ -78,21 +80,16 @@ fn mark_names<'a>(
     parts: &'a Parsed,
     targets: &SectionTargets,
     assigned: &AssignedNames<'a>,
-    first: &FirstNames<'a, '_>,
     names: &mut BegunNames<'a, '_>,
     faults: &mut Faults,
 ) -> Result<(), AllocError> {
     let alloc = linkage.alloc;
     mark_module_values(alloc, tables, texts, linkage.types, names)?;
     mark_section_values(linkage, parts.sections.as_slice(), targets, names)?;
-    judge_modules(
-        alloc,
-        assigned,
-        first,
-        parts.modules.as_slice(),
-        names,
-        faults,
-    )
+    let modules = parts.modules.as_slice();
+    mark_identifiers(modules, linkage.templates, names);
+    judge_modules(assigned, modules, faults);
+    Ok(())
 }
 
 /// Judges the identifiers of templates, and links everything where there is no fault.
@@ -102,15 +99,13 @@ fn link_marked<'a>(
     parts: &'a Parsed,
     targets: &SectionTargets,
     assigned: &AssignedNames<'a>,
-    first: &mut FirstNames<'a, '_>,
-    names: &mut BegunNames<'a, '_>,
+    known: &mut KnownArcs<'a, '_>,
+    begun: &[bool],
     faults: &mut Faults,
 ) -> Result<Linked, LabelRefusal> {
     let alloc = linkage.alloc;
-    let templates = linkage.templates;
-    let identifiers = judge_templates(alloc, assigned, first, templates, names, faults)?;
-    let begun = names.begun.as_slice();
-    let told = told_names(linkage, tables, parts, assigned, first, begun, faults)?;
+    let identifiers = judge_templates(alloc, assigned, known, linkage.templates, faults)?;
+    let told = told_names(linkage, tables, parts, assigned, known, begun, faults)?;
     link_faultless(
         linkage,
         tables,
@@ -130,15 +125,16 @@ fn resolve_begun<'a>(
     parts: &'a Parsed,
     targets: &SectionTargets,
     assigned: &AssignedNames<'a>,
-    first: &mut FirstNames<'a, '_>,
+    known: &mut KnownArcs<'a, '_>,
     names: &mut BegunNames<'a, '_>,
     faults: &mut Faults,
 ) -> Result<Linked, LabelRefusal> {
     mark_names(
-        linkage, tables, texts, parts, targets, assigned, first, names, faults,
+        linkage, tables, texts, parts, targets, assigned, names, faults,
     )?;
+    let begun = names.begun.as_slice();
     link_marked(
-        linkage, tables, parts, targets, assigned, first, names, faults,
+        linkage, tables, parts, targets, assigned, known, begun, faults,
     )
 }
 
@@ -150,7 +146,7 @@ fn resolve_first<'a>(
     parts: &'a Parsed,
     targets: &SectionTargets,
     assigned: &AssignedNames<'a>,
-    first: &mut FirstNames<'a, '_>,
+    known: &mut KnownArcs<'a, '_>,
     faults: &mut Faults,
 ) -> Result<Linked, LabelRefusal> {
     let begun = vec![in linkage.alloc; false; tables.count()]?;
@@ -159,7 +155,7 @@ fn resolve_first<'a>(
         begun,
     };
     resolve_begun(
-        linkage, tables, texts, parts, targets, assigned, first, &mut names, faults,
+        linkage, tables, texts, parts, targets, assigned, known, &mut names, faults,
     )
 }
 
@@ -173,9 +169,9 @@ fn resolve_assigned<'a>(
     assigned: &AssignedNames<'a>,
     faults: &mut Faults,
 ) -> Result<Linked, LabelRefusal> {
-    let mut first = first_names(linkage.alloc, tables, assigned)?;
+    let mut known = known_arcs(linkage.alloc, tables, assigned)?;
     resolve_first(
-        linkage, tables, texts, parts, targets, assigned, &mut first, faults,
+        linkage, tables, texts, parts, targets, assigned, &mut known, faults,
     )
 }
 

@@ -3,8 +3,8 @@
 
 use asn1_names::name_tables::NameTables;
 use asn1_syntax::module::Module;
-use gdmo_identifiers::first_names::{FirstNames, ValueArcs};
 use gdmo_names::first_fault::{FaultKind, Faults};
+use identifier_arcs::known_arcs::KnownArcs;
 use indexmap::IndexMap;
 use linked_parts::linked::LinkedFirstName;
 use std::alloc::{AllocError, Global};
@@ -28,7 +28,7 @@ pub fn note_unequal(
     tables: &NameTables,
     modules: &[Module],
     definers: &[usize],
-    first_names: &mut FirstNames,
+    known: &KnownArcs,
     begun: &[bool],
     faults: &mut Faults,
 ) -> Result<(), AllocError> {
@@ -37,17 +37,13 @@ pub fn note_unequal(
         let Some((place, assignment)) = tables.assignment(*number) else {
             continue;
         };
-        let Some(first) = first_names
-            .defined
-            .get(assignment.name.text.as_slice())
-            .copied()
-        else {
+        let Some(first) = known.defined.get(assignment.name.text.as_slice()).copied() else {
             continue;
         };
         if begun.get(first).copied() != Some(true) {
             continue;
         }
-        let ValueArcs::List(own) = first_names.find_out(*number)? else {
+        let Some(own) = known.of_value(*number) else {
             continue;
         };
         let is_unequal = match given.get(&first).copied() {
@@ -76,7 +72,7 @@ pub fn note_unequal(
 pub fn linked_first_names(
     alloc: Global,
     tables: &NameTables,
-    first_names: &mut FirstNames,
+    known: &KnownArcs,
     definers: &[usize],
     begun: &[bool],
 ) -> Result<Vec<LinkedFirstName>, AllocError> {
@@ -88,8 +84,8 @@ pub fn linked_first_names(
         let Some((_, assignment)) = tables.assignment(*number) else {
             continue;
         };
-        if let ValueArcs::List(list) = first_names.find_out(*number)? {
-            if let Some(arcs) = first_names.arcs.numbers(list, MOST_ARCS)? {
+        if let Some(list) = known.of_value(*number) {
+            if let Some(arcs) = known.numbers.lists.numbers(list, MOST_ARCS)? {
                 let name = copy_token(alloc, &assignment.name)?;
                 linked.push(LinkedFirstName { name, arcs })?;
             }

@@ -1,0 +1,4 @@
+-- The lemmas of this crate.
+pub mod ChainLaws
+mod ArcRowLaws
+pub mod KnownLaws
