@@ -1,8 +1,12 @@
 //! What rules may not say: steps that name attributes by which objects are named, or which the class hasn't, ADD of
 //! what isn't INTEGER, and ARGUMENT or REPLY of another type than the target (docs/PROFILE.md, sections 9 and 12).
 
-ghost use Rattle.std.specs.Prelude.{◌≡◌};
+ghost use Rattle.std.specs.Prelude.{◌≡◌, ◌↔◌, IfNone, IfSome, IsTrue};
+ghost use Rattle.gdmo_names.specs.FoundViews.{AreLabels, AreTemplates, found_term};
+ghost use Rattle.gdmo_names.specs.PartTerms.{PartTerms, kind_of};
 ghost use Rattle.gdmo_names.specs.PartViews.{reply_term, taken_term, word_taken};
+ghost use Rattle.gdmo_names.specs.TemplateTerms.TemplateKind.{AttributeKind};
+ghost use Rattle.gdmo_rules.specs.AttributeLabels.{IsAttributeAt, TellsAttribute};
 ghost use Rattle.gdmo_rules.specs.TakenViews.{taken_view};
 
 use crate::class_members::{ClassFacts, ClassGraph};
@@ -68,18 +72,42 @@ pub fn taken_reply<'a>(reply: &'a Reply) -> Taken<'a>
     }
 }
 
+/// Whether a template is an attribute.
+fn is_attribute(template: &Found) -> bool
+    ensures { (IsTrue result) ↔ (kind_of (found_term template.now) ≡ AttributeKind) }
+{
+    kind_of(&template.body) == TemplateKind::Attribute
+}
+
+/// The number, where the template that has it is an attribute.
+fn attribute_number(templates: &[Found], number: usize) -> Option<usize>
+    ensures some { IfSome result (λ n. (n ≡ number) × IsAttributeAt templates.now number) }
+    ensures none { IfNone result (¬ IsAttributeAt templates.now number) }
+{
+    match templates.get(number) {
+        Some(template) => {
+            if is_attribute(template) {
+                Some(number)
+            } else {
+                None
+            }
+        }
+        None => None,
+    }
+}
+
 /// The attribute that a label means, where it means one.
 pub fn labelled_attribute<'a>(
     templates: &[Found<'a>],
     labels: &IndexMap<&'a [u8], usize>,
     label: &Token,
-) -> Option<usize> {
-    let number = labels.get(label.text.as_slice()).copied()?;
-    let found = templates.get(number)?;
-    if kind_of(&found.body) == TemplateKind::Attribute {
-        Some(number)
-    } else {
-        None
+) -> Option<usize>
+    ensures { (parts : PartTerms) → AreTemplates parts templates.now → AreLabels parts templates.now labels.now →
+        TellsAttribute parts templates.now label.now result }
+{
+    match labels.get(label.text.as_slice()).copied() {
+        Some(number) => attribute_number(templates, number),
+        None => None,
     }
 }
 
