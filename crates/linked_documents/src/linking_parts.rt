@@ -1,12 +1,24 @@
 //! All parts of documents with the targets of their references (X.722, section 8; docs/PROFILE.md, section 12).
 
+ghost use Rattle.std.specs.Prelude.{◌≡◌, [], IfOk};
+ghost use Rattle.asn1_names.specs.TermViews.{module_terms};
+ghost use Rattle.gdmo_linking.specs.Linkers.{IsLinker};
+ghost use Rattle.gdmo_names.specs.DocumentTemplates.{templates};
+ghost use Rattle.gdmo_names.specs.InStep.{AreAll, AreEach};
+ghost use Rattle.gdmo_names.specs.PartTerms.{PartTerms, module_terms_of};
+ghost use Rattle.gdmo_types.specs.Linkages.{IsLinkage};
+ghost use Rattle.linked_documents.specs.CompleteParts.{AreComplete, AreKnownSections, AreToldNames};
+ghost use Rattle.linked_documents.specs.LinkedParts.{AreLinkedParts};
+ghost use Rattle.linked_templates.specs.TemplateTables.{AreLinkedTemplates, IsComplete, IsRegistered};
+
 use asn1_names::name_tables::NameTables;
 use extra_syntax::section::Section;
 use gdmo_linking::linking::{Linker, assignment_places, kind_places};
 use gdmo_targets::section_references::SectionTargets;
 use gdmo_types::linkage::Linkage;
 use linked_parts::linked::{Linked, LinkedFirstName, LinkedInstance, LinkedRule};
-use linked_sections::linking_sections::{linked_instances, linked_rules};
+use linked_sections::linking_instances::linked_instances;
+use linked_sections::linking_rules::linked_rules;
 use linked_templates::linking_templates::link_templates;
 use std::alloc::{AllocError, Global};
 use term_values::Oid;
@@ -17,7 +29,12 @@ fn no_templates(
     rules: Vec<LinkedRule>,
     instances: Vec<LinkedInstance>,
     first_names: Vec<LinkedFirstName>,
-) -> Linked {
+) -> Linked
+    ensures tables { (parts : PartTerms) → AreLinkedTemplates parts [] result }
+    ensures rules { result.rules ≡ rules }
+    ensures instances { result.instances ≡ instances }
+    ensures first_names { result.first_names ≡ first_names }
+{
     Linked {
         classes: Vec::new(alloc),
         packages: Vec::new(alloc),
@@ -39,7 +56,15 @@ fn with_templates(
     rules: Vec<LinkedRule>,
     instances: Vec<LinkedInstance>,
     first_names: Vec<LinkedFirstName>,
-) -> Result<Linked, AllocError> {
+) -> Result<Linked, AllocError>
+    ensures tables { IfOk result (λ x. (parts : PartTerms) → IsLinker parts linker.now →
+        AreAll (IsComplete parts) (templates parts) →
+        AreEach (IsRegistered parts) (templates parts) identifiers.now →
+        AreLinkedTemplates parts (templates parts) x) }
+    ensures rules { IfOk result (λ x. x.rules ≡ rules) }
+    ensures instances { IfOk result (λ x. x.instances ≡ instances) }
+    ensures first_names { IfOk result (λ x. x.first_names ≡ first_names) }
+{
     let mut linked = no_templates(linker.linkage.alloc, rules, instances, first_names);
     link_templates(linker, identifiers, &mut linked)?;
     Ok(linked)
@@ -52,10 +77,15 @@ fn linked_by(
     targets: &SectionTargets,
     identifiers: &[Option<Oid>],
     first_names: Vec<LinkedFirstName>,
-) -> Result<Linked, AllocError> {
+) -> Result<Linked, AllocError>
+    ensures { IfOk result (λ x. (parts : PartTerms) → IsLinker parts linker.now → AreComplete parts →
+        AreKnownSections parts linker.now.linkage.templates.now sections.now targets.now →
+        AreToldNames parts identifiers.now first_names.items → AreLinkedParts parts x) }
+{
     let rules = linked_rules(linker, sections, targets.rules.as_slice())?;
     let instances = linked_instances(linker, sections, targets.instances.as_slice())?;
-    with_templates(linker, identifiers, rules, instances, first_names)
+    let linked = with_templates(linker, identifiers, rules, instances, first_names)?;
+    Ok(linked)
 }
 
 /// Links the templates, the rules and the instances. `identifiers` has those under which the templates are registered,
@@ -67,7 +97,12 @@ pub fn link_parts(
     targets: &SectionTargets,
     identifiers: &[Option<Oid>],
     first_names: Vec<LinkedFirstName>,
-) -> Result<Linked, AllocError> {
+) -> Result<Linked, AllocError>
+    ensures { IfOk result (λ x. (parts : PartTerms) → IsLinkage parts linkage.now →
+        module_terms tables.now ≡ module_terms_of parts → AreComplete parts →
+        AreKnownSections parts linkage.now.templates.now sections.now targets.now →
+        AreToldNames parts identifiers.now first_names.items → AreLinkedParts parts x) }
+{
     let places = kind_places(linkage.alloc, linkage.templates)?;
     let assignments = assignment_places(linkage.alloc, tables)?;
     let linker = Linker {
@@ -75,5 +110,6 @@ pub fn link_parts(
         places: places.as_slice(),
         assignments: assignments.as_slice(),
     };
-    linked_by(&linker, sections, targets, identifiers, first_names)
+    let linked = linked_by(&linker, sections, targets, identifiers, first_names)?;
+    Ok(linked)
 }

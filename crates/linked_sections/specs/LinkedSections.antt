@@ -17,7 +17,7 @@ use Rattle.gdmo_names.specs.InStep.{AreEach}
 use Rattle.gdmo_names.specs.Mentions.{Role}
 use Rattle.gdmo_names.specs.Mentions.Role.{RuleClass, RuleAction, StepAttribute, StepNotification, InstanceClass}
 use Rattle.gdmo_names.specs.Mentions.Role.{NameAttribute, GivenAttribute, ChosenPackage}
-use Rattle.gdmo_names.specs.PartTerms.{TakenTerm, StepTerm, RuleTerm, PairTerm, InstanceTerm, PartTerms}
+use Rattle.gdmo_names.specs.PartTerms.{StepTerm, RuleTerm, PairTerm, InstanceTerm, PartTerms}
 use Rattle.gdmo_names.specs.PartTerms.TakenTerm.{TheArgument, OneWord, OtherValue}
 use Rattle.gdmo_names.specs.PartTerms.StepTerm.{SetTo, AddTo, EmitOf, ReplyWith}
 use Rattle.gdmo_names.specs.PartViews.{optional_value, taken_term}
@@ -28,9 +28,12 @@ use Rattle.gdmo_names.specs.TemplateTerms.ReferenceTerm.{ByLabel}
 pub data IsStep (parts : PartTerms) (rule : RuleTerm) : StepTerm → LinkedStep → Type 0 where
   set_argument : {label word : Token} {k : ℕ} → Links parts rule.document StepAttribute (ByLabel label) k →
       IsStep parts rule (SetTo label (TheArgument word)) (SetArgument k)
-  set_value : {label : Token} {taken : TakenTerm} {k : ℕ} {value : ValueText} →
-      Links parts rule.document StepAttribute (ByLabel label) k → taken_term value ≡ taken →
-      IsStep parts rule (SetTo label taken) (SetValue k value)
+  set_word : {label word : Token} {k : ℕ} {value : ValueText} →
+      Links parts rule.document StepAttribute (ByLabel label) k → taken_term value ≡ OneWord word →
+      IsStep parts rule (SetTo label (OneWord word)) (SetValue k value)
+  set_value : {label : Token} {tree : Tree} {k : ℕ} {value : ValueText} →
+      Links parts rule.document StepAttribute (ByLabel label) k → taken_term value ≡ OtherValue tree →
+      IsStep parts rule (SetTo label (OtherValue tree)) (SetValue k value)
   add : {number label : Token} {k : ℕ} → Links parts rule.document StepAttribute (ByLabel label) k →
       IsStep parts rule (AddTo number label) (Add (digits_value 10 number.text) k)
   emit : {label : Token} {stated : Option Tree} {k : ℕ} {value : Option ValueText} →

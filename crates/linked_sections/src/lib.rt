@@ -2,7 +2,9 @@
 //! and 12).
 #![tactic(auto)]
 
-pub mod linking_sections;
-pub mod value_copies;
+pub mod linking_instances;
+pub mod linking_rules;
+pub mod linking_steps;
 
-pub use linking_sections::{linked_instances, linked_rules};
+pub use linking_instances::linked_instances;
+pub use linking_rules::linked_rules;

@@ -2,3 +2,5 @@
 pub mod BodyLaws
 pub mod MemberLaws
 pub mod TextLaws
+pub mod TableLaws
+pub mod OwnLaws

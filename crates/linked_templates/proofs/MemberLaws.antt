@@ -1,6 +1,6 @@
 -- MemberLaws: name bindings, attributes, groups, actions and notifications with the targets of their references (X.722,
 -- sections 8.6 to 8.11).
-use Rattle.std.specs.Prelude.{◌≡◌, ℕ, List, [], ◌∷◌, is_some}
+use Rattle.std.specs.Prelude.{◌≡◌, ℕ, List, [], ◌∷◌, Option, is_some}
 use Rattle.std.proofs.Common.{ap, sym, ◌∙◌}
 use Rattle.std.proofs.Math.Path.{subst}
 use Rattle.linked_parts.specs.declared.linked.LinkedAction.{LinkedAction}
@@ -18,11 +18,16 @@ use Rattle.linked_templates.specs.LinkedMembers.{AreFields, IsActionOf, IsAttrib
 use Rattle.linked_templates.specs.LinkedMembers.{IsNotificationOf, IsSyntax}
 use Rattle.gdmo_linking.specs.LinkedNames.{IsOptionalName}
 use Rattle.gdmo_linking.specs.LinkedTables.{Links}
-use Rattle.gdmo_linking.specs.Linkers.{LinksMention}
+use Rattle.gdmo_linking.specs.Linkers.{IsNamed, IsOwn, LinksMention}
+use Rattle.gdmo_linking.specs.declared.linking.Linker.{Linker}
+use Rattle.gdmo_linking.proofs.StepLaws.{all_left, all_right}
+use Rattle.gdmo_names.specs.FoundViews.{body_term}
+use Rattle.gdmo_names.specs.TypeMeaning.{name_list, type_names}
+use Rattle.gdmo_names.specs.declared.found.Found.{Found}
 use Rattle.linked_templates.proofs.BodyLaws.{group_elements, in_body, notification_fields}
 use Rattle.gdmo_linking.proofs.RoleLaws.{are_linked}
 use Rattle.gdmo_names.specs.ClassViews.{binding_term, class_reference, creation_term, deletion_term}
-use Rattle.gdmo_names.specs.InStep.{AreEach}
+use Rattle.gdmo_names.specs.InStep.{AreAll, AreEach}
 use Rattle.gdmo_names.specs.MemberViews.{action_term, attribute_reference, attribute_syntax_term, attribute_term}
 use Rattle.gdmo_names.specs.MemberViews.{behaviour_terms, clause_terms, clause_tokens, group_term, information_fields}
 use Rattle.gdmo_names.specs.MemberViews.{information_type, notification_term, parameter_reference}
@@ -108,3 +113,13 @@ notification_named parts document body t ks is each =
     (field_mentions (information_fields t.information)) ks is
     (notification_fields (behaviour_terms t.behaviour) (clause_terms parameter_reference t.parameters)
     (information_type t.information) (information_fields t.information) t.reply) each
+
+-- an action whose types mean something, where nothing is missing
+pub action_is : (parts : PartTerms) (linker : Linker) (own : Found) (targets : List (Option ℕ)) (t : ActionTemplate)
+    (x : LinkedAction) → IsOwn parts linker own targets → body_term own.body ≡ body_of (action_term t) →
+    (AreAll (IsNamed parts) (name_list t.information) → AreAll (IsNamed parts) (name_list t.reply) →
+    IsActionOf parts own.document (body_term own.body) x) → IsActionOf parts own.document (body_term own.body) x
+action_is parts linker own targets t x is body linked =
+    let types = subst (λ b. AreAll (IsNamed parts) (type_names b)) body is.types in
+    linked (all_left (IsNamed parts) (name_list t.information) (name_list t.reply) types)
+    (all_right (IsNamed parts) (name_list t.information) (name_list t.reply) types)

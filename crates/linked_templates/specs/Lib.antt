@@ -2,3 +2,4 @@
 pub mod LinkedTemplates
 pub mod LinkedMembers
 pub mod MemberTexts
+pub mod TemplateTables

@@ -4,8 +4,6 @@
 
 pub mod linking_classes;
 pub mod linking_members;
-pub mod linking_packages;
 pub mod linking_templates;
-pub mod property_words;
 
 pub use linking_templates::link_templates;

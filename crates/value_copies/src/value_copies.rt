@@ -1,6 +1,8 @@
 //! Copies of the texts of values (X.680, section 17.7). Only memory can fail.
 
 ghost use Rattle.std.specs.Prelude.{◌≡◌, IfOk};
+ghost use Rattle.asn1_values_syntax.specs.NumberTrees.{arcs_end_tree};
+ghost use Rattle.asn1_values_syntax.specs.ValueTrees.{content_tree, named_value_tree, part_tree, value_tree};
 
 use asn1_values_syntax::arcs::{NamedArc, SureArcs};
 use asn1_values_syntax::numbers::SignedNumber;
@@ -41,7 +43,9 @@ fn copy_arc(alloc: Global, arc: &Arc) -> Result<Arc, AllocError>
     }
 }
 
-fn copy_arcs(alloc: Global, arcs: &[Arc]) -> Result<Vec<Arc>, AllocError> {
+fn copy_arcs(alloc: Global, arcs: &[Arc]) -> Result<Vec<Arc>, AllocError>
+    ensures { IfOk result (λ copies. copies.items ≡ arcs.now) }
+{
     let mut copies = Vec::new(alloc);
     for arc in arcs.iter() {
         copies.push(copy_arc(alloc, arc)?)?;
@@ -49,7 +53,9 @@ fn copy_arcs(alloc: Global, arcs: &[Arc]) -> Result<Vec<Arc>, AllocError> {
     Ok(copies)
 }
 
-fn copy_sure_arcs(alloc: Global, arcs: &SureArcs) -> Result<SureArcs, AllocError> {
+fn copy_sure_arcs(alloc: Global, arcs: &SureArcs) -> Result<SureArcs, AllocError>
+    ensures { IfOk result (λ copy. arcs_end_tree copy ≡ arcs_end_tree arcs.now) }
+{
     match arcs {
         SureArcs::Number {
             first,
@@ -76,7 +82,9 @@ fn copy_sure_arcs(alloc: Global, arcs: &SureArcs) -> Result<SureArcs, AllocError
 }
 
 #[cycle(value_copies)]
-fn copy_part(alloc: Global, part: &ValuePart) -> Result<ValuePart, AllocError> {
+fn copy_part(alloc: Global, part: &ValuePart) -> Result<ValuePart, AllocError>
+    ensures { IfOk result (λ copy. part_tree copy ≡ part_tree part.now) }
+{
     match part {
         ValuePart::Named { name, value } => {
             let name = copy_token(alloc, name)?;
@@ -88,7 +96,9 @@ fn copy_part(alloc: Global, part: &ValuePart) -> Result<ValuePart, AllocError> {
 }
 
 #[cycle(value_copies)]
-fn copy_content(alloc: Global, content: &BracesText) -> Result<BracesText, AllocError> {
+fn copy_content(alloc: Global, content: &BracesText) -> Result<BracesText, AllocError>
+    ensures { IfOk result (λ copy. content_tree copy ≡ content_tree content.now) }
+{
     match content {
         BracesText::Nothing => Ok(BracesText::Nothing),
         BracesText::Parts(parts) => {
@@ -110,7 +120,9 @@ fn copy_content(alloc: Global, content: &BracesText) -> Result<BracesText, Alloc
 }
 
 #[cycle(value_copies)]
-fn copy_named(alloc: Global, named: &NamedValue) -> Result<NamedValue, AllocError> {
+fn copy_named(alloc: Global, named: &NamedValue) -> Result<NamedValue, AllocError>
+    ensures { IfOk result (λ copy. named_value_tree copy ≡ named_value_tree named.now) }
+{
     match named {
         NamedValue::Name(name) => Ok(NamedValue::Name(copy_token(alloc, name)?)),
         NamedValue::Choice { name, value } => {
@@ -123,7 +135,9 @@ fn copy_named(alloc: Global, named: &NamedValue) -> Result<NamedValue, AllocErro
 
 /// A copy of the text of a value.
 #[cycle(value_copies)]
-pub fn copy_value(alloc: Global, value: &ValueText) -> Result<ValueText, AllocError> {
+pub fn copy_value(alloc: Global, value: &ValueText) -> Result<ValueText, AllocError>
+    ensures { IfOk result (λ copy. value_tree copy ≡ value_tree value.now) }
+{
     match value {
         ValueText::Literal(token) => Ok(ValueText::Literal(copy_token(alloc, token)?)),
         ValueText::Number(number) => Ok(ValueText::Number(copy_number(alloc, number)?)),

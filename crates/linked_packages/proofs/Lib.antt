@@ -1,0 +1,4 @@
+-- The lemmas of this crate.
+pub mod PackageLaws
+pub mod PackageTextLaws
+pub mod AddedLaws
