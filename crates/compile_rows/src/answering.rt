@@ -2,7 +2,7 @@
 
 use crate::reading::documents_of;
 use crate::row_fault::RowFault;
-use crate::showing::show_counts;
+use crate::showing::{show_counts, show_report};
 use mib_opening::{OpeningRefusal, opening};
 use std::alloc::{AllocError, Global};
 use template_compile::{CompileRefusal, Compiled, Doc, compile_documents};
@@ -28,20 +28,42 @@ fn opened_count<L: StepLedger>(
     }
 }
 
+/// What a row asks for.
+#[derive(Clone, Copy, PartialEq, Eq)]
+enum Call {
+    /// The counts.
+    Check,
+    /// The text of the schema.
+    Report,
+}
+
+fn call_of(word: &str) -> Option<Call> {
+    match word {
+        "check" => Some(Call::Check),
+        "report" => Some(Call::Report),
+        _ => None,
+    }
+}
+
 fn answer_compiled<L: StepLedger>(
     alloc: Global,
+    call: Call,
     compiled: &Compiled,
     steps: &mut Steps<L>,
     out: &mut String,
 ) -> Result<(), RowFault> {
     if let Some(objects) = opened_count(alloc, compiled, steps, out)? {
-        show_counts(&compiled.counts, objects, out)?;
+        match call {
+            Call::Check => show_counts(&compiled.counts, objects, out)?,
+            Call::Report => show_report(alloc, &compiled.schema, out)?,
+        }
     }
     Ok(())
 }
 
 fn answer_documents<L: StepLedger>(
     alloc: Global,
+    call: Call,
     documents: &[Doc],
     steps: &mut Steps<L>,
     out: &mut String,
@@ -50,7 +72,7 @@ fn answer_documents<L: StepLedger>(
         return Err(RowFault::BadRow);
     }
     match compile_documents(alloc, documents) {
-        Ok(compiled) => answer_compiled(alloc, &compiled, steps, out),
+        Ok(compiled) => answer_compiled(alloc, call, &compiled, steps, out),
         Err(
             CompileRefusal::BadDocument {
                 document,
@@ -68,12 +90,10 @@ fn answer_row<L: StepLedger>(
     steps: &mut Steps<L>,
     out: &mut String,
 ) -> Result<(), RowFault> {
-    let (call, text) = row.split_once(' ').ok_or(RowFault::BadRow)?;
-    if call != "check" {
-        return Err(RowFault::BadRow);
-    }
+    let (word, text) = row.split_once(' ').ok_or(RowFault::BadRow)?;
+    let call = call_of(word).ok_or(RowFault::BadRow)?;
     let documents = documents_of(alloc, text)?;
-    answer_documents(alloc, documents.as_slice(), steps, out)
+    answer_documents(alloc, call, documents.as_slice(), steps, out)
 }
 
 /// What is printed for a line.

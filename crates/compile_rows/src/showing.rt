@@ -1,7 +1,9 @@
-//! The counts of documents, as they are printed.
+//! The counts of documents and the text of a schema, as they are printed.
 
-use std::alloc::AllocError;
+use set_report::report_text;
+use std::alloc::{AllocError, Global};
 use template_compile::Counts;
+use term_model::Set;
 
 /// Appends the counts, with the number of objects at the opening.
 pub fn show_counts(counts: &Counts, objects: u64, out: &mut String) -> Result<(), AllocError> {
@@ -31,4 +33,17 @@ pub fn show_counts(counts: &Counts, objects: u64, out: &mut String) -> Result<()
         counts.parameters, counts.behaviours
     )?;
     write!(out, "types {}; objects {}", counts.types, objects)
+}
+
+/// Appends the text of a schema, with `\n` for the end of each line.
+pub fn show_report(alloc: Global, schema: &Set, out: &mut String) -> Result<(), AllocError> {
+    let text = report_text(alloc, schema)?;
+    for octet in text.as_slice() {
+        if *octet == 10 {
+            out.push_str("\\n")?;
+        } else {
+            out.push(char::from(*octet))?;
+        }
+    }
+    Ok(())
 }

@@ -1,0 +1,9 @@
+-- The lemmas of this crate.
+pub mod BoundLaws
+pub mod DoneLaws
+pub mod InheritLaws
+pub mod LabelLaws
+pub mod OrderLaws
+mod StandardFacts
+pub mod StepLaws
+pub mod TextLaws

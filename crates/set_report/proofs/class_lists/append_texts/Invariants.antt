@@ -1,0 +1,6 @@
+-- What was appended so far.
+use Rattle.std.proofs.Common.{◌≡◌, ◌++◌, take}
+use Rattle.set_report.proofs.class_lists.append_texts.Given as goal
+
+abbrev pub invariant-loop-text : goal.invariant-loop-text
+invariant-loop-text l = l.into.items ≡ l.fn.into.items ++ take l.text-index l.texts

@@ -1,0 +1,7 @@
+-- What was appended so far.
+use Rattle.std.proofs.Common.{◌≡◌, ◌++◌, take}
+use Rattle.set_report.specs.ReportText.{attribute_lines}
+use Rattle.set_report.proofs.class_text.write_attributes.Given as goal
+
+abbrev pub invariant-loop-id : goal.invariant-loop-id
+invariant-loop-id l = l.into.items ≡ l.fn.into.items ++ attribute_lines l.schema l.of_class (take l.id-index l.ids)
