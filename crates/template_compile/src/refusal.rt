@@ -3,12 +3,7 @@
 ghost use Rattle.std.specs.Prelude.{◌≡◌};
 ghost use Rattle.template_compile.specs.declared.refusal.CompileRefusal.TheVariants.{Memory};
 
-use asn1_resolve::ModuleRefusal;
-use class_closure::ClassRefusal;
-use document_parts::DocumentRefusal;
-use gdmo_names::LabelRefusal;
 use std::alloc::{AllocError, AllocFailed};
-use text_lex::LexKind;
 use thiserror::Error;
 
 /// What is wrong in a document. The phases stand in their order, and in each the faults of which the first is told where
@@ -55,17 +50,6 @@ pub enum Kind {
     BadValue,
 }
 
-/// A fault at a place of a document.
-#[derive(Clone, Copy, PartialEq, Eq, Debug, Drop)]
-pub struct DocumentFault {
-    /// The number of the document, counted from 1.
-    pub document: u32,
-    /// The place in octets, from 0, of the token or octet at fault; none where the tokens end too early.
-    pub at: Option<u64>,
-    /// What is wrong there.
-    pub kind: Kind,
-}
-
 /// Why documents are not compiled.
 #[derive(PartialEq, Eq, Debug, Drop, Error)]
 pub enum CompileRefusal {
@@ -97,97 +81,5 @@ impl<T: Drop> From<AllocFailed<T>> for CompileRefusal {
 
     fn from(_error: AllocFailed<T>) -> CompileRefusal {
         CompileRefusal::Memory
-    }
-}
-
-fn lexing_kind(kind: LexKind) -> Kind {
-    match kind {
-        LexKind::BadByte => Kind::BadByte,
-        LexKind::OpenString => Kind::OpenString,
-        LexKind::BadNumber => Kind::BadNumber,
-        LexKind::BadBits => Kind::BadBits,
-    }
-}
-
-fn fault_at(document: u32, at: u64, kind: Kind) -> DocumentFault {
-    DocumentFault {
-        document,
-        at: Some(at),
-        kind,
-    }
-}
-
-/// The fault of the octets of documents; none for want of memory, and none of a fault of their tokens.
-pub fn fault_of_octets(refusal: &DocumentRefusal) -> Option<DocumentFault> {
-    match refusal {
-        DocumentRefusal::Lexing { document, at, kind } => {
-            Some(fault_at(*document, *at, lexing_kind(*kind)))
-        }
-        DocumentRefusal::Syntax { .. } | DocumentRefusal::Memory => None,
-    }
-}
-
-/// The fault of modules; none for want of memory.
-pub fn fault_of_modules(refusal: &ModuleRefusal) -> Option<DocumentFault> {
-    match refusal {
-        ModuleRefusal::UnknownType { document, token } => {
-            Some(fault_at(*document, *token, Kind::UnknownType))
-        }
-        ModuleRefusal::UnknownModule { document, token } => {
-            Some(fault_at(*document, *token, Kind::UnknownModule))
-        }
-        ModuleRefusal::CyclicType { document, token } => {
-            Some(fault_at(*document, *token, Kind::CyclicType))
-        }
-        ModuleRefusal::Unsupported {
-            document,
-            token,
-            ..
-        } => Some(fault_at(*document, *token, Kind::Unsupported)),
-        ModuleRefusal::AmbiguousTags { document, token } => {
-            Some(fault_at(*document, *token, Kind::AmbiguousTags))
-        }
-        ModuleRefusal::Memory => None,
-    }
-}
-
-/// The fault of labels; none for want of memory.
-pub fn fault_of_labels(refusal: &LabelRefusal) -> Option<DocumentFault> {
-    match refusal {
-        LabelRefusal::UnknownLabel { document, token } => {
-            Some(fault_at(*document, *token, Kind::UnknownLabel))
-        }
-        LabelRefusal::WrongKind { document, token } => {
-            Some(fault_at(*document, *token, Kind::WrongKind))
-        }
-        LabelRefusal::DoubleLabel { document, token } => {
-            Some(fault_at(*document, *token, Kind::DoubleLabel))
-        }
-        LabelRefusal::DoubleIdentifier { document, token } => {
-            Some(fault_at(*document, *token, Kind::DoubleIdentifier))
-        }
-        LabelRefusal::Memory => None,
-    }
-}
-
-/// The fault of classes; none for want of memory.
-pub fn fault_of_classes(refusal: &ClassRefusal) -> Option<DocumentFault> {
-    match refusal {
-        ClassRefusal::CyclicClass { document, token } => {
-            Some(fault_at(*document, *token, Kind::CyclicClass))
-        }
-        ClassRefusal::UnequalDefault { document, token } => {
-            Some(fault_at(*document, *token, Kind::UnequalDefault))
-        }
-        ClassRefusal::EmptyPermitted { document, token } => {
-            Some(fault_at(*document, *token, Kind::EmptyPermitted))
-        }
-        ClassRefusal::NotSetValued { document, token } => {
-            Some(fault_at(*document, *token, Kind::NotSetValued))
-        }
-        ClassRefusal::BadValue { document, token } => {
-            Some(fault_at(*document, *token, Kind::BadValue))
-        }
-        ClassRefusal::Memory => None,
     }
 }
