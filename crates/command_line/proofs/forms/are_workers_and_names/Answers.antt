@@ -1,0 +1,9 @@
+use Rattle.std.proofs.Common.{rules}
+use Rattle.std.specs.Prelude.{string_bytes}
+use Rattle.command_line.specs.WordForms.{AreNames, IsNumberIn}
+use Rattle.command_line.proofs.FormLaws.{told_by_rest}
+use Rattle.command_line.proofs.forms.are_workers_and_names.Goals as goal
+
+pub returns-then-is_number_in : goal.returns-then-is_number_in
+returns-then-is_number_in c = told_by_rest string_bytes (IsNumberIn 1 32) (AreNames) c.args.words.now c.in-Some.names.now
+    c.in-Some.workers.now c.are_names.result (search rules) (search rules) c.are_names.ensures
