@@ -1,173 +1,26 @@
--- From why a run is not done to what its status says, and that none of it holds of a run whose words and files are in
--- their forms.
-use Rattle.std.proofs.Common.{◌≡◌, ◌≢◌, ℕ, ◌<◌, ◌≤◌, ◌⊎◌, List, [], Option, None, Some, Result, Ok, Err, get_or, length}
-use Rattle.std.proofs.Common.{sym, ap, ◌∙◌, ⊎_elim, inl, inr, refl, arith}
+-- Causes: from what a part of a command says of its refusal to what the whole says.
+use Rattle.std.proofs.Common.{◌≡◌, ℕ, ◌≤◌, List, [], ◌∷◌, ◌++◌, Result, Ok, Err, length, get_or}
+use Rattle.std.proofs.Common.{sym, ap, ◌∙◌, ⊎_elim, inl, inr, arith}
 use Rattle.std.proofs.Math.Path.{subst}
 use Rattle.std.proofs.lemmas.Bool.{cases_lt}
-use Rattle.std.specs.Prelude.{Contains, IfErr, IsSomeAnd}
+use Rattle.std.specs.Prelude.{IfErr, IfOk, Option, None, Some}
 use Rattle.std.specs.Result.{IsErrAnd}
-use Rattle.std.specs.Option.{option_map_or}
 use Rattle.agent_bytes.specs.Faults.{Rose}
-use Rattle.agent_bytes.specs.Told.{IsFile, IsLonger}
 use Rattle.agent_run.specs.declared.refusal.Refusal.{Refusal}
-use Rattle.agent_run.specs.declared.refusal.Refusal.TheVariants.{FileFault, FileTooLarge, BadDocument, NotBuilt}
-use Rattle.agent_run.specs.declared.refusal.Refusal.TheVariants.{OutOfMemory}
-use Rattle.agent_run.specs.declared.refusal.Unbuilt.{Unbuilt}
-use Rattle.agent_run.specs.declared.refusal.Unbuilt.TheVariants.{Command, Document, Script}
-use Rattle.text_lex.specs.declared.lex_refusal.LexKind.{LexKind}
-use Rattle.agent_run.specs.Answers.{EndsByFileFault, EndsByFileTooLarge, IsPut, IsRunnable, IsTold}
+use Rattle.agent_run.specs.declared.refusal.Refusal.TheVariants.{Usage, FileFault, FileTooLarge, BadDocument}
+use Rattle.agent_run.specs.declared.refusal.Refusal.TheVariants.{BadInstance, NotBuilt, OutOfMemory}
+use Rattle.agent_run.specs.declared.refusal.Unbuilt.TheVariants.{Command as ACommand, Document, Script}
+use Rattle.command_line.specs.WordForms.{AreWordsOf, Command}
+use Rattle.command_line.specs.WordForms.Command.{Run}
+use Rattle.document_parts.specs.declared.documents.Doc.{Doc}
+use Rattle.agent_run.specs.Files.{AreDocuments, FileToRead, IsDocumentIn, IsWithin, Reaches, Told, document_files}
+use Rattle.agent_run.specs.Files.{files_of}
+use Rattle.agent_run.specs.Files.AreDocuments.{no_document, document}
+use Rattle.agent_run.specs.Files.Reaches.{here, behind}
+use Rattle.agent_run.specs.Refusing.{AreCompiledBy, AreRunFiles, HasCause, HasCauseBy, HasFileCause, HasRunCause}
+use Rattle.agent_run.specs.Refusing.{HasScriptCause, HasSetCause, HasUnplayedCause}
+use Rattle.agent_run.specs.Running.{IsDocument, IsFirst, IsNotFirst, IsScriptFor, TellsFirst, TellsSchema}
 use Rattle.term_model.specs.declared.schema.Set.{Set}
-use Rattle.agent_run.specs.Refusing.{HasCause, HasFault, HasFileCause, HasRunCause, HasScriptCause, IsNoDocument}
-use Rattle.agent_run.specs.Refusing.{IsNoScript, IsOutside, IsTooLarge, IsWithin, OfNamed, line_of, status_of}
-use Rattle.agent_run.specs.Refusing.IsNamed.{first, second}
-use Rattle.agent_run.specs.Refusing.IsTooLarge.{of_script, of_document}
-use Rattle.agent_run.specs.Statuses.{all_statuses}
-use Rattle.agent_run.specs.Running.{AreRunWords, IsDocument, IsScriptFor, Told, most_document, most_script}
-
--- what the status of a refusal is
-abbrev pub Answered : ℕ → Refusal → Type 0
-Answered status r = (status ≡ status_of r) ⊎ (status ≡ 8)
-
-status_listed : (r : Refusal) → Contains all_statuses (status_of r)
-status_listed (FileFault name) = (1, omega arith, refl)
-status_listed (FileTooLarge name) = (5, omega arith, refl)
-status_listed (BadDocument line kind) = (2, omega arith, refl)
-status_listed (NotBuilt what) = (6, omega arith, refl)
-status_listed OutOfMemory = (4, omega arith, refl)
-
-pub written_listed : (status : ℕ) → (status ≡ 0) ⊎ (status ≡ 6) → Contains all_statuses status
-written_listed status (inl e) = (0, omega arith, sym e)
-written_listed status (inr e) = (3, omega arith, sym e)
-
-pub answered_listed : (status : ℕ) (r : Refusal) → Answered status r → Contains all_statuses status
-answered_listed status r (inl e) = subst (λ n. Contains all_statuses n) (sym e) (status_listed r)
-answered_listed status r (inr e) = (4, omega arith, sym e)
-
--- two numbers of which the status is one
-differ : (status a b : ℕ) → status ≡ a → status ≡ b → a ≢ b → ⊥
-differ status a b e f g = g (sym e ∙ f)
-
-pub file_fault_of : (files : Told) (words : List (List ℕ)) (faults later out_before out_after : ℕ)
-    (before after : Option (List ℕ)) (status : ℕ) (r : Refusal)
-    → Answered status r → HasCause files words faults later r
-    → (status ≢ 8 → IsPut out_before out_after before after (line_of r)) → status ≡ 3
-    → EndsByFileFault files words faults later out_before out_after before after
-file_fault_of files words faults later out_before out_after before after status (FileFault name) answered cause line e =
-    record { rose = cause.1; name = name.now; named = cause.0; line = line (λ o. omega (arith, e, o)) }
-file_fault_of files words faults later out_before out_after before after status (FileTooLarge name) (inl s)
-    cause line e =
-    absurd (omega (arith, s, e))
-file_fault_of files words faults later out_before out_after before after status (BadDocument number kind) (inl s)
-    cause line e =
-    absurd (omega (arith, s, e))
-file_fault_of files words faults later out_before out_after before after status (NotBuilt what) (inl s) cause line e =
-    absurd (omega (arith, s, e))
-file_fault_of files words faults later out_before out_after before after status OutOfMemory (inl s) cause line e =
-    absurd (omega (arith, s, e))
-file_fault_of files words faults later out_before out_after before after status r (inr s) cause line e =
-    absurd (omega (arith, s, e))
-
-pub too_large_of : (files : Told) (words : List (List ℕ)) (faults later out_before out_after : ℕ)
-    (before after : Option (List ℕ)) (status : ℕ) (r : Refusal)
-    → Answered status r → HasCause files words faults later r
-    → (status ≢ 8 → IsPut out_before out_after before after (line_of r)) → status ≡ 10
-    → EndsByFileTooLarge files words out_before out_after before after
-too_large_of files words faults later out_before out_after before after status (FileTooLarge name) answered
-    cause line e =
-    record { name = name.now; longer = cause; line = line (λ o. omega (arith, e, o)) }
-too_large_of files words faults later out_before out_after before after status (FileFault name) (inl s) cause line e =
-    absurd (omega (arith, s, e))
-too_large_of files words faults later out_before out_after before after status (BadDocument number kind) (inl s)
-    cause line e =
-    absurd (omega (arith, s, e))
-too_large_of files words faults later out_before out_after before after status (NotBuilt what) (inl s) cause line e =
-    absurd (omega (arith, s, e))
-too_large_of files words faults later out_before out_after before after status OutOfMemory (inl s) cause line e =
-    absurd (omega (arith, s, e))
-too_large_of files words faults later out_before out_after before after status r (inr s) cause line e =
-    absurd (omega (arith, s, e))
-
--- the words name one script and one document
-one_script : (words : List (List ℕ)) (a b c d : List ℕ) → AreRunWords words a b → AreRunWords words c d → a ≡ c
-one_script words a b c d x y = ap (λ ws. get_or ws 1 []) (sym x.spelt ∙ y.spelt)
-
-one_document : (words : List (List ℕ)) (a b c d : List ℕ) → AreRunWords words a b → AreRunWords words c d → b ≡ d
-one_document words a b c d x y = ap (λ ws. get_or ws 2 []) (sym x.spelt ∙ y.spelt)
-
--- a file that is told has one content
-one_content : (files : Told) (name other bytes others : List ℕ) → name ≡ other → IsTold files name bytes
-    → IsFile files other others → others ≡ bytes
-one_content None name other bytes others e told file = absurd told
-one_content (Some bytes_of) name other bytes others e told file =
-    ap (λ o. option_map_or (λ (b : List ℕ). b) o []) (sym file ∙ (ap bytes_of (sym e) ∙ told))
-
-not_longer : (files : Told) (name other bytes : List ℕ) (limit : ℕ) → name ≡ other → IsTold files name bytes
-    → length bytes ≤ limit → IsLonger files other limit → ⊥
-not_longer None name other bytes limit e told small longer = told
-not_longer (Some bytes_of) name other bytes limit e told small longer =
-    let more : limit < length bytes =
-    subst (λ o. IsSomeAnd o (λ b. limit < length b)) (ap bytes_of (sym e) ∙ told) longer in
-    omega (arith, more, small)
-
-small_enough : (files : Told) (words : List (List ℕ)) (name : List ℕ) → IsRunnable files words
-    → IsTooLarge files words name → ⊥
-small_enough files words name run (of_script {document} named longer) =
-    not_longer files run.script_name name run.script most_script
-    (one_script words run.script_name run.document_name name document run.words_are named) run.script_told
-    run.script_small longer
-small_enough files words name run (of_document {script} named within longer) =
-    not_longer files run.document_name name run.document most_document
-    (one_document words run.script_name run.document_name script name run.words_are named) run.document_told
-    run.document_small longer
-
--- what is said of the bytes of the named files holds of those of the run
-of_run : (files : Told) (words : List (List ℕ)) (Holds : List ℕ → List ℕ → Type 0) (run : IsRunnable files words)
-    → OfNamed files words Holds → Holds run.script run.document
-of_run files words Holds run of =
-    let n = of.named in
-    let scripts = one_script words run.script_name run.document_name n.script_name n.document_name run.words_are
-    n.words_are in
-    let documents = one_document words run.script_name run.document_name n.script_name n.document_name run.words_are
-    n.words_are in
-    subst (λ b. Holds run.script b)
-    (one_content files run.document_name n.document_name run.document of.document documents run.document_told
-    n.document_told)
-    (subst (λ b. Holds b of.document)
-    (one_content files run.script_name n.script_name run.script of.script scripts run.script_told
-    n.script_told) of.holds)
-
-no_fault : (files : Told) (words : List (List ℕ)) (number : ℕ) (kind : LexKind) → IsRunnable files words
-    → OfNamed files words (λ script document. HasFault number kind document) → ⊥
-no_fault files words number kind run of =
-    let fault = of_run files words (λ script document. HasFault number kind document) run of in
-    fault.fault.1 run.document_is.tokens run.document_is.cut
-
-inside : (files : Told) (words : List (List ℕ)) (what : Unbuilt) → IsRunnable files words
-    → IsOutside files words what → ⊥
-inside files words Command run none = none run.script_name run.document_name run.words_are
-inside files words Document run of =
-    (of_run files words (λ script document. IsNoDocument document) run of).outside run.schema run.document_is
-inside files words Script run of =
-    (of_run files words IsNoScript run of).outside run.schema run.bind run.sends run.document_is run.script_is
-
--- no refusal but that for want of memory has its cause
-no_cause : (files : Told) (words : List (List ℕ)) (faults later status : ℕ) (r : Refusal)
-    → status ≡ status_of r → HasCause files words faults later r → IsRunnable files words → (Rose faults later → ⊥)
-    → (status ≡ 0) ⊎ (status ≡ 8)
-no_cause files words faults later status (FileFault name) s cause run quiet = absurd (quiet cause.1)
-no_cause files words faults later status (FileTooLarge name) s cause run quiet =
-    absurd (small_enough files words name.now run cause)
-no_cause files words faults later status (BadDocument number kind) s cause run quiet =
-    absurd (no_fault files words number kind run cause)
-no_cause files words faults later status (NotBuilt what) s cause run quiet = absurd (inside files words what run cause)
-no_cause files words faults later status OutOfMemory s cause run quiet = inr s
-
-pub complete_of : (files : Told) (words : List (List ℕ)) (faults later status : ℕ) (r : Refusal)
-    → Answered status r → HasCause files words faults later r → IsRunnable files words → (Rose faults later → ⊥)
-    → (status ≡ 0) ⊎ (status ≡ 8)
-complete_of files words faults later status r (inl s) cause run quiet =
-    no_cause files words faults later status r s cause run quiet
-complete_of files words faults later status r (inr s) cause run quiet = inr s
 
 -- what a call answers at the exit of a `?`: the refusal that it was given
 pub exit_with : {X : Type 0} (P : Refusal → Type 0) (r : Result X Refusal) (e : Refusal) → IsErrAnd r (λ d. d ≡ e)
@@ -181,52 +34,196 @@ rose_later a b c earlier later (inr last) =
     ⊎_elim (λ below. inl (omega (arith, below, later))) (λ past. inr (omega (arith, past, earlier, last)))
     (cases_lt a b)
 
--- what comes of the script's file
-pub script_file : (files : Told) (words : List (List ℕ)) (script document : List ℕ) (before after : ℕ) (r : Refusal)
-    → AreRunWords words script document → HasFileCause files script most_script before after r
-    → HasCause files words before after r
-script_file files words script document before after (FileFault name) named cause =
-    (first (subst (λ n. AreRunWords words n document) (sym cause.0) named), cause.1)
-script_file files words script document before after (FileTooLarge name) named cause =
-    of_script (subst (λ n. AreRunWords words n document) (sym cause.0) named)
-    (subst (λ n. IsLonger files n most_script) (sym cause.0) cause.1)
-script_file files words script document before after (BadDocument line kind) named cause = absurd cause
-script_file files words script document before after (NotBuilt what) named cause = absurd cause
-script_file files words script document before after OutOfMemory named cause = tt
+-- the causes of files that are read are causes of files of which these are the first
+reaches_first : {files : Told} {Holds : FileToRead → Type 0} {x : FileToRead} (others : List FileToRead) →
+    Reaches files Holds (x ∷ []) → Reaches files Holds (x ∷ others)
+reaches_first others (here holds) = here holds
+reaches_first others (behind within rest) = elim rest [ ]
 
--- what comes of the document's file, which is read behind that of the script
-pub document_file : (files : Told) (words : List (List ℕ)) (script document : List ℕ) (before between after : ℕ)
-    (r : Refusal)
-    → AreRunWords words script document → IsWithin files script most_script → before ≤ between → between ≤ after
-    → HasFileCause files document most_document between after r → HasCause files words before after r
-document_file files words script document before between after (FileFault name) named within earlier later cause = (
-  second (subst (λ n. AreRunWords words script n) (sym cause.0) named) within,
-  rose_later before between after earlier later cause.1,
+pub of_first : (files : Told) (x : FileToRead) (others : List FileToRead) (before after : ℕ) (r : Refusal) →
+    HasFileCause files (x ∷ []) before after r → HasFileCause files (x ∷ others) before after r
+of_first files x others before after (FileFault name) cause = (reaches_first others cause.0, cause.1)
+of_first files x others before after (FileTooLarge name) cause = reaches_first others cause
+of_first files x others before after OutOfMemory cause = tt
+of_first files x others before after Usage cause = cause
+of_first files x others before after (BadDocument number line kind) cause = cause
+of_first files x others before after (BadInstance index error) cause = cause
+of_first files x others before after (NotBuilt what) cause = cause
+
+-- and of files behind one that is there within its limit
+pub of_others : (files : Told) (x : FileToRead) (others : List FileToRead) (before between after : ℕ) (r : Refusal) →
+    IsWithin files x.name x.limit → before ≤ between → between ≤ after →
+    HasFileCause files others between after r → HasFileCause files (x ∷ others) before after r
+of_others files x others before between after (FileFault name) within earlier later cause =
+    (behind within cause.0, rose_later before between after earlier later cause.1)
+of_others files x others before between after (FileTooLarge name) within earlier later cause = behind within cause
+of_others files x others before between after OutOfMemory within earlier later cause = tt
+of_others files x others before between after Usage within earlier later cause = cause
+of_others files x others before between after (BadDocument number line kind) within earlier later cause = cause
+of_others files x others before between after (BadInstance index error) within earlier later cause = cause
+of_others files x others before between after (NotBuilt what) within earlier later cause = cause
+
+-- and of a command that reads these files
+pub of_files : (files : Told) (command : Command) (before after : ℕ) (r : Refusal) →
+    HasFileCause files (files_of command) before after r → HasCauseBy files command before after r
+of_files files command before after (FileFault name) cause = cause
+of_files files command before after (FileTooLarge name) cause = cause
+of_files files command before after OutOfMemory cause = tt
+of_files files command before after Usage cause = cause
+of_files files command before after (BadDocument number line kind) cause = absurd cause
+of_files files command before after (BadInstance index error) cause = absurd cause
+of_files files command before after (NotBuilt what) cause = absurd cause
+
+-- the causes of documents that a command compiles
+pub of_documents : (files : Told) (command : Command) (docs : List Doc) (before after : ℕ) (r : Refusal) →
+    AreCompiledBy files command docs → HasSetCause docs r → HasCauseBy files command before after r
+of_documents files command docs before after (BadDocument number line kind) compiled cause = (docs, compiled, cause)
+of_documents files command docs before after (BadInstance index error) compiled cause = (docs, compiled, cause)
+of_documents files command docs before after OutOfMemory compiled cause = tt
+of_documents files command docs before after Usage compiled cause = cause
+of_documents files command docs before after (FileFault name) compiled cause = absurd cause
+of_documents files command docs before after (FileTooLarge name) compiled cause = absurd cause
+of_documents files command docs before after (NotBuilt what) compiled cause = absurd cause
+
+-- the causes of a script and documents that are run
+pub of_run : (files : Told) (script_name : List ℕ) (names : List (List ℕ)) (script : List ℕ) (docs : List Doc)
+    (before after : ℕ) (r : Refusal) → AreRunFiles files script_name names script docs →
+    HasRunCause script docs r → HasCauseBy files (Run script_name names) before after r
+of_run files script_name names script docs before after (BadDocument number line kind) run cause =
+    (docs, (script, run, cause.0), cause.1)
+of_run files script_name names script docs before after (BadInstance index error) run cause =
+    (docs, (script, run, cause.0), cause.1)
+of_run files script_name names script docs before after (NotBuilt Document) run cause =
+    (docs, (script, run, cause.0), cause.1)
+of_run files script_name names script docs before after (NotBuilt Script) run cause = (script, docs, run, cause)
+of_run files script_name names script docs before after (NotBuilt ACommand) run cause = cause
+of_run files script_name names script docs before after OutOfMemory run cause = tt
+of_run files script_name names script docs before after Usage run cause = cause
+of_run files script_name names script docs before after (FileFault name) run cause = absurd cause
+of_run files script_name names script docs before after (FileTooLarge name) run cause = absurd cause
+
+-- the causes of a command are those of its words
+pub of_command : (files : Told) (words : List (List ℕ)) (command : Command) (before after : ℕ) (r : Refusal) →
+    AreWordsOf words command → HasCauseBy files command before after r → HasCause files words before after r
+of_command files words command before after (FileFault name) are cause = ((command, are, cause.0), cause.1)
+of_command files words command before after (FileTooLarge name) are cause = (command, are, cause)
+of_command files words command before after (BadDocument number line kind) are cause = (command, are, cause)
+of_command files words command before after (BadInstance index error) are cause = (command, are, cause)
+of_command files words command before after (NotBuilt ACommand) are cause = absurd cause
+of_command files words command before after (NotBuilt Document) are cause = (command, are, cause)
+of_command files words command before after (NotBuilt Script) are cause = (command, are, cause)
+of_command files words command before after OutOfMemory are cause = tt
+of_command files words command before after Usage are cause = absurd cause
+
+-- a row of documents, one more of them, and what is said of the files behind them
+pub one_more : {files : Told} {names : List (List ℕ)} {docs : List Doc} (name : List ℕ) (doc : Doc) →
+    AreDocuments files names docs → IsDocumentIn files name doc →
+    AreDocuments files (names ++ name ∷ []) (docs ++ doc ∷ [])
+one_more name doc no_document one = document one no_document
+one_more name doc (document first others) one = document first (one_more name doc others one)
+
+pub reaches_behind : {files : Told} {Holds : FileToRead → Type 0} {names : List (List ℕ)} {docs : List Doc}
+    (others : List (List ℕ)) → AreDocuments files names docs → Reaches files Holds (document_files others) →
+    Reaches files Holds (document_files (names ++ others))
+reaches_behind others no_document reaches = reaches
+reaches_behind others (document {doc = doc} first rest) reaches =
+    behind (record { bytes = doc.bytes.items; told = first.told; small = first.small })
+    (reaches_behind others rest reaches)
+
+pub behind_documents : (files : Told) (names others : List (List ℕ)) (docs : List Doc) (before after : ℕ)
+    (r : Refusal) → AreDocuments files names docs → HasFileCause files (document_files others) before after r →
+    HasFileCause files (document_files (names ++ others)) before after r
+behind_documents files names others docs before after (FileFault name) are cause =
+    (reaches_behind others are cause.0, cause.1)
+behind_documents files names others docs before after (FileTooLarge name) are cause =
+    reaches_behind others are cause
+behind_documents files names others docs before after OutOfMemory are cause = tt
+behind_documents files names others docs before after Usage are cause = cause
+behind_documents files names others docs before after (BadDocument number line kind) are cause = cause
+behind_documents files names others docs before after (BadInstance index error) are cause = cause
+behind_documents files names others docs before after (NotBuilt what) are cause = cause
+
+-- the same of the first of these files alone
+pub at_document : (files : Told) (name : List ℕ) (names others : List (List ℕ)) (docs : List Doc) (before after : ℕ)
+    (r : Refusal) → AreDocuments files names docs → HasFileCause files (document_files (name ∷ [])) before after r →
+    HasFileCause files (document_files (names ++ name ∷ others)) before after r
+at_document files name names others docs before after r are cause =
+    behind_documents files names (name ∷ others) docs before after r are
+    (of_first files _ (document_files others) before after r cause)
+
+-- the causes of documents that are compiled are causes of documents that aren't played
+pub of_judged : (docs : List Doc) (r : Refusal) → HasSetCause docs r → HasUnplayedCause docs r
+of_judged docs (BadDocument number line kind) cause = cause
+of_judged docs (BadInstance index error) cause = cause
+of_judged docs OutOfMemory cause = tt
+of_judged docs Usage cause = cause
+of_judged docs (FileFault name) cause = absurd cause
+of_judged docs (FileTooLarge name) cause = absurd cause
+of_judged docs (NotBuilt what) cause = absurd cause
+
+-- these are causes of a run where the documents are not one in the first form
+pub of_unplayed : (script : List ℕ) (docs : List Doc) (r : Refusal) → IsNotFirst docs → HasUnplayedCause docs r →
+    HasRunCause script docs r
+of_unplayed script docs (BadDocument number line kind) not_first cause = (not_first, cause)
+of_unplayed script docs (BadInstance index error) not_first cause = (not_first, cause)
+of_unplayed script docs (NotBuilt Document) not_first cause = (not_first, cause)
+of_unplayed script docs (NotBuilt ACommand) not_first cause = absurd cause
+of_unplayed script docs (NotBuilt Script) not_first cause = absurd cause
+of_unplayed script docs OutOfMemory not_first cause = tt
+of_unplayed script docs Usage not_first cause = absurd cause
+of_unplayed script docs (FileFault name) not_first cause = absurd cause
+of_unplayed script docs (FileTooLarge name) not_first cause = absurd cause
+
+-- what comes of a script for the one schema of documents
+pub of_script : (script : List ℕ) (docs : List Doc) (schema : Set) (r : Refusal) → IsFirst docs schema →
+    ((other : Set) → IsFirst docs other → other ≡ schema) → HasScriptCause schema script r → HasRunCause script docs r
+of_script script docs schema (NotBuilt Script) first only cause = record {
+  schema = schema;
+  first = first;
+  outside = λ other bind sends is_first of_script. cause bind sends
+      (subst (λ s. IsScriptFor s script bind sends) (only other is_first) of_script);
+}
+of_script script docs schema (NotBuilt ACommand) first only cause = absurd cause
+of_script script docs schema (NotBuilt Document) first only cause = absurd cause
+of_script script docs schema OutOfMemory first only cause = tt
+of_script script docs schema Usage first only cause = absurd cause
+of_script script docs schema (FileFault name) first only cause = absurd cause
+of_script script docs schema (FileTooLarge name) first only cause = absurd cause
+of_script script docs schema (BadDocument number line kind) first only cause = absurd cause
+of_script script docs schema (BadInstance index error) first only cause = absurd cause
+
+-- the same of any answer that is a refusal
+pub in_err : {X : Type 0} (P Q : Refusal → Type 0) (r : Result X Refusal) → ((e : Refusal) → P e → Q e) → IfErr r P →
+    IfErr r Q
+in_err P Q (Ok x) weaker p = tt
+in_err P Q (Err e) weaker p = weaker e p
+
+pub in_ok : {X E : Type 0} (P Q : X → Type 0) (r : Result X E) → ((x : X) → P x → Q x) → IfOk r P → IfOk r Q
+in_ok P Q (Ok x) weaker p = weaker x p
+in_ok P Q (Err e) weaker p = tt
+
+-- what is told of the one document is told of documents of which there is one
+pub told_of_one : (docs : List Doc) (doc : Doc) (told : Option Set) → docs ≡ doc ∷ [] →
+    TellsSchema doc.bytes.items told → TellsFirst docs told
+told_of_one docs doc None only tells = λ schema first. tells schema
+    (subst (λ d. IsDocument d.bytes.items schema) (first_doc (sym first.only ∙ only)) first.document_is)
+  where
+    first_doc : {a b : Doc} → a ∷ [] ≡ b ∷ [] → a ≡ b
+    first_doc {a} {b} same = ap (λ ds. get_or ds 0 a) same
+told_of_one docs doc (Some schema) only tells = (
+  record { document = doc; only = only; document_is = tells.0 },
+  λ other first. tells.1 other
+      (subst (λ d. IsDocument d.bytes.items other) (first_doc (sym first.only ∙ only)) first.document_is),
+  tells.2,
 )
-document_file files words script document before between after (FileTooLarge name) named within earlier later cause =
-    of_document (subst (λ n. AreRunWords words script n) (sym cause.0) named) within
-    (subst (λ n. IsLonger files n most_document) (sym cause.0) cause.1)
-document_file files words script document before between after (BadDocument line kind) named within earlier later
-    cause = absurd cause
-document_file files words script document before between after (NotBuilt what) named within earlier later cause =
-    absurd cause
-document_file files words script document before between after OutOfMemory named within earlier later cause = tt
+  where
+    first_doc : {a b : Doc} → a ∷ [] ≡ b ∷ [] → a ≡ b
+    first_doc {a} {b} same = ap (λ ds. get_or ds 0 a) same
 
--- what comes of a script for the one schema of a document
-pub script_outside : (script document : List ℕ) (schema : Set) (r : Refusal) → IsDocument document schema
-    → ((other : Set) → IsDocument document other → other ≡ schema)
-    → HasScriptCause schema script r → HasRunCause script document r
-script_outside script document schema (NotBuilt Script) is only cause =
-    record {
-      schema = schema;
-      document_is = is;
-      outside =
-          λ other bind sends of_document of_script. cause bind sends
-          (subst (λ s. IsScriptFor s script bind sends) (only other of_document) of_script);
-    }
-script_outside script document schema (NotBuilt Command) is only cause = absurd cause
-script_outside script document schema (NotBuilt Document) is only cause = absurd cause
-script_outside script document schema (FileFault name) is only cause = absurd cause
-script_outside script document schema (FileTooLarge name) is only cause = absurd cause
-script_outside script document schema (BadDocument line kind) is only cause = absurd cause
-script_outside script document schema OutOfMemory is only cause = tt
+pub one_document : (docs : List Doc) (doc : Doc) → length docs ≡ 1 → doc ≡ get_or docs 0 doc → docs ≡ doc ∷ []
+one_document [] doc one is = absurd (omega (arith, one))
+one_document (d ∷ []) doc one is = ap (λ x. x ∷ []) (sym is)
+one_document (d ∷ (other ∷ rest)) doc one is = absurd (omega (arith, one))
+
+pub not_one : (docs : List Doc) → (length docs ≡ 1 → ⊥) → IsNotFirst docs
+not_one docs other schema first = other (ap (λ ds. length ds) first.only)

@@ -1,3 +1,5 @@
-pub mod Causes
 mod StandardFacts
-pub mod WordLaws
+pub mod Causes
+pub mod Endings
+pub mod ReadingLaws
+pub mod LineLaws

@@ -1,30 +1,22 @@
--- Examples of the words of a run, of its lines, and of the line of a place, computed: README.md, Answers.
-use Rattle.std.proofs.Common.{◌≡◌, [], ◌∷◌, get_or, refl, arith}
+-- StandardFacts: examples of lines, computed: README.md, Answers.
+use Rattle.std.proofs.Common.{◌≡◌, refl}
 use Rattle.std.specs.Prelude.{codes}
 use Rattle.std.specs.Fmt.{digits}
-use Rattle.text_lex.specs.declared.lex_refusal.LexKind.TheVariants.{OpenString}
+use Rattle.template_compile.specs.declared.refusal.Kind.TheVariants.{OpenString}
 use Rattle.agent_run.specs.declared.refusal.Unbuilt.TheVariants.{Script}
-use Rattle.agent_run.specs.Refusing.{bad_document_line, file_line, line_of_place, not_built_line, too_large_line}
-use Rattle.agent_run.specs.Running.{AreRunWords, IsPlace}
+use Rattle.agent_run.specs.Refusing.{bad_document_line, bad_instance_line, file_line, not_built_line, too_large_line}
+use Rattle.agent_run.specs.Refusing.{two_numbers, usage_line}
 
-a_place : IsPlace (codes "element.gdmo")
-a_place e = let same : get_or (101 ∷ []) 0 0 ≡ 45 = e in omega (arith, same)
+the_line_of_words_in_no_form : usage_line ≡ codes "usage\n"
+the_line_of_words_in_no_form = refl
 
--- a word that begins with a hyphen is in no place
-no_place : IsPlace (codes "--help") → ⊥
-no_place place = place refl
-
-the_words : AreRunWords (codes "run" ∷ codes "element.gdmo" ∷ codes "element.gdmo" ∷ []) (codes "element.gdmo")
-    (codes "element.gdmo")
-the_words = record { spelt = refl; script_place = a_place; document_place = a_place }
-
--- the quotation mark of an open string on the second line
-the_second_line : line_of_place (codes "Net\n\"DEFINITIONS") 4 ≡ 2
-the_second_line = refl
-
-the_line_of_an_open_string : bad_document_line 2 OpenString ≡ codes "bad document 1 2 OpenString\n"
-unfolding digits
+the_line_of_an_open_string : bad_document_line 1 2 OpenString ≡ codes "bad document 1 2 OpenString\n"
+unfolding digits two_numbers
 the_line_of_an_open_string = refl
+
+the_line_of_an_instance : bad_instance_line 3 11 ≡ codes "bad instance 3 11\n"
+unfolding digits two_numbers
+the_line_of_an_instance = refl
 
 the_line_of_a_script : not_built_line Script ≡ codes "not built script\n"
 the_line_of_a_script = refl

@@ -1,14 +1,20 @@
--- The answers of the top call: what each status other than 0 says of the words and the files, and what was written
--- then.
-use Rattle.std.specs.Prelude.{◌≡◌, ◌≤◌, ◌⊎◌, ℕ, List, Option, None, Some, length}
+-- Answers: what each status of the top call says of the words and the files, and what was written then: README.md,
+-- Answers.
+use Rattle.std.specs.Prelude.{◌≡◌, ◌≤◌, ◌⊎◌, ℕ, List, [], ◌∷◌, Option, None, Some, length}
 use Rattle.agent_bytes.specs.Faults.{Rose}
 use Rattle.agent_bytes.specs.Told.{GainsPart, gained}
 use Rattle.agent_run.specs.declared.refusal.Unbuilt.{Unbuilt}
+use Rattle.command_line.specs.WordForms.{AreInNoForm, AreWordsOf}
+use Rattle.command_line.specs.WordForms.Command.{Run}
+use Rattle.document_parts.specs.declared.documents.Doc.{Doc}
+use Rattle.template_compile.specs.declared.refusal.Kind.{Kind}
+use Rattle.set_commands.specs.CommandTexts.{IsBadInstance}
+use Rattle.template_compile.specs.DocumentFaults.{IsTold}
 use Rattle.term_model.specs.declared.schema.Set.{Set}
-use Rattle.text_lex.specs.declared.lex_refusal.LexKind.{LexKind}
-use Rattle.agent_run.specs.Refusing.{HasFault, IsNamed, IsOutside, IsTooLarge, OfNamed, bad_document_line, file_line}
-use Rattle.agent_run.specs.Refusing.{not_built_line, too_large_line}
-use Rattle.agent_run.specs.Running.{AreRunWords, IsDocument, IsRunOf, IsScriptFor, Told, most_document, most_script}
+use Rattle.agent_run.specs.Files.{IsNamed, IsTooLarge, Told, most_document, most_script}
+use Rattle.agent_run.specs.Refusing.{AreCompiledBy, IsOutside, IsTextBy, OfCommand, bad_document_line}
+use Rattle.agent_run.specs.Refusing.{bad_instance_line, file_line, not_built_line, too_large_line, usage_line}
+use Rattle.agent_run.specs.Running.{IsDocument, IsScriptFor}
 
 -- These bytes were written; or, where a call of the output failed, a part of them. The counts are those of the output's
 -- faults.
@@ -16,8 +22,23 @@ abbrev pub IsPut : ℕ → ℕ → Option (List ℕ) → Option (List ℕ) → L
 IsPut out_before out_after before after line =
     (after ≡ gained before line) ⊎ (Rose out_before out_after × GainsPart before after line)
 
--- a call of the files failed, and the line has the name of the script, or that of the document where the script is
--- there within its limit
+-- the text is what the command prints whose words these are
+abbrev pub IsTextOf : Told → List (List ℕ) → List ℕ → Type 0
+IsTextOf files words text = OfCommand words (λ command. IsTextBy files command text)
+
+-- what was written in a call is such a text, where it is told
+pub record Prints (files : Told) (words : List (List ℕ)) (before after : Option (List ℕ)) : Type 0 where
+  pub text : List ℕ
+  pub text_is : IsTextOf files words text
+  pub written : after ≡ gained before text
+
+-- the words are in no form
+pub record EndsByUsage (words : List (List ℕ)) (out_before out_after : ℕ) (before after : Option (List ℕ)) :
+    Type 0 where
+  pub outside : AreInNoForm words
+  pub line : IsPut out_before out_after before after usage_line
+
+-- a call of the files failed, and the line has the name of one that is read; each before it is there within its limit
 pub record EndsByFileFault (files : Told) (words : List (List ℕ)) (faults_before faults_after out_before out_after : ℕ)
     (before after : Option (List ℕ)) : Type 0 where
   pub rose : Rose faults_before faults_after
@@ -25,50 +46,66 @@ pub record EndsByFileFault (files : Told) (words : List (List ℕ)) (faults_befo
   pub named : IsNamed files words name
   pub line : IsPut out_before out_after before after (file_line name)
 
--- the file that the line names is longer than its limit, and one before it is not
+-- the file that the line names is longer than its limit, and none before it is
 pub record EndsByFileTooLarge (files : Told) (words : List (List ℕ)) (out_before out_after : ℕ)
     (before after : Option (List ℕ)) : Type 0 where
   pub name : List ℕ
   pub longer : IsTooLarge files words name
   pub line : IsPut out_before out_after before after (too_large_line name)
 
--- the document has its first fault on the line that is printed
-pub record EndsByBadDocument (files : Told) (words : List (List ℕ)) (out_before out_after : ℕ)
+-- the documents have the fault that is printed
+pub record EndsByFault (files : Told) (words : List (List ℕ)) (out_before out_after : ℕ)
     (before after : Option (List ℕ)) : Type 0 where
+  pub document : ℕ
   pub number : ℕ
-  pub kind : LexKind
-  pub fault : OfNamed files words (λ script document. HasFault number kind document)
-  pub line : IsPut out_before out_after before after (bad_document_line number kind)
+  pub kind : Kind
+  pub fault : OfCommand words (λ command.
+      (docs : List Doc) × AreCompiledBy files command docs × IsTold docs document number kind)
+  pub line : IsPut out_before out_after before after (bad_document_line document number kind)
 
--- the words, the document or the script is outside its form, as the line says
+-- the instance that is printed can't be opened
+pub record EndsByInstance (files : Told) (words : List (List ℕ)) (out_before out_after : ℕ)
+    (before after : Option (List ℕ)) : Type 0 where
+  pub index : ℕ
+  pub error : ℕ
+  pub fault : OfCommand words (λ command.
+      (docs : List Doc) × AreCompiledBy files command docs × IsBadInstance docs index error)
+  pub line : IsPut out_before out_after before after (bad_instance_line index error)
+
+abbrev pub EndsByBadDocument : Told → List (List ℕ) → ℕ → ℕ → Option (List ℕ) → Option (List ℕ) → Type 0
+EndsByBadDocument files words out_before out_after before after =
+    EndsByFault files words out_before out_after before after
+    ⊎ EndsByInstance files words out_before out_after before after
+
+-- the words, the documents or the script are outside their forms, as the line says
 pub record EndsByNotBuilt (files : Told) (words : List (List ℕ)) (out_before out_after : ℕ)
     (before after : Option (List ℕ)) : Type 0 where
   pub what : Unbuilt
   pub outside : IsOutside files words what
   pub line : IsPut out_before out_after before after (not_built_line what)
 
--- a write failed, and a part of the run's text is there
+-- a write failed, and a part of the command's text is there
 pub record EndsByWriteFault (files : Told) (words : List (List ℕ)) (out_before out_after : ℕ)
     (before after : Option (List ℕ)) : Type 0 where
   pub rose : Rose out_before out_after
   pub text : List ℕ
   pub part : GainsPart before after text
-  pub run : IsRunOf files words text
+  pub text_is : IsTextOf files words text
 
 -- the file is told, and has these bytes
-abbrev pub IsTold : Told → List ℕ → List ℕ → Type 0
-IsTold None name bytes = ⊥
-IsTold (Some bytes_of) name bytes = bytes_of name ≡ Some bytes
+abbrev pub HasBytes : Told → List ℕ → List ℕ → Type 0
+HasBytes None name bytes = ⊥
+HasBytes (Some bytes_of) name bytes = bytes_of name ≡ Some bytes
 
--- the words are in the form, and so are the files that they name, within their limits
+-- the words are in the form of a run with one document, and so are the files that they name, within their limits
 pub record IsRunnable (files : Told) (words : List (List ℕ)) : Type 0 where
   pub script_name : List ℕ
   pub document_name : List ℕ
-  pub words_are : AreRunWords words script_name document_name
+  pub words_are : AreWordsOf words (Run script_name (document_name ∷ []))
   pub script : List ℕ
   pub document : List ℕ
-  pub script_told : IsTold files script_name script
-  pub document_told : IsTold files document_name document
+  pub script_told : HasBytes files script_name script
+  pub document_told : HasBytes files document_name document
   pub script_small : length script ≤ most_script
   pub document_small : length document ≤ most_document
   pub schema : Set

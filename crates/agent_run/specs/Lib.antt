@@ -1,5 +1,6 @@
 -- The definitions that the contracts of this crate cite.
 pub mod Answers
+pub mod Files
 pub mod Refusing
 pub mod Running
 pub mod Statuses

@@ -1,86 +1,119 @@
--- Why a run is not done: the cause of each status, and the line that is written then.
-use Rattle.std.specs.Prelude.{◌≡◌, ◌==◌, ◌+◌, ◌≤◌, ℕ, List, ◌++◌, codes, count_by, decimal, length, take}
+-- Refusing: why a command is not done: the cause of each status, and the line that is written then: README.md, Answers;
+-- docs/OPERATING.md, Commands.
+use Rattle.std.specs.Prelude.{◌≡◌, ℕ, List, ◌++◌, codes, decimal}
 use Rattle.agent_bytes.specs.Faults.{Rose}
-use Rattle.agent_bytes.specs.Told.{IsFile, IsLonger}
 use Rattle.agent_run.specs.declared.refusal.Refusal.{Refusal}
-use Rattle.agent_run.specs.declared.refusal.Refusal.TheVariants.{FileFault, FileTooLarge, BadDocument, NotBuilt}
-use Rattle.agent_run.specs.declared.refusal.Refusal.TheVariants.{OutOfMemory}
+use Rattle.agent_run.specs.declared.refusal.Refusal.TheVariants.{Usage, FileFault, FileTooLarge, BadDocument}
+use Rattle.agent_run.specs.declared.refusal.Refusal.TheVariants.{BadInstance, NotBuilt, OutOfMemory}
 use Rattle.agent_run.specs.declared.refusal.Unbuilt.{Unbuilt}
-use Rattle.agent_run.specs.declared.refusal.Unbuilt.TheVariants.{Command, Document, Script}
+use Rattle.agent_run.specs.declared.refusal.Unbuilt.TheVariants.{Command as ACommand, Document, Script}
+use Rattle.command_line.specs.WordForms.{AreInNoForm, AreUnbuilt, AreWordsOf, Command}
+use Rattle.command_line.specs.WordForms.Command.{Check, Report, Run, Replay, Serve, Load}
+use Rattle.document_parts.specs.declared.documents.Doc.{Doc}
+use Rattle.template_compile.specs.declared.refusal.Kind.{Kind}
+use Rattle.template_compile.specs.declared.refusal.Kind.TheVariants as K
+use Rattle.set_commands.specs.CommandTexts.{AreAccepted, IsBadInstance, IsChecked, IsReported}
+use Rattle.template_compile.specs.DocumentFaults.{IsTold}
 use Rattle.term_model.specs.declared.schema.Set.{Set}
 use Rattle.term_model.specs.Texts.{line_feed}
-use Rattle.text_lex.specs.declared.lex_refusal.LexKind.{LexKind}
-use Rattle.text_lex.specs.declared.lex_refusal.LexKind.TheVariants.{BadByte, OpenString, BadNumber, BadBits}
-use Rattle.text_lex.specs.declared.lex_refusal.LexRefusal.TheVariants.{Fault}
-use Rattle.token_grammar.specs.declared.token.Token.{Token}
-use Rattle.text_lex.specs.Lexed.{AreTokensOf, IsRefused}
-use Rattle.agent_run.specs.Statuses.{bad_document, file_fault, file_too_large, not_built, out_of_memory}
-use Rattle.agent_run.specs.Running.{AreNamed, AreRunWords, IsDocument, IsScriptFor, Told, most_document, most_script}
+use Rattle.agent_run.specs.Files.{AreDocuments, FileToRead, IsWithin, Names, NamesLonger, Told}
+use Rattle.agent_run.specs.Files.{files_of, most_script}
+use Rattle.agent_run.specs.Running.{IsFirst, IsNotFirst, IsRun, IsScriptFor}
+use Rattle.agent_run.specs.Statuses.{bad_document, file_fault, file_too_large, not_built, out_of_memory, usage}
 
--- the named file is there with at most so many bytes, where it is told
-pub record IsWithin (files : Told) (name : List ℕ) (limit : ℕ) : Type 0 where
-  pub bytes : List ℕ
-  pub told : IsFile files name bytes
-  pub small : length bytes ≤ limit
+-- the script of a run and its documents
+pub record AreRunFiles (files : Told) (script_name : List ℕ) (names : List (List ℕ)) (script : List ℕ)
+    (docs : List Doc) : Type 0 where
+  pub within : IsWithin files script_name most_script
+  pub script_is : within.bytes ≡ script
+  pub documents : AreDocuments files names docs
 
--- the script that the words name; or the document, where the script, which is read before it, is there within its limit
-pub data IsNamed (files : Told) (words : List (List ℕ)) (name : List ℕ) : Type 0 where
-  first : {document : List ℕ} → AreRunWords words name document → IsNamed files words name
-  second : {script : List ℕ} → AreRunWords words script name → IsWithin files script most_script
-      → IsNamed files words name
+-- what a command prints where it is done
+abbrev pub IsTextBy : Told → Command → List ℕ → Type 0
+IsTextBy files (Check names) text = (docs : List Doc) × AreDocuments files names docs × IsChecked docs text
+IsTextBy files (Report names) text = (docs : List Doc) × AreDocuments files names docs × IsReported docs text
+IsTextBy files (Run script_name names) text = (script : List ℕ) × (docs : List Doc)
+    × AreRunFiles files script_name names script docs × IsRun script docs text
+IsTextBy files (Replay journal names) text = ⊥
+IsTextBy files (Serve address sessions workers names) text = ⊥
+IsTextBy files (Load seed count) text = ⊥
 
--- the named script has more bytes than its limit; or the named document has, where the script is there within its limit
-pub data IsTooLarge (files : Told) (words : List (List ℕ)) (name : List ℕ) : Type 0 where
-  of_script : {document : List ℕ} → AreRunWords words name document → IsLonger files name most_script
-      → IsTooLarge files words name
-  of_document : {script : List ℕ} → AreRunWords words script name → IsWithin files script most_script
-      → IsLonger files name most_document → IsTooLarge files words name
+-- the documents that a command compiles: those of `run` where they are not one document in the first form
+abbrev pub AreCompiledBy : Told → Command → List Doc → Type 0
+AreCompiledBy files (Check names) docs = AreDocuments files names docs
+AreCompiledBy files (Report names) docs = AreDocuments files names docs
+AreCompiledBy files (Run script_name names) docs = (script : List ℕ)
+    × AreRunFiles files script_name names script docs × IsNotFirst docs
+AreCompiledBy files (Replay journal names) docs = ⊥
+AreCompiledBy files (Serve address sessions workers names) docs = ⊥
+AreCompiledBy files (Load seed count) docs = ⊥
 
--- something holds of the bytes of these files
-pub record OfNamed (files : Told) (words : List (List ℕ)) (Holds : List ℕ → List ℕ → Type 0) : Type 0 where
-  pub script : List ℕ
-  pub document : List ℕ
-  pub named : AreNamed files words script document
-  pub holds : Holds script document
+-- the documents of a run are accepted, and they are not one document in the first form
+abbrev pub IsUnplayed : Told → Command → Type 0
+IsUnplayed files (Run script_name names) =
+    (docs : List Doc) × AreCompiledBy files (Run script_name names) docs × AreAccepted docs
+IsUnplayed files (Check names) = ⊥
+IsUnplayed files (Report names) = ⊥
+IsUnplayed files (Replay journal names) = ⊥
+IsUnplayed files (Serve address sessions workers names) = ⊥
+IsUnplayed files (Load seed count) = ⊥
 
--- the line of a place in a text, counted from 1
-abbrev pub line_of_place : List ℕ → ℕ → ℕ
-line_of_place text place = count_by (λ octet. octet == 10) (take place text) + 1
-
--- the bytes of a document are no tokens, and their first fault is on this line
-pub record HasFault (line : ℕ) (kind : LexKind) (document : List ℕ) : Type 0 where
-  pub place : ℕ
-  pub fault : IsRefused document (Fault place kind)
-  pub line_is : line ≡ line_of_place document place
-
--- the words are in no form
-abbrev pub AreNoWords : List (List ℕ) → Type 0
-AreNoWords words = (script document : List ℕ) → AreRunWords words script document → ⊥
-
--- the document has tokens, and they are not in the first form
-pub record IsNoDocument (document : List ℕ) : Type 0 where
-  pub tokens : List Token
-  pub cut : AreTokensOf document tokens
-  pub outside : (schema : Set) → IsDocument document schema → ⊥
-
--- the document is in the first form, and the script is not in the form for its class
-pub record IsNoScript (script document : List ℕ) : Type 0 where
+-- the one document is in the first form, and the script is not in the form for its class
+pub record IsNoScript (script : List ℕ) (docs : List Doc) : Type 0 where
   pub schema : Set
-  pub document_is : IsDocument document schema
-  pub outside : (other : Set) (bind : List ℕ) (sends : List (List ℕ)) → IsDocument document other
+  pub first : IsFirst docs schema
+  pub outside : (other : Set) (bind : List ℕ) (sends : List (List ℕ)) → IsFirst docs other
       → IsScriptFor other script bind sends → ⊥
 
-abbrev pub IsOutside : Told → List (List ℕ) → Unbuilt → Type 0
-IsOutside files words Command = AreNoWords words
-IsOutside files words Document = OfNamed files words (λ script document. IsNoDocument document)
-IsOutside files words Script = OfNamed files words IsNoScript
+abbrev pub HasNoScript : Told → Command → Type 0
+HasNoScript files (Run script_name names) = (script : List ℕ) × (docs : List Doc)
+    × AreRunFiles files script_name names script docs × IsNoScript script docs
+HasNoScript files (Check names) = ⊥
+HasNoScript files (Report names) = ⊥
+HasNoScript files (Replay journal names) = ⊥
+HasNoScript files (Serve address sessions workers names) = ⊥
+HasNoScript files (Load seed count) = ⊥
 
--- the cause of each refusal; the counts are those of the files' faults before and after the call
+abbrev pub IsOutsideBy : Told → Command → Unbuilt → Type 0
+IsOutsideBy files command ACommand = ⊥
+IsOutsideBy files command Document = IsUnplayed files command
+IsOutsideBy files command Script = HasNoScript files command
+
+-- the cause of each refusal of a command that is built; the counts are those of the files' faults before and after the
+-- call
+abbrev pub HasCauseBy : Told → Command → ℕ → ℕ → Refusal → Type 0
+HasCauseBy files command before after Usage = ⊥
+HasCauseBy files command before after (FileFault name) =
+    Names files (files_of command) name.now × Rose before after
+HasCauseBy files command before after (FileTooLarge name) = NamesLonger files (files_of command) name.now
+HasCauseBy files command before after (BadDocument document line kind) =
+    (docs : List Doc) × AreCompiledBy files command docs × IsTold docs document line kind
+HasCauseBy files command before after (BadInstance index error) =
+    (docs : List Doc) × AreCompiledBy files command docs × IsBadInstance docs index error
+HasCauseBy files command before after (NotBuilt what) = IsOutsideBy files command what
+HasCauseBy files command before after OutOfMemory = Unit {0}
+
+-- something holds of the command whose words these are
+abbrev pub OfCommand : List (List ℕ) → (Command → Type 0) → Type 0
+OfCommand words Holds = (command : Command) × AreWordsOf words command × Holds command
+
+-- the words, the documents or the script are outside their forms
+abbrev pub IsOutside : Told → List (List ℕ) → Unbuilt → Type 0
+IsOutside files words ACommand = AreUnbuilt words
+IsOutside files words Document = OfCommand words (IsUnplayed files)
+IsOutside files words Script = OfCommand words (HasNoScript files)
+
+-- the cause of each refusal
 abbrev pub HasCause : Told → List (List ℕ) → ℕ → ℕ → Refusal → Type 0
-HasCause files words before after (FileFault name) = IsNamed files words name.now × Rose before after
-HasCause files words before after (FileTooLarge name) = IsTooLarge files words name.now
-HasCause files words before after (BadDocument line kind) =
-    OfNamed files words (λ script document. HasFault line kind document)
+HasCause files words before after Usage = AreInNoForm words
+HasCause files words before after (FileFault name) =
+    OfCommand words (λ command. Names files (files_of command) name.now) × Rose before after
+HasCause files words before after (FileTooLarge name) =
+    OfCommand words (λ command. NamesLonger files (files_of command) name.now)
+HasCause files words before after (BadDocument document line kind) = OfCommand words (λ command.
+    (docs : List Doc) × AreCompiledBy files command docs × IsTold docs document line kind)
+HasCause files words before after (BadInstance index error) = OfCommand words (λ command.
+    (docs : List Doc) × AreCompiledBy files command docs × IsBadInstance docs index error)
 HasCause files words before after (NotBuilt what) = IsOutside files words what
 HasCause files words before after OutOfMemory = Unit {0}
 
@@ -89,19 +122,27 @@ abbrev pub KeepsCount : ℕ → ℕ → Refusal → Type 0
 KeepsCount before after (FileFault name) = Unit {0}
 KeepsCount before after _ = after ≡ before
 
--- the causes that one file alone may give, read up to a limit
-abbrev pub HasFileCause : Told → List ℕ → ℕ → ℕ → ℕ → Refusal → Type 0
-HasFileCause files name limit before after (FileFault other) = (other.now ≡ name) × Rose before after
-HasFileCause files name limit before after (FileTooLarge other) = (other.now ≡ name) × IsLonger files name limit
-HasFileCause files name limit before after OutOfMemory = Unit {0}
-HasFileCause files name limit before after _ = ⊥
+-- the causes that files alone may give, read in this order
+abbrev pub HasFileCause : Told → List FileToRead → ℕ → ℕ → Refusal → Type 0
+HasFileCause files reading before after (FileFault name) = Names files reading name.now × Rose before after
+HasFileCause files reading before after (FileTooLarge name) = NamesLonger files reading name.now
+HasFileCause files reading before after OutOfMemory = Unit {0}
+HasFileCause files reading before after _ = ⊥
 
--- the causes that a document alone may give
-abbrev pub HasDocumentCause : List ℕ → Refusal → Type 0
-HasDocumentCause document (BadDocument line kind) = HasFault line kind document
-HasDocumentCause document (NotBuilt Document) = IsNoDocument document
-HasDocumentCause document OutOfMemory = Unit {0}
-HasDocumentCause document _ = ⊥
+-- the causes that documents alone may give where they are not one document in the first form
+abbrev pub HasUnplayedCause : List Doc → Refusal → Type 0
+HasUnplayedCause docs (BadDocument document line kind) = IsTold docs document line kind
+HasUnplayedCause docs (BadInstance index error) = IsBadInstance docs index error
+HasUnplayedCause docs (NotBuilt Document) = AreAccepted docs
+HasUnplayedCause docs OutOfMemory = Unit {0}
+HasUnplayedCause docs _ = ⊥
+
+-- the causes that documents alone may give where they are compiled
+abbrev pub HasSetCause : List Doc → Refusal → Type 0
+HasSetCause docs (BadDocument document line kind) = IsTold docs document line kind
+HasSetCause docs (BadInstance index error) = IsBadInstance docs index error
+HasSetCause docs OutOfMemory = Unit {0}
+HasSetCause docs _ = ⊥
 
 -- the causes that a script for the class of a schema may give
 abbrev pub HasScriptCause : Set → List ℕ → Refusal → Type 0
@@ -110,42 +151,75 @@ HasScriptCause schema script (NotBuilt Script) =
 HasScriptCause schema script OutOfMemory = Unit {0}
 HasScriptCause schema script _ = ⊥
 
--- the causes that a script and a document may give together
-abbrev pub HasRunCause : List ℕ → List ℕ → Refusal → Type 0
-HasRunCause script document (BadDocument line kind) = HasFault line kind document
-HasRunCause script document (NotBuilt Document) = IsNoDocument document
-HasRunCause script document (NotBuilt Script) = IsNoScript script document
-HasRunCause script document OutOfMemory = Unit {0}
-HasRunCause script document _ = ⊥
+-- the causes that a script and documents may give together
+abbrev pub HasRunCause : List ℕ → List Doc → Refusal → Type 0
+HasRunCause script docs (BadDocument document line kind) = IsNotFirst docs × IsTold docs document line kind
+HasRunCause script docs (BadInstance index error) = IsNotFirst docs × IsBadInstance docs index error
+HasRunCause script docs (NotBuilt Document) = IsNotFirst docs × AreAccepted docs
+HasRunCause script docs (NotBuilt Script) = IsNoScript script docs
+HasRunCause script docs OutOfMemory = Unit {0}
+HasRunCause script docs _ = ⊥
 
 -- the status with which the program ends
 abbrev pub status_of : Refusal → ℕ
+status_of Usage = usage
 status_of (FileFault name) = file_fault
 status_of (FileTooLarge name) = file_too_large
-status_of (BadDocument line kind) = bad_document
+status_of (BadDocument document line kind) = bad_document
+status_of (BadInstance index error) = bad_document
 status_of (NotBuilt what) = not_built
 status_of OutOfMemory = out_of_memory
 
-abbrev pub kind_name : LexKind → List ℕ
-kind_name BadByte = codes "BadByte"
-kind_name OpenString = codes "OpenString"
-kind_name BadNumber = codes "BadNumber"
-kind_name BadBits = codes "BadBits"
+abbrev pub kind_name : Kind → List ℕ
+kind_name K.BadByte = codes "BadByte"
+kind_name K.OpenString = codes "OpenString"
+kind_name K.BadNumber = codes "BadNumber"
+kind_name K.BadBits = codes "BadBits"
+kind_name K.Syntax = codes "Syntax"
+kind_name K.UnknownType = codes "UnknownType"
+kind_name K.UnknownModule = codes "UnknownModule"
+kind_name K.CyclicType = codes "CyclicType"
+kind_name K.Unsupported = codes "Unsupported"
+kind_name K.AmbiguousTags = codes "AmbiguousTags"
+kind_name K.UnknownLabel = codes "UnknownLabel"
+kind_name K.WrongKind = codes "WrongKind"
+kind_name K.DoubleLabel = codes "DoubleLabel"
+kind_name K.DoubleIdentifier = codes "DoubleIdentifier"
+kind_name K.CyclicClass = codes "CyclicClass"
+kind_name K.UnequalDefault = codes "UnequalDefault"
+kind_name K.EmptyPermitted = codes "EmptyPermitted"
+kind_name K.NotSetValued = codes "NotSetValued"
+kind_name K.BadValue = codes "BadValue"
 
 abbrev pub unbuilt_name : Unbuilt → List ℕ
-unbuilt_name Command = codes "command"
+unbuilt_name ACommand = codes "command"
 unbuilt_name Document = codes "document"
 unbuilt_name Script = codes "script"
 
 -- the lines, each with its line feed
+abbrev pub usage_line : List ℕ
+usage_line = codes "usage" ++ line_feed
+
 abbrev pub file_line : List ℕ → List ℕ
 file_line name = codes "file " ++ (name ++ line_feed)
 
 abbrev pub too_large_line : List ℕ → List ℕ
 too_large_line name = codes "too large " ++ (name ++ line_feed)
 
-abbrev pub bad_document_line : ℕ → LexKind → List ℕ
-bad_document_line line kind = codes "bad document 1 " ++ (decimal line ++ (codes " " ++ (kind_name kind ++ line_feed)))
+-- words with a number behind them
+abbrev pub numbered : List ℕ → ℕ → List ℕ
+numbered words number = words ++ decimal number
+
+-- and another one behind a blank
+unfoldable pub two_numbers : List ℕ → ℕ → ℕ → List ℕ
+two_numbers words one other = numbered words one ++ numbered (codes " ") other
+
+abbrev pub bad_document_line : ℕ → ℕ → Kind → List ℕ
+bad_document_line document line kind =
+    two_numbers (codes "bad document ") document line ++ (codes " " ++ (kind_name kind ++ line_feed))
+
+abbrev pub bad_instance_line : ℕ → ℕ → List ℕ
+bad_instance_line index error = two_numbers (codes "bad instance ") index error ++ line_feed
 
 abbrev pub not_built_line : Unbuilt → List ℕ
 not_built_line what = codes "not built " ++ (unbuilt_name what ++ line_feed)
@@ -154,8 +228,10 @@ abbrev pub memory_line : List ℕ
 memory_line = codes "memory" ++ line_feed
 
 abbrev pub line_of : Refusal → List ℕ
+line_of Usage = usage_line
 line_of (FileFault name) = file_line name.now
 line_of (FileTooLarge name) = too_large_line name.now
-line_of (BadDocument line kind) = bad_document_line line kind
+line_of (BadDocument document line kind) = bad_document_line document line kind
+line_of (BadInstance index error) = bad_instance_line index error
 line_of (NotBuilt what) = not_built_line what
 line_of OutOfMemory = memory_line

@@ -1,12 +1,14 @@
--- What a run of the program is: the words, the files that they name, and the text that is printed.
-use Rattle.std.specs.Prelude.{◌≡◌, ◌≢◌, ◌≤◌, ℕ, List, [], ◌∷◌, ◌++◌, IsTrue, Option, codes, length, slice_index}
+-- Running: what a run of the program is: its document, its script, and the text that is printed: README.md, Answers;
+-- docs/PROFILE.md, sections 6 and 7.
+use Rattle.std.specs.Prelude.{◌≡◌, ℕ, List, [], ◌∷◌, ◌++◌, IsTrue, Option, None, Some}
 use Rattle.std.specs.List.{All}
-use Rattle.agent_bytes.specs.Told.{IsFile, gained}
+use Rattle.document_parts.specs.declared.documents.Doc.{Doc}
 use Rattle.term_model.specs.declared.agent_state.AgentState.{AgentState}
 use Rattle.term_model.specs.declared.entry.Entry.{Entry}
 use Rattle.term_model.specs.declared.schema.ClassRec.{ClassRec}
 use Rattle.term_model.specs.declared.schema.Set.{Set}
 use Rattle.term_model.specs.AgentLimits.{shipped}
+use Rattle.term_model.specs.AgentState.{with_opened}
 use Rattle.term_model.specs.History.{came, is_legal_journal, replay}
 use Rattle.term_model.specs.Played.{played}
 use Rattle.term_model.specs.Settled.{IsSettled}
@@ -57,55 +59,40 @@ pub record IsPlayed (schema : Set) (bind : List ℕ) (sends : List (List ℕ)) (
   pub determined : (other : List Entry) (rest : List ℕ) → All IsEntry other
       → text ≡ journal_text other ++ (separator ++ rest) → other ≡ journal
 
--- the text is what a script comes to on the records of a document
-pub record IsRun (script document text : List ℕ) : Type 0 where
-  pub schema : Set
+-- the text is what a script comes to on these records
+pub record IsRunOn (schema : Set) (script text : List ℕ) : Type 0 where
   pub bind : List ℕ
   pub sends : List (List ℕ)
-  pub document_is : IsDocument document schema
   pub script_is : IsScriptFor schema script bind sends
   pub played : IsPlayed schema bind sends text
 
--- a word that may stand in a place doesn't begin with a hyphen
-abbrev pub IsPlace : List ℕ → Type 0
-IsPlace word = slice_index word 0 ≢ 45
+-- there is one document, it is in the first form, and these are its records
+pub record IsFirst (docs : List Doc) (schema : Set) : Type 0 where
+  pub document : Doc
+  pub only : docs ≡ document ∷ []
+  pub document_is : IsDocument document.bytes.items schema
 
--- the words are the command `run` and the names of a script and of a document
-pub record AreRunWords (words : List (List ℕ)) (script document : List ℕ) : Type 0 where
-  pub spelt : words ≡ codes "run" ∷ script ∷ document ∷ []
-  pub script_place : IsPlace script
-  pub document_place : IsPlace document
+abbrev pub IsNotFirst : List Doc → Type 0
+IsNotFirst docs = (schema : Set) → IsFirst docs schema → ⊥
 
--- what the files tell of the bytes under each name; none where they tell nothing
-abbrev pub Told : Type 0
-Told = Option (List ℕ → Option (List ℕ))
+-- the objects that the instances of a schema state obey its templates
+abbrev pub OpensWell : Set → Type 0
+OpensWell schema = IsWellFormedMib schema (with_opened [] schema.instances)
 
--- the most octets of a script and of a document, 16 MiB and 4 MiB: docs/OPERATING.md, Limits
-abbrev pub most_script : ℕ
-most_script = 16777216
+-- what is told of a document: its records, which are the only ones; none where it isn't in the first form
+abbrev pub TellsSchema : List ℕ → Option Set → Type 0
+TellsSchema document None = (schema : Set) → IsDocument document schema → ⊥
+TellsSchema document (Some schema) =
+    IsDocument document schema × ((other : Set) → IsDocument document other → other ≡ schema) × OpensWell schema
 
-abbrev pub most_document : ℕ
-most_document = 4194304
+-- the same of documents
+abbrev pub TellsFirst : List Doc → Option Set → Type 0
+TellsFirst docs None = IsNotFirst docs
+TellsFirst docs (Some schema) =
+    IsFirst docs schema × ((other : Set) → IsFirst docs other → other ≡ schema) × OpensWell schema
 
--- the bytes of the two files that the words name, within their limits, where the files are told
-pub record AreNamed (files : Told) (words : List (List ℕ)) (script document : List ℕ) : Type 0 where
-  pub script_name : List ℕ
-  pub document_name : List ℕ
-  pub words_are : AreRunWords words script_name document_name
-  pub script_told : IsFile files script_name script
-  pub document_told : IsFile files document_name document
-  pub script_small : length script ≤ most_script
-  pub document_small : length document ≤ most_document
-
--- the text is what the script in one named file comes to on the document in the other one
-pub record IsRunOf (files : Told) (words : List (List ℕ)) (text : List ℕ) : Type 0 where
-  pub script : List ℕ
-  pub document : List ℕ
-  pub named : AreNamed files words script document
-  pub run : IsRun script document text
-
--- what was written in a call is such a text, where it is told
-pub record Prints (files : Told) (words : List (List ℕ)) (before after : Option (List ℕ)) : Type 0 where
-  pub text : List ℕ
-  pub run : IsRunOf files words text
-  pub written : after ≡ gained before text
+-- the text is what a script comes to on the records of the one document
+pub record IsRun (script : List ℕ) (docs : List Doc) (text : List ℕ) : Type 0 where
+  pub schema : Set
+  pub first : IsFirst docs schema
+  pub run : IsRunOn schema script text

@@ -6,11 +6,15 @@ use Rattle.std.specs.Prelude.{ℕ, List, [], ◌∷◌}
 abbrev pub done : ℕ
 done = 0
 
+-- the words are in no form
+abbrev pub usage : ℕ
+usage = 2
+
 -- a call of the files failed
 abbrev pub file_fault : ℕ
 file_fault = 3
 
--- a document has a fault
+-- a document has a fault, or an instance can't be opened
 abbrev pub bad_document : ℕ
 bad_document = 4
 
@@ -26,9 +30,9 @@ out_of_memory = 8
 abbrev pub file_too_large : ℕ
 file_too_large = 10
 
--- the words, the document or the script are of a form that is not built yet
+-- the command, the documents or the script are of a form that is not built
 abbrev pub not_built : ℕ
 not_built = 12
 
 abbrev pub all_statuses : List ℕ
-all_statuses = done ∷ file_fault ∷ bad_document ∷ write_fault ∷ out_of_memory ∷ file_too_large ∷ not_built ∷ []
+all_statuses = done ∷ usage ∷ file_fault ∷ bad_document ∷ write_fault ∷ out_of_memory ∷ file_too_large ∷ not_built ∷ []

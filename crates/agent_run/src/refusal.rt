@@ -1,20 +1,26 @@
-//! How a command ends when it is not done: its status, and the line that says why.
+//! How a command ends when it is not done: its status, and the line that says why (docs/OPERATING.md, Commands).
 
-ghost use Rattle.std.specs.Prelude.{◌≡◌, ◌++◌, IfOk, OnOk, codes, decimal};
+ghost use Rattle.std.specs.Prelude.{◌≡◌, ◌++◌, List, IfOk, OnOk};
 ghost use Rattle.term_model.specs.Texts.{line_feed};
-ghost use Rattle.agent_run.specs.Refusing.{kind_name, line_of, status_of, unbuilt_name};
+ghost use Rattle.agent_run.specs.Refusing.{HasSetCause, bad_document_line, bad_instance_line, kind_name, line_of};
+ghost use Rattle.agent_run.specs.Refusing.{numbered, status_of, two_numbers, unbuilt_name};
+ghost use Rattle.set_commands.specs.CommandTexts.{HasCause as HasSetRefusalCause};
+ghost use Rattle.document_parts.specs.declared.documents.Doc.{Doc};
 
 use journal_text::texts::{LINE_FEED, write_decimal};
+use set_commands::{Kind, SetRefusal};
 use std::alloc::{AllocError, Global};
-use text_lex::LexKind;
 
 /// Everything was done and written.
 pub const DONE: u8 = 0;
 
+/// The words are in no form.
+pub const USAGE: u8 = 2;
+
 /// A call of the files failed.
 pub const FILE_FAULT: u8 = 3;
 
-/// A document has a fault.
+/// A document has a fault, or an instance can't be opened.
 pub const BAD_DOCUMENT: u8 = 4;
 
 /// A call of the output failed.
@@ -26,39 +32,63 @@ pub const OUT_OF_MEMORY: u8 = 8;
 /// A file is longer than its limit.
 pub const FILE_TOO_LARGE: u8 = 10;
 
-/// The words, the document or the script are of a form that is not built yet.
+/// The command, the documents or the script are of a form that is not built.
 pub const NOT_BUILT: u8 = 12;
 
 /// What is not built.
 #[derive(Clone, Copy, Debug, PartialEq, Eq)]
 pub enum Unbuilt {
+    /// The command of the words.
     Command,
+    /// The running of these documents.
     Document,
+    /// The script.
     Script,
 }
 
 /// Why a command is not done.
 #[derive(Clone, Copy, Debug, PartialEq, Eq)]
 pub enum Refusal<'a> {
+    /// The words are in no form.
+    Usage,
     /// A file could not be read.
     FileFault(&'a str),
     /// A file is longer than its limit.
     FileTooLarge(&'a str),
-    /// A document's bytes are no tokens: the line of the fault, counted from 1, and its kind.
-    BadDocument(u64, LexKind),
+    /// A document has a fault: the document's number and the line, each counted from 1, and what is wrong there.
+    BadDocument(u32, u32, Kind),
+    /// An instance can't be opened: which one, counted from 1, and the number of the error that its creation has.
+    BadInstance(u32, u32),
+    /// What the words name is not built.
     NotBuilt(Unbuilt),
+    /// There was no memory.
     OutOfMemory,
 }
 
-/// The name of a fault of the tokens.
-fn kind_name(kind: LexKind) -> &'static str
+/// The name of a fault of documents.
+fn kind_name(kind: Kind) -> &'static str
     ensures { result.now ≡ kind_name kind }
 {
     match kind {
-        LexKind::BadByte => "BadByte",
-        LexKind::OpenString => "OpenString",
-        LexKind::BadNumber => "BadNumber",
-        LexKind::BadBits => "BadBits",
+        Kind::BadByte => "BadByte",
+        Kind::OpenString => "OpenString",
+        Kind::BadNumber => "BadNumber",
+        Kind::BadBits => "BadBits",
+        Kind::Syntax => "Syntax",
+        Kind::UnknownType => "UnknownType",
+        Kind::UnknownModule => "UnknownModule",
+        Kind::CyclicType => "CyclicType",
+        Kind::Unsupported => "Unsupported",
+        Kind::AmbiguousTags => "AmbiguousTags",
+        Kind::UnknownLabel => "UnknownLabel",
+        Kind::WrongKind => "WrongKind",
+        Kind::DoubleLabel => "DoubleLabel",
+        Kind::DoubleIdentifier => "DoubleIdentifier",
+        Kind::CyclicClass => "CyclicClass",
+        Kind::UnequalDefault => "UnequalDefault",
+        Kind::EmptyPermitted => "EmptyPermitted",
+        Kind::NotSetValued => "NotSetValued",
+        Kind::BadValue => "BadValue",
     }
 }
 
@@ -83,22 +113,65 @@ fn write_line(words: &str, rest: &str, into: &mut Vec<u8>) -> Result<(), AllocEr
     Ok(())
 }
 
-/// Appends words, a number, and what stands behind it up to the end of the line.
-fn write_numbered_line(
-    words: &str,
-    number: u64,
-    rest: &str,
-    into: &mut Vec<u8>,
-) -> Result<(), AllocError>
-    ensures { OnOk result (into.new.items
-        ≡ into.old.items ++ (words.now ++ (decimal number ++ (codes " " ++ (rest.now ++ line_feed))))) }
+/// Appends words and a number.
+fn write_numbered(words: &str, number: u32, into: &mut Vec<u8>) -> Result<(), AllocError>
+    ensures { OnOk result (into.new.items ≡ into.old.items ++ numbered words.now number) }
 {
     into.extend_from_slice(words.as_bytes())?;
-    write_decimal(number, into)?;
-    into.push(b' ')?;
-    into.extend_from_slice(rest.as_bytes())?;
+    write_decimal(u64::from(number), into)
+}
+
+/// Appends words and two numbers with a blank between them.
+#[tactic(auto, unfolding(crate::specs::Refusing::two_numbers))]
+fn write_two_numbers(
+    words: &str,
+    one: u32,
+    other: u32,
+    into: &mut Vec<u8>,
+) -> Result<(), AllocError>
+    ensures { OnOk result (into.new.items ≡ into.old.items ++ two_numbers words.now one other) }
+{
+    write_numbered(words, one, into)?;
+    write_numbered(" ", other, into)
+}
+
+/// Appends the line of a document's fault.
+fn write_document_line(
+    document: u32,
+    line: u32,
+    kind: Kind,
+    into: &mut Vec<u8>,
+) -> Result<(), AllocError>
+    ensures { OnOk result (into.new.items ≡ into.old.items ++ bad_document_line document line kind) }
+{
+    let name = kind_name(kind);
+    write_two_numbers("bad document ", document, line, into)?;
+    write_line(" ", name, into)?;
+    Ok(())
+}
+
+/// Appends the line of an instance that can't be opened.
+fn write_instance_line(index: u32, error: u32, into: &mut Vec<u8>) -> Result<(), AllocError>
+    ensures { OnOk result (into.new.items ≡ into.old.items ++ bad_instance_line index error) }
+{
+    write_two_numbers("bad instance ", index, error, into)?;
     into.push(LINE_FEED)?;
     Ok(())
+}
+
+/// Why a command is not done whose documents are refused.
+pub(crate) fn of_set(refusal: &SetRefusal) -> Refusal<'static>
+    ensures { (docs : List Doc) → HasSetRefusalCause docs refusal.now → HasSetCause docs result }
+{
+    match refusal {
+        SetRefusal::BadDocument {
+            document,
+            line,
+            kind,
+        } => Refusal::BadDocument(*document, *line, *kind),
+        SetRefusal::BadInstance { index, error } => Refusal::BadInstance(*index, *error),
+        SetRefusal::Memory => Refusal::OutOfMemory,
+    }
 }
 
 impl Refusal<'_> {
@@ -107,11 +180,29 @@ impl Refusal<'_> {
         ensures { result ≡ status_of self.now }
     {
         match self {
+            Refusal::Usage => USAGE,
             Refusal::FileFault(_) => FILE_FAULT,
             Refusal::FileTooLarge(_) => FILE_TOO_LARGE,
-            Refusal::BadDocument(_, _) => BAD_DOCUMENT,
+            Refusal::BadDocument(_, _, _) | Refusal::BadInstance(_, _) => BAD_DOCUMENT,
             Refusal::NotBuilt(_) => NOT_BUILT,
             Refusal::OutOfMemory => OUT_OF_MEMORY,
+        }
+    }
+
+    /// Appends the line that is printed last.
+    fn write(&self, into: &mut Vec<u8>) -> Result<(), AllocError>
+        ensures { OnOk result (into.new.items ≡ into.old.items ++ line_of self.now) }
+    {
+        match self {
+            Refusal::Usage => write_line("usage", "", into),
+            Refusal::FileFault(name) => write_line("file ", name, into),
+            Refusal::FileTooLarge(name) => write_line("too large ", name, into),
+            Refusal::BadDocument(document, line, kind) => {
+                write_document_line(*document, *line, *kind, into)
+            }
+            Refusal::BadInstance(index, error) => write_instance_line(*index, *error, into),
+            Refusal::NotBuilt(what) => write_line("not built ", unbuilt_name(*what), into),
+            Refusal::OutOfMemory => write_line("memory", "", into),
         }
     }
 
@@ -120,15 +211,7 @@ impl Refusal<'_> {
         ensures { IfOk result (λ line. line.items ≡ line_of self.now) }
     {
         let mut line = Vec::new(alloc);
-        match self {
-            Refusal::FileFault(name) => write_line("file ", name, &mut line)?,
-            Refusal::FileTooLarge(name) => write_line("too large ", name, &mut line)?,
-            Refusal::BadDocument(number, kind) => {
-                write_numbered_line("bad document 1 ", *number, kind_name(*kind), &mut line)?;
-            }
-            Refusal::NotBuilt(what) => write_line("not built ", unbuilt_name(*what), &mut line)?,
-            Refusal::OutOfMemory => write_line("memory", "", &mut line)?,
-        }
+        self.write(&mut line)?;
         Ok(line)
     }
 }

@@ -1,139 +1,69 @@
-//! The top call: the words of a command line, the files that they name, and what is written.
+//! The top call: the words of a command line, the files that they name, and what is written (docs/OPERATING.md,
+//! Commands).
 
-ghost use Rattle.std.specs.Prelude.{◌≡◌, ◌≢◌, ◌⊎◌, ◌≤◌, ◌∷◌, [], Contains, length, map, string_bytes, IfErr, IfOk};
+ghost use Rattle.std.specs.Prelude.{◌≡◌, ◌≢◌, ◌⊎◌, ◌≤◌, [], ◌∷◌, Contains, length, map, string_bytes, IfErr, IfOk};
 ghost use Rattle.std.specs.Prelude.{IsSome, OnOk};
 ghost use Rattle.agent_bytes.specs.Faults.{Rose};
-ghost use Rattle.agent_bytes.specs.Told.{GainsPart, IsFile, gained};
+ghost use Rattle.agent_bytes.specs.Told.{GainsPart, gained};
 ghost use Rattle.agent_run.specs.Answers.{EndsByBadDocument, EndsByFileFault, EndsByFileTooLarge, EndsByNotBuilt};
-ghost use Rattle.agent_run.specs.Answers.{EndsByWriteFault, IsPut, IsRunnable};
-ghost use Rattle.agent_run.specs.Refusing.{HasCause, HasDocumentCause, HasFileCause, HasRunCause, HasScriptCause};
-ghost use Rattle.agent_run.specs.Refusing.{KeepsCount, line_of, line_of_place, memory_line, status_of};
+ghost use Rattle.agent_run.specs.Answers.{EndsByUsage, EndsByWriteFault, IsPut, IsRunnable, IsTextOf, Prints};
+ghost use Rattle.agent_run.specs.Refusing.{HasCause, HasCauseBy, IsTextBy, KeepsCount, line_of, memory_line};
+ghost use Rattle.agent_run.specs.Refusing.{status_of};
 ghost use Rattle.agent_run.specs.Statuses as status;
-ghost use Rattle.agent_run.specs.Running.{IsDocument, IsPlayed, IsRun, IsRunOf, IsScriptFor, Prints};
-ghost use Rattle.term_model.specs.declared.schema.Set.{Set};
-ghost use Rattle.term_model.specs.AgentState.{with_opened};
-ghost use Rattle.term_model.specs.Bind.{title_in};
-ghost use Rattle.term_model.specs.WellFormedMib.{IsWellFormedMib};
+ghost use Rattle.command_line.specs.WordForms.Command.{Check, Report, Run};
 
-use crate::refusal::{DONE, OUT_OF_MEMORY, Refusal, Unbuilt, WRITE_FAULT};
-use crate::words::read_words;
-use agent_bytes::{FileRefusal, Files, Sink, write_all};
-use first_document::{DocumentRefusal, read_document};
-use first_script::{Script, ScriptRefusal, read_script};
-use journal_text::texts::{LINE_FEED, run_text};
-use one_manager_agent::playing::perform_script;
-use std::alloc::{AllocError, Global};
-use term_model::{Limits, Set};
-use text_lex::{LexRefusal, lex};
-
-/// The most bytes of a document.
-const MOST_DOCUMENT: u64 = 4_194_304;
-
-/// The most bytes of a script.
-const MOST_SCRIPT: u64 = 16_777_216;
+use crate::file_reading::read_documents;
+use crate::playing::run;
+use crate::refusal::{DONE, OUT_OF_MEMORY, Refusal, Unbuilt, WRITE_FAULT, of_set};
+use agent_bytes::{Files, Sink, write_all};
+use command_line::{Command, read_words};
+use set_commands::{check_text, schema_text};
+use std::alloc::Global;
 
 /// The line printed where there is no memory for another one.
 const MEMORY_LINE: &[u8] = b"memory\n";
 
-/// The bytes of a file.
-fn read_file<'a, F: Files>(
+/// What `check` prints.
+fn check<'a, F: Files>(
     alloc: Global,
+    names: &'a [String],
     files: &mut F,
-    name: &'a str,
-    limit: u64,
 ) -> Result<Vec<u8>, Refusal<'a>>
-    ensures told { IfOk result (λ bytes. IsFile (F.files files.old) name.now bytes.items) }
-    ensures within { IfOk result (λ bytes. length bytes.items ≤ limit) }
+    requires few { length names.now ≤ 64 }
+    ensures text { IfOk result (λ text.
+        IsTextBy (F.files files.old) (Check (map string_bytes names.now)) text.items) }
     ensures same { F.files files.new ≡ F.files files.old }
     ensures quiet { OnOk result (F.faults files.new ≡ F.faults files.old) }
     ensures kept { IfErr result (KeepsCount (F.faults files.old) (F.faults files.new)) }
-    ensures cause { IfErr result
-        (HasFileCause (F.files files.old) name.now limit (F.faults files.old) (F.faults files.new)) }
-    ensures counted { F.faults files.old ≤ F.faults files.new }
+    ensures cause { IfErr result (HasCauseBy (F.files files.old) (Check (map string_bytes names.now))
+        (F.faults files.old) (F.faults files.new)) }
 {
-    match files.read_file(alloc, name, limit) {
-        Ok(bytes) => Ok(bytes),
-        Err(FileRefusal::Failed) => Err(Refusal::FileFault(name)),
-        Err(FileRefusal::TooLarge) => Err(Refusal::FileTooLarge(name)),
-        Err(FileRefusal::Memory) => Err(Refusal::OutOfMemory),
-    }
-}
-
-/// The line of a place in a text, counted from 1.
-fn line_of(text: &[u8], at: usize) -> u64
-    ensures { result ≡ line_of_place text.now at }
-{
-    let before = if at < text.len() { &text[..at] } else { text };
-    let mut line = 1u64;
-    for octet in before {
-        if *octet == LINE_FEED {
-            line += 1;
-        }
-    }
-    line
-}
-
-/// The records of a document.
-fn read_schema<'a>(alloc: Global, document: &[u8]) -> Result<Set, Refusal<'a>>
-    ensures found { IfOk result (IsDocument document.now) }
-    ensures only { IfOk result (λ schema. (other : Set) → IsDocument document.now other → other ≡ schema) }
-    ensures opening { IfOk result (λ schema. IsWellFormedMib schema (with_opened [] schema.instances)) }
-    ensures cause { IfErr result (HasDocumentCause document.now) }
-{
-    let tokens = match lex(alloc, document) {
-        Ok(tokens) => tokens,
-        Err(LexRefusal::Fault { at, kind }) => {
-            return Err(Refusal::BadDocument(line_of(document, at as usize), kind));
-        }
-        Err(LexRefusal::Memory) => return Err(Refusal::OutOfMemory),
-    };
-    match read_document(alloc, &tokens) {
-        Ok(schema) => Ok(schema),
-        Err(DocumentRefusal::Outside) => Err(Refusal::NotBuilt(Unbuilt::Document)),
-        Err(DocumentRefusal::Memory) => Err(Refusal::OutOfMemory),
-    }
-}
-
-/// The script, for the class of a document.
-fn read_script_for<'a>(alloc: Global, text: &[u8], schema: &Set) -> Result<Script, Refusal<'a>>
-    ensures found { IfOk result (λ script. IsScriptFor schema.now text.now script.bind script.sends.items) }
-    ensures bound { IfOk result (λ script. IsSome (title_in script.bind)) }
-    ensures cause { IfErr result (HasScriptCause schema.now text.now) }
-{
-    match schema.classes.as_slice() {
-        [class] => match read_script(alloc, text, &class.id) {
-            Ok(script) => Ok(script),
-            Err(ScriptRefusal::Outside) => Err(Refusal::NotBuilt(Unbuilt::Script)),
-            Err(ScriptRefusal::Memory) => Err(Refusal::OutOfMemory),
-        },
-        _ => Err(Refusal::NotBuilt(Unbuilt::Script)),
-    }
-}
-
-/// What `run` prints of a script that is played on a schema.
-fn play(alloc: Global, schema: Set, script: Script) -> Result<Vec<u8>, AllocError>
-    requires bound { IsSome (title_in script.bind) }
-    requires opening { IsWellFormedMib schema (with_opened [] schema.instances) }
-    ensures { IfOk result (λ text. IsPlayed schema script.bind script.sends.items text.items) }
-{
-    let limits = Limits::shipped();
-    let played = perform_script(alloc, schema, limits, script.bind, script.sends)?;
-    let journal = played.journal();
-    let agent = played.agent();
-    let text = run_text(alloc, journal, agent)?;
-    Ok(text)
-}
-
-/// What `run` prints of a script and a document.
-fn run<'a>(alloc: Global, script: &[u8], document: &[u8]) -> Result<Vec<u8>, Refusal<'a>>
-    ensures text { IfOk result (λ text. IsRun script.now document.now text.items) }
-    ensures cause { IfErr result (HasRunCause script.now document.now) }
-{
-    let schema = read_schema(alloc, document)?;
-    let script = read_script_for(alloc, script, &schema)?;
-    match play(alloc, schema, script) {
+    let documents = read_documents(alloc, files, names)?;
+    match check_text(alloc, documents.as_slice()) {
         Ok(text) => Ok(text),
-        Err(_) => Err(Refusal::OutOfMemory),
+        Err(refusal) => Err(of_set(&refusal)),
+    }
+}
+
+/// What `report` prints.
+fn report<'a, F: Files>(
+    alloc: Global,
+    names: &'a [String],
+    files: &mut F,
+) -> Result<Vec<u8>, Refusal<'a>>
+    requires few { length names.now ≤ 64 }
+    ensures text { IfOk result (λ text.
+        IsTextBy (F.files files.old) (Report (map string_bytes names.now)) text.items) }
+    ensures same { F.files files.new ≡ F.files files.old }
+    ensures quiet { OnOk result (F.faults files.new ≡ F.faults files.old) }
+    ensures kept { IfErr result (KeepsCount (F.faults files.old) (F.faults files.new)) }
+    ensures cause { IfErr result (HasCauseBy (F.files files.old) (Report (map string_bytes names.now))
+        (F.faults files.old) (F.faults files.new)) }
+{
+    let documents = read_documents(alloc, files, names)?;
+    match schema_text(alloc, documents.as_slice()) {
+        Ok(text) => Ok(text),
+        Err(refusal) => Err(of_set(&refusal)),
     }
 }
 
@@ -143,23 +73,23 @@ fn prepare<'a, F: Files>(
     words: &'a [String],
     files: &mut F,
 ) -> Result<Vec<u8>, Refusal<'a>>
-    ensures text { IfOk result (λ text. IsRunOf (F.files files.old) (map string_bytes words.now) text.items) }
+    ensures text { IfOk result (λ text. IsTextOf (F.files files.old) (map string_bytes words.now) text.items) }
     ensures same { F.files files.new ≡ F.files files.old }
     ensures quiet { OnOk result (F.faults files.new ≡ F.faults files.old) }
     ensures kept { IfErr result (KeepsCount (F.faults files.old) (F.faults files.new)) }
     ensures cause { IfErr result
         (HasCause (F.files files.old) (map string_bytes words.now) (F.faults files.old) (F.faults files.new)) }
 {
-    let places = match read_words(words) {
-        Some(places) => places,
-        None => return Err(Refusal::NotBuilt(Unbuilt::Command)),
-    };
-    let script = read_file(alloc, files, places.script, MOST_SCRIPT)?;
-    let document = read_file(alloc, files, places.document, MOST_DOCUMENT)?;
-    run(alloc, &script, &document)
+    match read_words(words) {
+        Some(Command::Check(names)) => check(alloc, names, files),
+        Some(Command::Report(names)) => report(alloc, names, files),
+        Some(Command::Run(script, names)) => run(alloc, script, names, files),
+        Some(Command::Unbuilt) => Err(Refusal::NotBuilt(Unbuilt::Command)),
+        None => Err(Refusal::Usage),
+    }
 }
 
-/// Writes the text of a run.
+/// Writes the text of a command.
 fn put_text<O: Sink>(out: &mut O, text: &[u8]) -> u8
     ensures status { result ≡ status.done ⊎ result ≡ status.write_fault }
     ensures written { result ≡ status.done → O.contents out.new ≡ gained (O.contents out.old) text.now }
@@ -205,25 +135,33 @@ fn refuse<O: Sink>(alloc: Global, refusal: &Refusal<'_>, out: &mut O) -> u8
 
 /// Performs a command and answers the status with which the program ends.
 ///
-/// The words are `run SCRIPT DOC`: the files are read in this order, the script is played on the document's objects,
-/// and the journal, a line of two dashes, a line `out A HEX` for each association and a line `objects N` are written to
-/// `out`. With another status than 0 and 6 one line is written that says why. A call of the files that fails ends the
-/// run with 3, a file past its limit with 10, a document that is no tokens with 4, words, a document or a script
-/// outside their forms with 12, and want of memory with 8. The line of 3 and 10 names the first file in the order of
-/// the words that has either cause. A failed write ends a run that would else end with 0 with 6, and changes no other
-/// status.
+/// The words are `check DOC..`, `report DOC..` or `run SCRIPT DOC..`, with 1 to 64 documents. The files are read in this
+/// order. `check` compiles the documents, opens their objects where a section INSTANCES stands, and writes how many
+/// documents, templates of each kind, types and objects there are; `report` writes the text of the schema. `run` plays
+/// the script on the objects of one document in the first form, and writes the journal, a line of two dashes, a line
+/// `out A HEX` for each association and a line `objects N`.
+///
+/// With another status than 0 and 6 one line is written that says why. Words in no form end with 2, a call of the files
+/// that fails with 3, a file past its limit with 10, documents with a fault, or with an instance that can't be opened,
+/// with 4, a command, documents that aren't played or a script that are not built with 12, and want of memory with 8.
+/// The line of 3 and 10 names the first file in the order of the words that has either cause. A failed write ends a
+/// command that would else end with 0 with 6, and changes no other status.
 pub fn agent<R: AllocGlobal, F: Files, O: Sink>(
     rt: &R,
     words: &[String],
     files: &mut F,
     out: &mut O,
 ) -> u8
-    // What was written is what the named script comes to on the named document: its journal, and what the agent placed.
+    // What was written is the text of the command: what the named script comes to on the named document, its journal and
+    // what the agent placed; the counts of the named documents; or the text of a schema.
     ensures printed { result ≡ status.done
         → Prints (F.files files.old) (map string_bytes words.now) (O.contents out.old) (O.contents out.new) }
 
     // Each other status but that of a failed write has its cause, and its line was written, or a part where a write
     // failed.
+    ensures usage { result ≡ status.usage
+        → EndsByUsage (map string_bytes words.now)
+        (O.faults out.old) (O.faults out.new) (O.contents out.old) (O.contents out.new) }
     ensures file_fault { result ≡ status.file_fault
         → EndsByFileFault (F.files files.old) (map string_bytes words.now) (F.faults files.old) (F.faults files.new)
         (O.faults out.old) (O.faults out.new) (O.contents out.old) (O.contents out.new) }
@@ -239,7 +177,7 @@ pub fn agent<R: AllocGlobal, F: Files, O: Sink>(
     ensures memory { result ≡ status.out_of_memory
         → IsPut (O.faults out.old) (O.faults out.new) (O.contents out.old) (O.contents out.new) memory_line }
 
-    // A write failed where the run was done, and a part of its text is there.
+    // A write failed where the command was done, and a part of its text is there.
     ensures write_fault { result ≡ status.write_fault
         → EndsByWriteFault (F.files files.old) (map string_bytes words.now)
         (O.faults out.old) (O.faults out.new) (O.contents out.old) (O.contents out.new) }
@@ -250,7 +188,8 @@ pub fn agent<R: AllocGlobal, F: Files, O: Sink>(
     ensures quiet { result ≢ status.file_fault → result ≢ status.out_of_memory
         → F.faults files.new ≡ F.faults files.old }
 
-    // Where words and files are in their forms and no call failed, everything was written, or there was no memory.
+    // Where words and files are those of a run on a document in the first form and no call failed, everything was
+    // written, or there was no memory.
     ensures complete { IsRunnable (F.files files.old) (map string_bytes words.now)
         → (Rose (F.faults files.old) (F.faults files.new) → ⊥) → (Rose (O.faults out.old) (O.faults out.new) → ⊥)
         → result ≡ status.done ⊎ result ≡ status.out_of_memory }

@@ -2,7 +2,8 @@ use Rattle.std.proofs.Common.{map}
 use Rattle.std.proofs.Math.Path.{subst}
 use Rattle.std.specs.Prelude.{string_bytes}
 use Rattle.agent_bytes.specs.Told.{GainsPart}
-use Rattle.agent_run.proofs.Causes.{answered_listed, complete_of, file_fault_of, too_large_of, written_listed}
+use Rattle.agent_run.proofs.Endings.{answered_listed, bad_document_of, complete_of, file_fault_of, not_built_of}
+use Rattle.agent_run.proofs.Endings.{too_large_of, usage_of, written_listed}
 use Rattle.agent_run.proofs.running.agent.Goals as goal
 
 pub returns-in-Ok-clause-statuses : goal.returns-in-Ok-clause-statuses
@@ -11,13 +12,21 @@ returns-in-Ok-clause-statuses g c = written_listed c.put_text.result c.put_text.
 pub returns-in-Err-clause-statuses : goal.returns-in-Err-clause-statuses
 returns-in-Err-clause-statuses g c = answered_listed c.refuse.result c.in-Err.refusal c.refuse.ensures.status
 
+pub returns-in-Err-clause-usage : goal.returns-in-Err-clause-usage
+returns-in-Err-clause-usage g c =
+    usage_of (g.F.Files.files c.args.files.now) (map string_bytes c.args.words.now)
+    (g.F.Files.faults c.args.files.now) (g.F.Files.faults c.prepare.new.files)
+    (g.O.Sink.faults c.args.out.now) (g.O.Sink.faults c.refuse.new.out)
+    (g.O.Sink.contents c.args.out.now) (g.O.Sink.contents c.refuse.new.out) c.refuse.result c.in-Err.refusal
+    (record { answered = c.refuse.ensures.status; cause = c.in-Err.ensures.cause; line = c.refuse.ensures.line })
+
 pub returns-in-Err-clause-file_fault : goal.returns-in-Err-clause-file_fault
 returns-in-Err-clause-file_fault g c =
     file_fault_of (g.F.Files.files c.args.files.now) (map string_bytes c.args.words.now)
     (g.F.Files.faults c.args.files.now) (g.F.Files.faults c.prepare.new.files)
     (g.O.Sink.faults c.args.out.now) (g.O.Sink.faults c.refuse.new.out)
     (g.O.Sink.contents c.args.out.now) (g.O.Sink.contents c.refuse.new.out) c.refuse.result c.in-Err.refusal
-    c.refuse.ensures.status c.in-Err.ensures.cause c.refuse.ensures.line
+    (record { answered = c.refuse.ensures.status; cause = c.in-Err.ensures.cause; line = c.refuse.ensures.line })
 
 pub returns-in-Err-clause-too_large : goal.returns-in-Err-clause-too_large
 returns-in-Err-clause-too_large g c =
@@ -25,7 +34,23 @@ returns-in-Err-clause-too_large g c =
     (g.F.Files.faults c.args.files.now) (g.F.Files.faults c.prepare.new.files)
     (g.O.Sink.faults c.args.out.now) (g.O.Sink.faults c.refuse.new.out)
     (g.O.Sink.contents c.args.out.now) (g.O.Sink.contents c.refuse.new.out) c.refuse.result c.in-Err.refusal
-    c.refuse.ensures.status c.in-Err.ensures.cause c.refuse.ensures.line
+    (record { answered = c.refuse.ensures.status; cause = c.in-Err.ensures.cause; line = c.refuse.ensures.line })
+
+pub returns-in-Err-clause-bad_document : goal.returns-in-Err-clause-bad_document
+returns-in-Err-clause-bad_document g c =
+    bad_document_of (g.F.Files.files c.args.files.now) (map string_bytes c.args.words.now)
+    (g.F.Files.faults c.args.files.now) (g.F.Files.faults c.prepare.new.files)
+    (g.O.Sink.faults c.args.out.now) (g.O.Sink.faults c.refuse.new.out)
+    (g.O.Sink.contents c.args.out.now) (g.O.Sink.contents c.refuse.new.out) c.refuse.result c.in-Err.refusal
+    (record { answered = c.refuse.ensures.status; cause = c.in-Err.ensures.cause; line = c.refuse.ensures.line })
+
+pub returns-in-Err-clause-not_built : goal.returns-in-Err-clause-not_built
+returns-in-Err-clause-not_built g c =
+    not_built_of (g.F.Files.files c.args.files.now) (map string_bytes c.args.words.now)
+    (g.F.Files.faults c.args.files.now) (g.F.Files.faults c.prepare.new.files)
+    (g.O.Sink.faults c.args.out.now) (g.O.Sink.faults c.refuse.new.out)
+    (g.O.Sink.contents c.args.out.now) (g.O.Sink.contents c.refuse.new.out) c.refuse.result c.in-Err.refusal
+    (record { answered = c.refuse.ensures.status; cause = c.in-Err.ensures.cause; line = c.refuse.ensures.line })
 
 pub returns-in-Err-clause-complete : goal.returns-in-Err-clause-complete
 returns-in-Err-clause-complete g c =
@@ -41,5 +66,5 @@ returns-in-Ok-clause-write_fault g c = λ e. record {
   part =
       subst (λ text. GainsPart (g.O.Sink.contents c.args.out.now) (g.O.Sink.contents c.put_text.new.out) text)
       c.deref.ensures.value (c.put_text.ensures.part e);
-  run = c.in-Ok.ensures.text;
+  text_is = c.in-Ok.ensures.text;
 }
