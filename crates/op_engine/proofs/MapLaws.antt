@@ -14,7 +14,7 @@ use Rattle.term_model.specs.NameOrder.{name_cmp}
 use Rattle.term_model.specs.NamedObjects.{object_at}
 use Rattle.term_model.proofs.MapLaws.{name_Decides, not_same, others_stay, stored_is_found, turned}
 use Rattle.term_model.proofs.FollowingLaws.{others_are_left, removed_is_gone}
-use Rattle.op_engine.specs.WholeOperation.{AreChanges, Changed, installed, installed_at}
+use Rattle.operation_model.specs.WholeOperation.{AreChanges, Changed, installed, installed_at}
 
 -- the names of changes
 abbrev pub changed_names : Changed → List (List Rdn)

@@ -22,12 +22,12 @@ use Rattle.term_model.specs.NamedObjects.{object_at}
 use Rattle.op_engine.specs.declared.acting.Acting.{Acting}
 use Rattle.op_engine.specs.declared.outcome.Plan.{Plan}
 use Rattle.op_engine.specs.Acting.{noted, noted_at, noted_of, nothing_done, settled, settled_with}
-use Rattle.op_engine.specs.LinkedReplies.{replies_size}
-use Rattle.op_engine.specs.OperationChecks.{Checked}
+use Rattle.operation_model.specs.LinkedReplies.{replies_size}
+use Rattle.operation_model.specs.OperationChecks.{Checked}
 use Rattle.op_engine.specs.Plans.{IsPlan}
 use Rattle.op_engine.specs.Planning.{plan_of, plan_within, refused_plan}
-use Rattle.op_engine.specs.WholeOperation.{Act, AreChanges, Changed, Progress, acted, acted_on_all, all_or_none, begun}
-use Rattle.op_engine.specs.WholeOperation.{concluded, installed, is_atomic, refusal, replies_to, unless_failed}
+use Rattle.operation_model.specs.WholeOperation.{Act, AreChanges, Changed, Progress, acted, acted_on_all, all_or_none, begun}
+use Rattle.operation_model.specs.WholeOperation.{concluded, installed, is_atomic, refusal, replies_to, unless_failed}
 use Rattle.op_engine.proofs.MapLaws.{are_changes, changed_names}
 use Rattle.op_engine.proofs.PlanLaws.{ChangesOne, IsAlone, IsOwn, Same, goes}
 

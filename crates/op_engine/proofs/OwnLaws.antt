@@ -29,7 +29,7 @@ use Rattle.term_model.specs.Replies.{single}
 use Rattle.term_model.specs.ResultValues.{attributes_value}
 use Rattle.value_match.proofs.SameIs.{equal_same}
 use Rattle.op_engine.specs.Acting.{act_of}
-use Rattle.op_engine.specs.WholeOperation.{granted_at, is_atomic}
+use Rattle.operation_model.specs.WholeOperation.{granted_at, is_atomic}
 use Rattle.op_engine.proofs.OutcomeLaws.{of_result}
 use Rattle.op_engine.proofs.PlanLaws.{ChangesOne, IsAlone, IsOwn}
 

@@ -17,8 +17,8 @@ use Rattle.term_model.specs.NameOrder.{name_cmp}
 use Rattle.term_model.specs.NamedObjects.{object_at}
 use Rattle.op_engine.specs.declared.acting.Acting.{Acting}
 use Rattle.op_engine.specs.Acting.{noted, noted_at, noted_of, with_effect, with_failure}
-use Rattle.op_engine.specs.WholeOperation.{Act, Changed, Progress, acted_on, acted_on_all, answered, installed}
-use Rattle.op_engine.specs.WholeOperation.{installed_at}
+use Rattle.operation_model.specs.WholeOperation.{Act, Changed, Progress, acted_on, acted_on_all, answered, installed}
+use Rattle.operation_model.specs.WholeOperation.{installed_at}
 use Rattle.term_model.proofs.MapLaws.{not_same}
 use Rattle.op_engine.proofs.MapLaws.{at_others}
 

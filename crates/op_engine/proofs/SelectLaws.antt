@@ -16,7 +16,7 @@ use Rattle.term_model.specs.NamedObjects.{IsByName, names, object_at}
 use Rattle.term_model.specs.Scope.{is_within, names_in_scope}
 use Rattle.term_model.specs.Selection.{is_selected, selected}
 use Rattle.term_model.proofs.MapLaws.{here, later, not_same, same_itself}
-use Rattle.op_engine.specs.OperationChecks.{selected_by}
+use Rattle.operation_model.specs.OperationChecks.{selected_by}
 use Rattle.op_engine.specs.Selecting.{passes, passing_by}
 
 -- each entry stands under its name

@@ -20,8 +20,9 @@ use Rattle.term_model.specs.Comparing.{is_same_name}
 use Rattle.term_model.specs.NamedObjects.{object_at}
 use Rattle.term_model.specs.Scope.{names_in_scope}
 use Rattle.term_model.proofs.MapLaws.{here, later}
-use Rattle.op_engine.specs.OperationChecks.{Checked, checked_by, names_fault}
-use Rattle.op_engine.specs.Plans.{AreSmall, TellsChecked}
+use Rattle.operation_model.specs.OperationChecks.{Checked, checked_by, names_fault}
+use Rattle.operation_model.specs.OperationConditions.{AreSmall}
+use Rattle.op_engine.specs.Plans.{TellsChecked}
 
 pub small_at : (schema : Set) (objects : List NamedObject) → AreSmall schema objects → (name : List Rdn)
     (object : Object) → object_at objects name ≡ Some object → object_size schema object ≤ 16384

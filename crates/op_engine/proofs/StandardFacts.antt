@@ -16,9 +16,9 @@ use Rattle.term_model.specs.CmisErrors.{invalid_scope, no_such_instance, no_such
 use Rattle.term_model.specs.FilterTrees.FilterTree.{And, Or}
 use Rattle.term_model.specs.FilterTrees.FilterTrees.{Nothing}
 use Rattle.term_model.proofs.ExampleNetwork.{element, element_class, element_oid, network}
-use Rattle.op_engine.specs.LinkedReplies.{contents_in, linked_error, replies_size}
-use Rattle.op_engine.specs.OperationChecks.{checked}
-use Rattle.op_engine.specs.WholeOperation.{Progress, all_or_none, replies_to}
+use Rattle.operation_model.specs.LinkedReplies.{contents_in, linked_error, replies_size}
+use Rattle.operation_model.specs.OperationChecks.{checked}
+use Rattle.operation_model.specs.WholeOperation.{Progress, all_or_none, replies_to}
 
 abbrev other_oid : List ℕ
 other_oid = 2 ∷ 999 ∷ 3 ∷ 2 ∷ []

@@ -14,7 +14,7 @@ use Rattle.term_model.specs.declared.request.Request.TheVariants as request
 use Rattle.term_model.specs.declared.schema.Set.{Set}
 use Rattle.term_model.specs.CmisErrors.{mistyped_operation}
 use Rattle.term_model.specs.NamedObjects.{object_at}
-use Rattle.op_engine.specs.WholeOperation.{Act, getting, setting}
+use Rattle.operation_model.specs.WholeOperation.{Act, getting, setting}
 
 abbrev pub nothing_done : Acting
 nothing_done = record { changes = []; replies = []; failures = []; sources = [] }

@@ -1,8 +1,5 @@
 -- The definitions that the contracts of this crate cite.
 pub mod Acting
-pub mod LinkedReplies
-pub mod OperationChecks
 pub mod Planning
 pub mod Plans
 pub mod Selecting
-pub mod WholeOperation

@@ -6,8 +6,8 @@ use Rattle.term_model.specs.declared.reply.CmisError.{CmisError}
 use Rattle.term_model.specs.declared.reply.Reply.TheVariants as reply
 use Rattle.term_model.specs.declared.scope.Scope.{Scope}
 use Rattle.term_model.specs.CmisErrors.{complexity_limitation}
-use Rattle.op_engine.specs.LinkedReplies.{replies_size}
-use Rattle.op_engine.specs.WholeOperation.{replies_to}
+use Rattle.operation_model.specs.LinkedReplies.{replies_size}
+use Rattle.operation_model.specs.WholeOperation.{replies_to}
 
 -- an error alone, with nothing changed
 abbrev pub refused_plan : CmisError → Plan

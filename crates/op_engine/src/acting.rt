@@ -5,8 +5,8 @@ ghost use Rattle.term_model.specs.BoundClasses.{object_size};
 ghost use Rattle.term_model.specs.declared.objects.NamedObject.{NamedObject};
 ghost use Rattle.term_model.specs.Effects.{TellsEffect};
 ghost use Rattle.op_engine.specs.Acting.{act_of, noted_at, noted_of, nothing_done, settled, with_effect, with_failure};
-ghost use Rattle.op_engine.specs.Plans.{AreSmall};
-ghost use Rattle.op_engine.specs.WholeOperation.{is_atomic};
+ghost use Rattle.operation_model.specs.OperationConditions.{AreSmall};
+ghost use Rattle.operation_model.specs.WholeOperation.{is_atomic};
 
 use crate::outcome::Replies;
 use object_modifications::set_one;

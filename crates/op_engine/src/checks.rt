@@ -4,11 +4,12 @@ ghost use Rattle.std.specs.Prelude.{◌≡◌, IfErr, IfOk, true};
 ghost use Rattle.std.specs.List.Sorted.{IsStrictlySortedBy};
 ghost use Rattle.std.specs.Option.{option_copied};
 ghost use Rattle.term_model.specs.NameOrder.{name_cmp};
-ghost use Rattle.op_engine.specs.OperationChecks.{base_object, checked, class_fault, class_named};
-ghost use Rattle.op_engine.specs.OperationChecks.{conflict_fault, filter_fault, form_fault, is_class_for, is_large};
-ghost use Rattle.op_engine.specs.OperationChecks.{is_of_class, is_scope, is_specific, is_synchronization, scope_fault};
-ghost use Rattle.op_engine.specs.OperationChecks.{size_fault, sync_fault};
-ghost use Rattle.op_engine.specs.Plans.{IsBase, TellsAbsent, TellsChecked, TellsFault, has_valid_filter};
+ghost use Rattle.operation_model.specs.OperationChecks.{base_object, checked, class_fault, class_named};
+ghost use Rattle.operation_model.specs.OperationChecks.{conflict_fault, filter_fault, form_fault, is_class_for, is_large};
+ghost use Rattle.operation_model.specs.OperationChecks.{is_of_class, is_scope, is_specific, is_synchronization, scope_fault};
+ghost use Rattle.operation_model.specs.OperationChecks.{size_fault, sync_fault};
+ghost use Rattle.operation_model.specs.OperationConditions.{has_valid_filter};
+ghost use Rattle.op_engine.specs.Plans.{IsBase, TellsAbsent, TellsChecked, TellsFault};
 
 use crate::selecting::selected_names;
 use result_contents::errors::{

@@ -2,7 +2,7 @@
 
 ghost use Rattle.std.specs.Prelude.{◌≡◌, true};
 ghost use Rattle.term_model.specs.FilterTruth.{is_valid};
-ghost use Rattle.op_engine.specs.Plans.{has_valid_filter};
+ghost use Rattle.operation_model.specs.OperationConditions.{has_valid_filter};
 ghost use Rattle.op_engine.specs.Selecting.{passes};
 
 use cmis_filter::{holds, is_valid};

@@ -5,8 +5,8 @@ ghost use Rattle.std.specs.Prelude.{◌≡◌, ◌++◌, IfOk, length};
 ghost use Rattle.term_values.specs.Lengths.{counted};
 ghost use Rattle.term_values.specs.Tag.{context};
 ghost use Rattle.term_model.specs.declared.reply.Reply.TheVariants as reply;
-ghost use Rattle.op_engine.specs.LinkedReplies.{behind_length, contents_in, linked_error, linked_reply};
-ghost use Rattle.op_engine.specs.LinkedReplies.{parameter_octets, replies_size, reply_size};
+ghost use Rattle.operation_model.specs.LinkedReplies.{behind_length, contents_in, linked_error, linked_reply};
+ghost use Rattle.operation_model.specs.LinkedReplies.{parameter_octets, replies_size, reply_size};
 
 use std::alloc::{AllocError, Global};
 use term_model::{CmisError, Reply};

@@ -3,12 +3,13 @@
 ghost use Rattle.std.specs.Prelude.{◌≡◌, ◌∷◌, ◌++◌, [], IfOk, IfSome, map, true};
 ghost use Rattle.term_model.specs.declared.reply.Reply.TheVariants as reply;
 ghost use Rattle.op_engine.specs.Acting.{act_of};
-ghost use Rattle.op_engine.specs.LinkedReplies.{linked_reply};
-ghost use Rattle.op_engine.specs.OperationChecks.{checked};
+ghost use Rattle.operation_model.specs.LinkedReplies.{linked_reply};
+ghost use Rattle.operation_model.specs.OperationChecks.{checked};
 ghost use Rattle.op_engine.specs.Planning.{empty_plan, plan_of, plan_within, refused_plan};
-ghost use Rattle.op_engine.specs.Plans.{AreSmall, HasValidFilter, IsPlan, has_valid_filter};
-ghost use Rattle.op_engine.specs.WholeOperation.{AreChanges, acted, is_base_object, listed, one_reply};
-ghost use Rattle.op_engine.specs.WholeOperation.{outcome, replies_to};
+ghost use Rattle.operation_model.specs.OperationConditions.{AreSmall, HasValidFilter, has_valid_filter};
+ghost use Rattle.op_engine.specs.Plans.{IsPlan};
+ghost use Rattle.operation_model.specs.WholeOperation.{AreChanges, acted, is_base_object, listed, one_reply};
+ghost use Rattle.operation_model.specs.WholeOperation.{outcome, replies_to};
 
 use crate::acting::{Acting, act_on_all, is_atomic, settled};
 use crate::checks::checked;

@@ -6,8 +6,9 @@ ghost use Rattle.std.specs.List.Sorted.{IsStrictlySortedBy};
 ghost use Rattle.term_model.specs.FilterTruth.{is_valid};
 ghost use Rattle.term_model.specs.NameOrder.{name_cmp};
 ghost use Rattle.term_model.specs.NamedObjects.{IsByName};
-ghost use Rattle.op_engine.specs.OperationChecks.{checked_by, names_fault, selected_by};
-ghost use Rattle.op_engine.specs.Plans.{TellsChecked, has_valid_filter};
+ghost use Rattle.operation_model.specs.OperationChecks.{checked_by, names_fault, selected_by};
+ghost use Rattle.operation_model.specs.OperationConditions.{has_valid_filter};
+ghost use Rattle.op_engine.specs.Plans.{TellsChecked};
 ghost use Rattle.op_engine.specs.Selecting.{passes, passing_by};
 
 use crate::filters::passes;

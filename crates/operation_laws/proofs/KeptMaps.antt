@@ -19,11 +19,11 @@ use Rattle.term_model.specs.NamedObjects.{object_at, removed, stored}
 use Rattle.term_model.specs.WellFormedObjects.{AreGood}
 use Rattle.set_laws.specs.KeptMaps.{with_patches}
 use Rattle.set_laws.proofs.KeptMapLaws.{map_stays_good}
-use Rattle.op_engine.specs.LinkedReplies.{replies_size}
-use Rattle.op_engine.specs.OperationChecks.{Checked, checked}
-use Rattle.op_engine.specs.WholeOperation.{Act, Changed, Outcome, Progress, acted, acted_on, acted_on_all}
-use Rattle.op_engine.specs.WholeOperation.{all_or_none, answered, begun, getting, granted_at, installed, is_atomic}
-use Rattle.op_engine.specs.WholeOperation.{listed, refusal, replies_to, setting, unless_failed, within_size}
+use Rattle.operation_model.specs.LinkedReplies.{replies_size}
+use Rattle.operation_model.specs.OperationChecks.{Checked, checked}
+use Rattle.operation_model.specs.WholeOperation.{Act, Changed, Outcome, Progress, acted, acted_on, acted_on_all}
+use Rattle.operation_model.specs.WholeOperation.{all_or_none, answered, begun, getting, granted_at, installed, is_atomic}
+use Rattle.operation_model.specs.WholeOperation.{listed, refusal, replies_to, setting, unless_failed, within_size}
 use Rattle.op_engine.proofs.OwnLaws.{get_none}
 use Rattle.operation_laws.specs.KeptMaps.{GetChangesNothing, SetKeepsMap}
 
@@ -35,7 +35,7 @@ one_way objects ((name, Some object) ∷ changes) =
     one_way (stored (record { name = name; object = object }) objects) changes
 
 -- an operation on one object keeps what is said of the map
-abbrev Keeps : (List NamedObject → Type 0) → Act → Type 0
+abbrev pub Keeps : (List NamedObject → Type 0) → Act → Type 0
 Keeps P act = (objects : List NamedObject) (name : List Rdn) (object : Object) (effect : Effect)
     → P objects → object_at objects name ≡ Some object → act objects name object ≡ Ok effect
     → P (installed objects effect.changes)
@@ -76,7 +76,7 @@ size_keeps P objects told before good = by (nat_le (replies_size told.replies) 4
     by true = good
     by false = before
 
-acted_keeps : (P : List NamedObject → Type 0) (objects : List NamedObject) (head : Head) (number : ℕ) (act : Act)
+pub acted_keeps : (P : List NamedObject → Type 0) (objects : List NamedObject) (head : Head) (number : ℕ) (act : Act)
     → Keeps P act → P objects → (checks : Checked) → P (acted objects head number act checks).objects
 acted_keeps P objects head number act all good (Err error) = good
 acted_keeps P objects head number act all good (Ok names) =

@@ -7,7 +7,7 @@ use Rattle.std.specs.Prelude.{nat_lt}
 use Rattle.term_values.specs.Der.{identifier_octets, length_octets}
 use Rattle.term_values.specs.Octets.{count_unsigned, octets}
 use Rattle.term_values.proofs.NumberLaws.{length-octets}
-use Rattle.op_engine.specs.LinkedReplies.{behind_length}
+use Rattle.operation_model.specs.LinkedReplies.{behind_length}
 use Rattle.operation_laws.specs.LinkedContents.{ContentsAreRead}
 
 -- behind a long length stands the rest

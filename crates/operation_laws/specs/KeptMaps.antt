@@ -7,7 +7,7 @@ use Rattle.term_model.specs.declared.request.Head.{Head}
 use Rattle.term_model.specs.declared.request.IdRef.{IdRef}
 use Rattle.term_model.specs.declared.schema.Set.{Set}
 use Rattle.term_model.specs.WellFormedObjects.{AreGood}
-use Rattle.op_engine.specs.WholeOperation.{get_outcome, set_outcome}
+use Rattle.operation_model.specs.WholeOperation.{get_outcome, set_outcome}
 
 -- an m-Get leaves the map as it is
 abbrev pub GetChangesNothing : Type 0

@@ -2,7 +2,7 @@
 use Rattle.std.specs.Prelude.{◌≡◌, ℕ, List, true}
 use Rattle.term_values.specs.Der.{encoded}
 use Rattle.term_values.specs.Tag.{universal}
-use Rattle.op_engine.specs.LinkedReplies.{contents_in}
+use Rattle.operation_model.specs.LinkedReplies.{contents_in}
 
 -- the contents octets of a SEQUENCE that was written are those with which it was written, of any length
 abbrev pub ContentsAreRead : Type 0

@@ -1,6 +1,6 @@
 -- The linked replies so far.
 use Rattle.std.proofs.Common.{◌≡◌, ◌++◌, map}
-use Rattle.op_engine.specs.LinkedReplies.{linked_reply}
+use Rattle.operation_model.specs.LinkedReplies.{linked_reply}
 use Rattle.op_engine.proofs.planning.linked_replies.Given as goal
 
 abbrev pub invariant-loop-answer : goal.invariant-loop-answer

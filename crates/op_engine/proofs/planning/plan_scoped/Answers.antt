@@ -1,9 +1,9 @@
 -- What was noted beside the map tells the outcome.
 use Rattle.std.proofs.Common.{◌≡◌, ap, ◌∙◌, rules}
 use Rattle.op_engine.specs.Acting.{act_of, noted_of, nothing_done}
-use Rattle.op_engine.specs.OperationChecks.{checked}
+use Rattle.operation_model.specs.OperationChecks.{checked}
 use Rattle.op_engine.specs.Plans.{IsPlan}
-use Rattle.op_engine.specs.WholeOperation.{acted, is_atomic}
+use Rattle.operation_model.specs.WholeOperation.{acted, is_atomic}
 use Rattle.op_engine.proofs.OutcomeLaws.{ok_gives, planned, planned_refusal}
 use Rattle.op_engine.proofs.OwnLaws.{is_alone, is_own}
 use Rattle.op_engine.proofs.SmallLaws.{checked_error}

@@ -3,7 +3,7 @@ use Rattle.std.proofs.Common.{ap, sym, ◌∙◌, ◌≡◌, Ok}
 use Rattle.std.proofs.Math.Path.{subst}
 use Rattle.std.specs.List.Sorted.{IsStrictlySortedBy}
 use Rattle.term_model.specs.NameOrder.{name_cmp}
-use Rattle.op_engine.specs.OperationChecks.{selected_by}
+use Rattle.operation_model.specs.OperationChecks.{selected_by}
 use Rattle.op_engine.specs.Selecting.{passing_by}
 use Rattle.op_engine.proofs.SelectLaws.{passing_by_is, selected_by_rise}
 use Rattle.op_engine.proofs.SmallLaws.{few_told}

@@ -27,8 +27,8 @@ use Rattle.term_model.specs.NameOrder.{name_cmp}
 use Rattle.term_model.specs.NamedObjects.{object_at, removed, stored}
 use Rattle.term_model.specs.ObjectGet.{get_effect}
 use Rattle.term_model.specs.ObjectSet.{set_effect}
-use Rattle.op_engine.specs.LinkedReplies.{linked_reply, replies_size}
-use Rattle.op_engine.specs.OperationChecks.{Checked, checked}
+use Rattle.operation_model.specs.LinkedReplies.{linked_reply, replies_size}
+use Rattle.operation_model.specs.OperationChecks.{Checked, checked}
 
 -- the names at which a map is changed, each with the object that stands there now, or with none
 abbrev pub Changed : Type 0
