@@ -1,0 +1,2 @@
+-- The laws that the contracts of this crate state.
+pub mod StayingLaws
