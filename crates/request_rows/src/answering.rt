@@ -1,6 +1,7 @@
 //! From a line to its answer.
 
 use crate::reading;
+use crate::receiving::answer_receive;
 use crate::row_fault::RowFault;
 use crate::showing::show_request;
 use cmip_requests::{RequestRefusal, read_cancel, read_request};
@@ -57,6 +58,7 @@ fn read_again(alloc: Global, set: &Set, row: &str, out: &mut String) -> Result<(
 fn add_answer(alloc: Global, set: &Set, row: &str, out: &mut String) -> Result<(), RowFault> {
     let (first, words) = row.split_once(' ').unwrap_or((row, ""));
     match first {
+        "receive" => answer_receive(alloc, set, words, out),
         "cancel" => answer_cancel(alloc, words, out),
         "again" => read_again(alloc, set, words, out),
         _ => answer_request(alloc, set, reading::operation(first)?, words, out),

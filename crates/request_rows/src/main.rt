@@ -1,12 +1,14 @@
 //! Answers which requests arguments give: each line of standard input is the number of an operation and the octets of
 //! its argument, and the parts of the request are printed, or `mistyped`. `cancel` in place of the number reads the
-//! argument of m-Cancel-Get. Words in hexadecimal digits are joined, and `*` with a number behind a word says how often
+//! argument of m-Cancel-Get, and `receive` with the invoke ids in use, joined by commas or `-`, reads a whole APDU and
+//! prints what it brings. Words in hexadecimal digits are joined, and `*` with a number behind a word says how often
 //! it stands. A row behind `again` and a number is only read, so often, for `tree` in front without its request. Lines
 //! that are empty or begin with `#` are printed as they are.
 #![tactic(auto)]
 
 mod answering;
 mod reading;
+mod receiving;
 mod row_fault;
 mod row_set;
 mod showing;

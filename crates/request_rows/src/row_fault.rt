@@ -7,6 +7,8 @@ use std::alloc::{AllocError, AllocFailed};
 pub enum RowFault {
     /// No operation stands in front.
     Operation,
+    /// The invoke ids in use aren't numbers of 32 bits.
+    Ids,
     /// The octets aren't hexadecimal digits in pairs.
     Octets,
     /// The octets spell no tree.
@@ -20,6 +22,7 @@ impl RowFault {
     pub fn text(self) -> &'static str {
         match self {
             RowFault::Operation => "unreadable: no operation",
+            RowFault::Ids => "unreadable: no invoke ids",
             RowFault::Octets => "unreadable: no hexadecimal digits in pairs",
             RowFault::Tree => "unreadable: the octets are no tree",
             RowFault::Memory => "failed: no memory",

@@ -1,0 +1,3 @@
+-- What the answers of this crate say.
+pub mod Arrivals
+pub mod Bringing
