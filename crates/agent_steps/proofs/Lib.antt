@@ -1,0 +1,5 @@
+mod AdmittingLaws
+mod AskingLaws
+mod EntryLaws
+mod PerformingLaws
+mod StandardFacts
