@@ -159,23 +159,73 @@ fn write_out_line(
     Ok(())
 }
 
+/// Appends a line for each of the associations, in the order of their numbers from 1 on.
+fn write_out_lines(
+    alloc: Global,
+    associations: &[Association],
+    into: &mut Vec<u8>,
+) -> Result<(), AllocError>
+    ensures { OnOk result (into.new.items ≡ into.old.items ++ out_lines 1 associations.now) }
+{
+    for (place, association) in associations.iter().enumerate() {
+        write_out_line(alloc, place as u64 + 1, association, into)?;
+    }
+    Ok(())
+}
+
 /// Appends a line for each association, and one for the number of objects.
+pub fn write_all_outs(
+    alloc: Global,
+    associations: &[Association],
+    objects: u64,
+    into: &mut Vec<u8>,
+) -> Result<(), AllocError>
+    ensures { OnOk result (into.new.items
+        ≡ into.old.items ++ (out_lines 1 associations.now ++ objects_line objects)) }
+{
+    write_out_lines(alloc, associations, into)?;
+    write_number(b"objects ", objects, into)
+}
+
+/// Appends what was placed for each association of an agent, and how many objects it has.
 pub fn write_outs(alloc: Global, agent: &AgentState, into: &mut Vec<u8>) -> Result<(), AllocError>
     ensures { OnOk result (into.new.items ≡ into.old.items ++ outs agent.now) }
 {
-    for (place, association) in agent.associations.items.iter().enumerate() {
-        write_out_line(alloc, place as u64 + 1, association, into)?;
-    }
-    write_number(b"objects ", agent.objects.as_slice().len() as u64, into)
+    let associations = agent.associations.items.as_slice();
+    write_all_outs(
+        alloc,
+        associations,
+        agent.objects.as_slice().len() as u64,
+        into,
+    )
+}
+
+/// What `run` prints of a journal, and of the associations and the number of objects after it.
+pub fn text_of_run(
+    alloc: Global,
+    journal: &[Entry],
+    associations: &[Association],
+    objects: u64,
+) -> Result<Vec<u8>, AllocError>
+    ensures { IfOk result (λ text. text.items
+        ≡ journal_text journal.now ++ (separator ++ (out_lines 1 associations.now ++ objects_line objects))) }
+{
+    let mut text = Vec::new(alloc);
+    write_journal(alloc, journal, &mut text)?;
+    text.extend_from_slice(SEPARATOR)?;
+    write_all_outs(alloc, associations, objects, &mut text)?;
+    Ok(text)
 }
 
 /// What `run` prints of a journal and the agent after it.
 pub fn run_text(alloc: Global, journal: &[Entry], agent: &AgentState) -> Result<Vec<u8>, AllocError>
     ensures { IfOk result (λ text. text.items ≡ journal_text journal.now ++ (separator ++ outs agent.now)) }
 {
-    let mut text = Vec::new(alloc);
-    write_journal(alloc, journal, &mut text)?;
-    text.extend_from_slice(SEPARATOR)?;
-    write_outs(alloc, agent, &mut text)?;
-    Ok(text)
+    let associations = agent.associations.items.as_slice();
+    text_of_run(
+        alloc,
+        journal,
+        associations,
+        agent.objects.as_slice().len() as u64,
+    )
 }

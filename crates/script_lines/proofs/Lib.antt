@@ -1,0 +1,4 @@
+mod PartLaws
+mod LineLaws
+mod ScriptFacts
+mod ScriptLaws

@@ -1,0 +1,11 @@
+mod AnsweringLaws
+mod ClosingLaws
+mod ComingLaws
+mod EntryLaws
+mod GoodLaws
+mod KeptLaws
+mod LineLaws
+mod StandardFacts
+mod Standing
+mod TakenLaws
+mod TakingLaws

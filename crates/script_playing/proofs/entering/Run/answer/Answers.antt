@@ -1,0 +1,20 @@
+use Rattle.std.proofs.Common.{◌≡◌, ◌<◌, Some, true, length, sym, ap, ◌∙◌, rules, arith, subst}
+use Rattle.term_model.specs.declared.entry.Entry.TheVariants.{Granted}
+use Rattle.term_model.specs.Played.{Play}
+use Rattle.term_model.specs.Step.{is_legal}
+use Rattle.agent_model.specs.Playing.{with_entry}
+use Rattle.agent_model.proofs.StepLaws.{granted_then}
+use Rattle.agent_steps.specs.States.{moment_of_grant}
+use Rattle.script_playing.proofs.entering.Run.answer.Goals as goal
+
+pub commit-requires-clause-granted : goal.commit-requires-clause-granted
+commit-requires-clause-granted g c =
+    let old = c.args.self.now in
+    let number = c.count_operations-number.result in
+    let count : number ≡ length old.agent.operations = c.count_operations-number.ensures in
+    let more : c.args.before < length old.agent.operations = first_of (search rules, omega arith, grind arith) in
+    let legal : is_legal old.agent (Granted number old.moment) ≡ true =
+    ap (λ n. is_legal old.agent (Granted n old.moment)) count ∙ c.requires.legal more in
+    let entered : c.grant.new.self ≡ with_entry old (Granted number old.moment) = c.in_ok-grant.ensures.entered in
+    subst (λ (p : Play). moment_of_grant p.agent number ≡ Some p.moment) (sym entered)
+    (granted_then old.agent number old.moment legal)

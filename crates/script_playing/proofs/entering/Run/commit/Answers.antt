@@ -1,0 +1,21 @@
+use Rattle.std.proofs.Common.{◌≡◌, ◌++◌, [], ◌∷◌, Some, rules}
+use Rattle.std.proofs.Common.{sym, ap, ◌∙◌, subst}
+use Rattle.term_model.specs.declared.entry.Entry.TheVariants.{Committed}
+use Rattle.term_model.specs.Played.{Play}
+use Rattle.script_playing.specs.Ready.{IsKept}
+use Rattle.script_playing.proofs.KeptLaws.{kept_committed}
+use Rattle.agent_steps.specs.States.{moment_of_grant}
+use Rattle.script_playing.proofs.AnsweringLaws.{commits_where_granted}
+use Rattle.script_playing.proofs.entering.Run.commit.Goals as goal
+
+pub returns-clause-kept : goal.returns-clause-kept
+returns-clause-kept g c =
+    let number = c.args.number in
+    let next = Committed number in
+    let kept = subst (λ (p : Play). IsKept p.agent p.journal) (sym c.self.view_is) c.requires.kept in
+    let granted =
+    subst (λ (p : Play). moment_of_grant p.agent number ≡ Some p.moment) (sym c.self.view_is) c.requires.granted in
+    kept_committed c.self.inside.agent c.commit.new.self c.self.inside.journal.items c.write_down.new.journal.items
+    number kept (commits_where_granted c.self.inside.agent number c.self.inside.moment granted) (search rules)
+    c.in_ok-commit.ensures.small c.in_ok-commit.ensures.stepped
+    (c.write_down.ensures ∙ ap (λ xs. xs ++ next ∷ []) c.in_ok-make_room.ensures.kept)

@@ -1,0 +1,27 @@
+use Rattle.std.proofs.Common.{◌≡◌, ◌+◌, ◌<◌, ◌++◌, [], ◌∷◌, ℕ, List, Fits}
+use Rattle.std.proofs.Common.{w8, get_or, length, slice_index, rules, arith}
+use Rattle.std.proofs.Common.{sym, ap, ◌∙◌, subst}
+use Rattle.term_model.specs.declared.entry.Entry.TheVariants.{Opened}
+use Rattle.term_model.specs.Played.{Play}
+use Rattle.agent_model.specs.Stepping.{step}
+use Rattle.script_playing.specs.Ready.{IsKept}
+use Rattle.script_playing.proofs.KeptLaws.{kept_opened}
+use Rattle.script_playing.proofs.entering.Run.open.Goals as goal
+
+pub returns-clause-kept : goal.returns-clause-kept
+returns-clause-kept g c =
+    let agent = c.self.inside.agent in
+    let number = c.args.number in
+    let next = Opened number c.args.bind in
+    let last = length agent.associations + 1 in
+    let kept = subst (λ (p : Play). IsKept p.agent p.journal) (sym c.self.view_is) c.requires.kept in
+    let fits : (k : ℕ) → Fits w8 (get_or c.as_slice-octets.result.now k 0) = search rules in
+    let octets : (k : ℕ) → slice_index c.args.bind k < 256 =
+    subst (λ (bs : List ℕ). (k : ℕ) → slice_index bs k < 256) c.as_slice-octets.ensures
+    (λ k. let small = fits k in omega arith) in
+    let stepped : c.open.new.self ≡ step agent (Opened last c.args.bind) =
+    c.in_ok-open.ensures.stepped ∙ ap (λ bs. step agent (Opened last bs)) c.as_slice-octets.ensures in
+    kept_opened agent c.open.new.self c.self.inside.journal.items c.write_down.new.journal.items number c.args.bind kept
+    (c.requires.next ∙ ap (λ (p : Play). length p.agent.associations + 1) (sym c.self.view_is))
+    (search rules, octets) stepped
+    (c.write_down.ensures ∙ ap (λ xs. xs ++ next ∷ []) c.in_ok-make_room.ensures.kept)

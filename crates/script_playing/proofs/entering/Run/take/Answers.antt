@@ -1,0 +1,27 @@
+use Rattle.std.proofs.Common.{◌≡◌, ◌++◌, [], ◌∷◌, rules}
+use Rattle.std.proofs.Common.{sym, ap, ◌∙◌, subst}
+use Rattle.term_model.specs.declared.entry.Entry.TheVariants.{Taken}
+use Rattle.term_model.specs.Played.{Play}
+use Rattle.agent_model.specs.Stepping.{step}
+use Rattle.script_playing.specs.Ready.{IsKept}
+use Rattle.script_playing.proofs.KeptLaws.{kept_more}
+use Rattle.std.proofs.lemmas.Bool.{ne_eqb}
+use Rattle.term_model.specs.AgentState.{association_of}
+use Rattle.term_model.proofs.StepLaws.{left_stands}
+use Rattle.agent_model.proofs.StepLaws.{takes_what_is_left}
+use Rattle.script_playing.proofs.entering.Run.take.Goals as goal
+
+pub returns-clause-kept : goal.returns-clause-kept
+returns-clause-kept g c =
+    let agent = c.self.inside.agent in
+    let number = c.args.number in
+    let count = c.take_all-count.result in
+    let next = Taken number count in
+    let some : count ≡ 0 → ⊥ = search rules in
+    let kept = subst (λ (p : Play). IsKept p.agent p.journal) (sym c.self.view_is) c.requires.kept in
+    let left = left_stands (association_of agent number) count c.take_all-count.ensures.count some in
+    let stepped : c.take_all-count.new.self ≡ step agent next =
+    rw (ne_eqb count 0 some) at c.take_all-count.ensures.taken in
+    kept_more agent c.take_all-count.new.self c.self.inside.journal.items c.write_down.new.journal.items next kept
+    (takes_what_is_left agent number count left.0 left.1 left.2 some) (search rules, search rules) tt tt stepped
+    (c.write_down.ensures ∙ ap (λ xs. xs ++ next ∷ []) c.in_ok-make_room.ensures.kept)

@@ -1,0 +1,9 @@
+//! Plays scripts on the agent with one manager: docs/PROFILE.md, sections 5 and 7.
+#![tactic(auto)]
+
+mod entering;
+pub mod laws;
+mod line_playing;
+pub mod playing;
+
+pub use playing::{Ending, Play, play_script};
