@@ -1,5 +1,4 @@
 -- The lemmas of this crate.
-pub mod BoundLaws
 pub mod DoneLaws
 pub mod InheritLaws
 pub mod LabelLaws

@@ -1,11 +1,11 @@
 -- What stands in rising order, each once, is told by its members alone.
-use Rattle.std.proofs.Common.{◌≡◌, ◌⊎◌, ◌<◌, ◌≤◌, ◌+◌, ℕ, zero, suc, Bool, true, false, not, List, [], ◌∷◌}
+use Rattle.std.proofs.Common.{◌≡◌, ◌⊎◌, ◌<◌, ℕ, zero, suc, Bool, true, false, not, List, [], ◌∷◌}
 use Rattle.std.proofs.Common.{length, get_or, nat_cmp, is_lt, is_gt, Ordering, Less, Equal, Greater, IsSorted, refl}
 use Rattle.std.proofs.Common.{sym, ap, ◌∙◌, subst, inl, inr, true≢false, arith, add-one}
 use Rattle.std.specs.Prelude.{Contains, IsTrue, if◌then◌else◌}
 use Rattle.std.specs.BTreeSet as sets
 use Rattle.std.specs.BTreeSet.{BTreeSet}
-use Rattle.std.specs.Cmp.Lexicographic.{pointwise, slice_cmp}
+use Rattle.std.specs.Cmp.Lexicographic.{slice_cmp}
 use Rattle.std.specs.List.Sorted.{IsStrictlySortedBy}
 use Rattle.std.specs.Ordering.{eq_by_cmp, ordering_reverse}
 use Rattle.std.proofs.lemmas.Cmp.{nat_list_cmp_total, nat_list_eq_equiv}
@@ -17,7 +17,7 @@ use Rattle.std.proofs.lemmas.Slice.Eq.{bytes_eq-Decides}
 use Rattle.term_values.specs.Rearranged.{IsRising, inserted, may_precede, rising}
 use Rattle.term_values.proofs.RisingLaws.{may_precede_back}
 use Rattle.term_model.specs.Comparing.{is_same_oid}
-use Rattle.package_laws.proofs.Members.{either_way, first_or_later, joined, nowhere, there}
+use Rattle.package_laws.proofs.Members.{either_way, first_or_later, joined, there}
 use Rattle.set_report.specs.Orders.{in_order}
 
 -- ---- the rising order rises

@@ -5,6 +5,5 @@ pub mod ClassLists
 pub mod HasLists
 pub mod DoneLists
 pub mod NamesSchema
-pub mod DiscriminatorAttributes
 pub mod ReportLines
 pub mod ReportText

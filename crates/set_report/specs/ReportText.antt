@@ -1,17 +1,14 @@
 -- The text of a compiled schema, as `report` prints it: X.722, section 8; docs/PROFILE.md, section 19.
-use Rattle.std.specs.Prelude.{ℕ, List, [], ◌++◌, Bool, ◌&&◌, codes, flat_map, map}
-use Rattle.std.specs.List.{list_any}
+use Rattle.std.specs.Prelude.{ℕ, List, [], ◌++◌, codes, flat_map, map}
 use Rattle.std.specs.Option.{option_map_or}
-use Rattle.term_values.specs.Syntaxes.{TypeSyntax}
 use Rattle.term_model.specs.declared.name_binding.BindRec.{BindRec}
 use Rattle.term_model.specs.declared.packages.Property.{Property}
 use Rattle.term_model.specs.declared.schema.ClassRec.{ClassRec}
 use Rattle.term_model.specs.declared.schema.Set.{Set}
-use Rattle.term_model.specs.BoundClasses.{is_bound_as}
 use Rattle.term_model.specs.ClassAttributes.{property_of}
-use Rattle.term_model.specs.Comparing.{is_same_octets}
 use Rattle.term_model.specs.ControlSyntaxes.{discriminator_attributes, log_attributes}
 use Rattle.term_model.specs.ObjectOperation.{class_record}
+use Rattle.bound_classes.specs.BoundLabels.{is_label_bound}
 use Rattle.set_report.specs.declared.class_lists.Listed.{Listed}
 use Rattle.set_report.specs.declared.class_lists.Listed.TheVariants as listed
 use Rattle.set_report.specs.ClassLists.{inherited, listed_in, unregistered_in}
@@ -96,13 +93,6 @@ unfoldable pub binding_lines : Set → List ℕ
 binding_lines schema =
     entry_lines (codes "binding ") (label_of (binding_labels schema.bindings))
     (in_order (map (λ (binding : BindRec). binding.id) schema.bindings))
-
--- the class with a label is one that the agent acts on
-abbrev pub is_label_bound : Set → List ℕ → List (List ℕ × TypeSyntax) → Bool
-is_label_bound schema label attributes =
-    list_any
-    (λ (of_class : ClassRec). is_same_octets of_class.label label && is_bound_as schema label attributes of_class.id)
-    schema.classes
 
 unfoldable pub bound_lines : Set → List ℕ
 bound_lines schema =

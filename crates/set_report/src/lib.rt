@@ -2,7 +2,6 @@
 //! on. X.722, section 8; docs/PROFILE.md, section 19.
 #![tactic(auto)]
 
-mod bound_classes;
 mod class_lists;
 mod class_text;
 mod labels;

@@ -11,7 +11,6 @@ ghost use Rattle.set_report.specs.NamesSchema.{NamesSchema};
 ghost use Rattle.set_report.specs.Orders.{in_order};
 ghost use Rattle.set_report.specs.ReportText.{binding_lines, bound_lines, class_text_of, class_texts, report_text};
 
-use crate::bound_classes::{has_bound_discriminator, has_bound_log};
 use crate::class_text::write_class;
 use crate::labels::{SchemaLabels, labels_of_bindings, schema_labels};
 use crate::lines::{write_bound, write_lines};
@@ -19,6 +18,7 @@ use crate::list_tables::{ListTable, list_table};
 use crate::orders::ids_in_order;
 use crate::refusal::ReportRefusal;
 use agent_bytes::{Sink, write_all};
+use bound_classes::{has_bound_discriminator, has_bound_log};
 use std::alloc::{AllocError, Global};
 use term_model::{BindRec, ClassRec, Set};
 use term_values::Oid;

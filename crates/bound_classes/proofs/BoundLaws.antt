@@ -9,7 +9,7 @@ use Rattle.term_model.specs.BoundClasses.{have_attribute}
 use Rattle.term_model.specs.ControlSyntaxes.{discriminator_attributes}
 use Rattle.term_model.specs.PresentPackages.{packages_by}
 use Rattle.attribute_rules.specs.MandatoryAttributes.{classes_have}
-use Rattle.set_report.specs.DiscriminatorAttributes.{have_all_of_discriminator, have_sending, have_states}
+use Rattle.bound_classes.specs.DiscriminatorAttributes.{have_all_of_discriminator, have_sending, have_states}
 
 -- that some class gives it is that all their packages together have it
 each_has : (schema : Set) (label : List ℕ) (syntax : TypeSyntax) (classes : List (List ℕ))

@@ -2,7 +2,7 @@
 use Rattle.std.proofs.Common.{◌≡◌, take, false}
 use Rattle.std.specs.List.{list_any}
 use Rattle.term_model.specs.BoundClasses.{is_class_labelled}
-use Rattle.set_report.proofs.bound_classes.is_one_labelled.Given as goal
+use Rattle.bound_classes.proofs.discriminators.is_one_labelled.Given as goal
 
 abbrev pub invariant-loop-class : goal.invariant-loop-class
 invariant-loop-class l = list_any (is_class_labelled l.records l.label) (take l.class-index l.classes) ≡ false

@@ -5,13 +5,13 @@ use Rattle.std.specs.List.{list_any}
 use Rattle.term_model.specs.declared.schema.ClassRec.{ClassRec}
 use Rattle.term_model.specs.BoundClasses.{is_bound_as}
 use Rattle.term_model.specs.Comparing.{is_same_octets}
-use Rattle.term_model.specs.ControlSyntaxes.{discriminator_attributes}
-use Rattle.set_report.proofs.bound_classes.has_bound_discriminator.Given as goal
+use Rattle.term_model.specs.ControlSyntaxes.{log_attributes}
+use Rattle.bound_classes.proofs.bound_labels.has_bound_log.Given as goal
 
 abbrev pub invariant-loop-of_class : goal.invariant-loop-of_class
 invariant-loop-of_class l =
     list_any
-    (λ (of_class : ClassRec). is_same_octets of_class.label (codes "eventForwardingDiscriminator")
-    && is_bound_as l.schema (codes "eventForwardingDiscriminator") discriminator_attributes of_class.id)
+    (λ (of_class : ClassRec). is_same_octets of_class.label (codes "log")
+    && is_bound_as l.schema (codes "log") log_attributes of_class.id)
     (take l.of_class-index l.of_class-items)
     ≡ false

@@ -1,31 +1,27 @@
-//! Which classes the agent acts on as discriminators and as logs: X.721, X.734, X.735; docs/PROFILE.md, section 15.
+//! Which classes the agent acts on as discriminators: X.721, class eventForwardingDiscriminator; X.734;
+//! docs/PROFILE.md, section 15.
 
-ghost use Rattle.std.specs.Prelude.{◌≡◌, ◌&&◌, [], ◌∷◌, codes, IfOk};
+ghost use Rattle.std.specs.Prelude.{◌≡◌, [], ◌∷◌, IfOk};
 ghost use Rattle.std.specs.List.{list_any};
 ghost use Rattle.term_values.specs.CmipTypes.{one};
 ghost use Rattle.term_values.specs.PartsView.{parts_listed};
 ghost use Rattle.term_values.specs.SyntaxView.{syntax_of};
 ghost use Rattle.term_values.specs.Syntaxes.TypeParts.{NoParts};
 ghost use Rattle.attribute_rules.specs.MandatoryAttributes.{classes_have};
-ghost use Rattle.term_model.specs.BoundClasses.{have_attribute, is_bound_discriminator, is_bound_log};
-ghost use Rattle.term_model.specs.BoundClasses.{is_class_labelled};
-ghost use Rattle.term_model.specs.ControlSyntaxes.{destination, discriminator_attributes, log_attributes};
-ghost use Rattle.term_model.specs.Comparing.{is_same_octets};
+ghost use Rattle.term_model.specs.BoundClasses.{have_attribute, is_bound_discriminator, is_class_labelled};
+ghost use Rattle.term_model.specs.ControlSyntaxes.{destination};
 ghost use Rattle.term_model.specs.PresentPackages.{packages_by};
-ghost use Rattle.set_report.specs.DiscriminatorAttributes.{have_all_of_discriminator, have_of_top, have_sending};
-ghost use Rattle.set_report.specs.DiscriminatorAttributes.{have_states};
-ghost use Rattle.set_report.specs.ReportText.{is_label_bound};
+ghost use Rattle.bound_classes.specs.DiscriminatorAttributes.{have_all_of_discriminator, have_of_top, have_sending};
+ghost use Rattle.bound_classes.specs.DiscriminatorAttributes.{have_states};
 
 use attribute_rules::bound_logs::have_attribute;
 use attribute_rules::control_syntaxes::{
     administrative_state, identifiers, operational_state, simple_name,
 };
-use attribute_rules::is_bound_log;
 use class_packages::classes_above;
 use std::alloc::{AllocError, Global};
-use std::boxed::Box;
-use term_model::{ClassRec, ClassRecs, Set};
-use term_values::{Bytes, Oid, Part, Parts, Ranges, Syntax, SyntaxForm};
+use term_model::{ClassRecs, Set};
+use term_values::{Bytes, Oid, Part, Parts, Syntax, SyntaxForm};
 
 /// A type of this form.
 fn of_form(form: SyntaxForm) -> Syntax
@@ -201,7 +197,7 @@ fn is_one_labelled(records: &ClassRecs, label: &[u8], classes: &[Oid]) -> bool
 /// `eventForwardingDiscriminator`, and has the attributes of a discriminator by label and syntax, in mandatory
 /// packages.
 #[tactic(auto, using(crate::proofs::BoundLaws::all_of_discriminator))]
-fn is_bound_discriminator(alloc: Global, schema: &Set, class: &Oid) -> Result<bool, AllocError>
+pub fn is_bound_discriminator(alloc: Global, schema: &Set, class: &Oid) -> Result<bool, AllocError>
     ensures { IfOk result (λ bound. bound ≡ is_bound_discriminator schema.now class.now) }
 {
     let classes = classes_above(alloc, &schema.classes, class)?;
@@ -213,56 +209,4 @@ fn is_bound_discriminator(alloc: Global, schema: &Set, class: &Oid) -> Result<bo
         return Ok(false);
     }
     have_all_of_discriminator(alloc, schema, classes.items.as_slice())
-}
-
-/// A class is the one with the label of discriminators, and is bound.
-fn is_the_discriminator(
-    alloc: Global,
-    schema: &Set,
-    of_class: &ClassRec,
-) -> Result<bool, AllocError>
-    ensures { IfOk result (λ bound. bound
-        ≡ (is_same_octets of_class.now.label (codes "eventForwardingDiscriminator")
-        && is_bound_discriminator schema.now of_class.now.id)) }
-{
-    if of_class.label.as_slice() != b"eventForwardingDiscriminator".as_slice() {
-        return Ok(false);
-    }
-    is_bound_discriminator(alloc, schema, &of_class.id)
-}
-
-/// The class with the label of discriminators is bound.
-pub(crate) fn has_bound_discriminator(alloc: Global, schema: &Set) -> Result<bool, AllocError>
-    ensures { IfOk result (λ bound. bound
-        ≡ is_label_bound schema.now (codes "eventForwardingDiscriminator") discriminator_attributes) }
-{
-    for of_class in schema.classes.as_slice() {
-        if is_the_discriminator(alloc, schema, of_class)? {
-            return Ok(true);
-        }
-    }
-    Ok(false)
-}
-
-/// A class is the one with the label of logs, and is bound.
-fn is_the_log(alloc: Global, schema: &Set, of_class: &ClassRec) -> Result<bool, AllocError>
-    ensures { IfOk result (λ bound. bound
-        ≡ (is_same_octets of_class.now.label (codes "log") && is_bound_log schema.now of_class.now.id)) }
-{
-    if of_class.label.as_slice() != b"log".as_slice() {
-        return Ok(false);
-    }
-    is_bound_log(alloc, schema, &of_class.id)
-}
-
-/// The class with the label of logs is bound.
-pub(crate) fn has_bound_log(alloc: Global, schema: &Set) -> Result<bool, AllocError>
-    ensures { IfOk result (λ bound. bound ≡ is_label_bound schema.now (codes "log") log_attributes) }
-{
-    for of_class in schema.classes.as_slice() {
-        if is_the_log(alloc, schema, of_class)? {
-            return Ok(true);
-        }
-    }
-    Ok(false)
 }

@@ -1,0 +1,4 @@
+-- The lemmas of this crate.
+pub mod BoundLaws
+pub mod BehaviourLaws
+mod StandardFacts
