@@ -1,9 +1,8 @@
 -- One member or one component more has been read.
-use Rattle.std.proofs.Common.{◌≡◌, ◌≤◌, ◌<◌, ◌+◌, ℕ, zero, suc, Bool, true, false, cond, not, length, take, drop}
-use Rattle.std.proofs.Common.{get_or, set, replicate, arith, List, [], ◌∷◌, ◌++◌, map, Option, None, Some, refl, ap}
-use Rattle.std.proofs.Common.{sym, ◌∙◌}
-use Rattle.std.proofs.lemmas.List.{drop_more, take_more, map-append}
-use Rattle.std.specs.Prelude.{◌&&◌, option_map, option_and_then, if◌then◌else◌}
+use Rattle.std.proofs.Common.{◌≡◌, ◌<◌, ◌+◌, ℕ, zero, suc, true, false, length, drop, get_or, arith, List, [], ◌∷◌}
+use Rattle.std.proofs.Common.{◌++◌, Option, None, Some, refl, ap, sym, ◌∙◌}
+use Rattle.std.proofs.lemmas.List.{drop_more}
+use Rattle.std.specs.Prelude.{option_map, option_and_then, if◌then◌else◌}
 use Rattle.ber_values.proofs.DecodingLaws.{slot_read, left_out_is, nothing_left_out}
 use Rattle.ber_values.specs.Left.{slot_left_out, values_before, slot_before, slots_before}
 use Rattle.term_values.specs.Decoding.{left_out}
@@ -14,10 +13,9 @@ use Rattle.term_values.specs.declared.syntax.Part.{Part}
 use Rattle.term_values.specs.declared.value.Slot.{Slot}
 use Rattle.term_values.specs.declared.value.Slot.TheVariants.{Absent, Present}
 use Rattle.asn1_values_syntax.specs.declared.value.ValuePart.{ValuePart}
-use Rattle.asn1_values.specs.Denoted.{Reading, denoted, is_meant, members_said, components_said, unordered_said, taken_out}
-use Rattle.asn1_values.specs.Denoted.{only_where, where_taken}
+use Rattle.asn1_values.specs.Denoted.{Reading, denoted, members_said, components_said}
 use Rattle.asn1_leaf_values.specs.Literals.{same_name}
-use Rattle.asn1_values.specs.Steps.{part_names, next_comes, left_of, no_texts, slot_by, next_slot}
+use Rattle.asn1_values.specs.Steps.{next_comes}
 use Rattle.asn1_leaf_values.specs.TextValues.{TextValue, TextParts, said_name, said_value, parts_said}
 use Rattle.asn1_leaf_values.specs.TextValues.TextParts.{NoTexts, AndText}
 
@@ -75,78 +73,62 @@ member_named member before part left rest e named =
 
 -- ---- components in the order of the type
 
-pub part_there : (filter : Reading) (before : List Slot) (names more : List (List ℕ))
-    (part : Part)
-    (left rest : List Part) (texts : List ValuePart) (x : ValuePart) (xs : List ValuePart) (v : TypedValue)
-    → left ≡ part ∷ rest → texts ≡ x ∷ xs → more ≡ names ++ part.name ∷ []
-    → next_comes part.name names (parts_said texts) ≡ true → denoted filter part.syntax (said_value x) ≡ Some v
-    → option_map (slots_before before) (components_said filter names (parts_listed left) (parts_said texts))
-    ≡ option_map (slots_before (before ++ Present v ∷ []))
-    (components_said filter more (parts_listed rest) (parts_said xs))
-part_there filter before names more part left rest texts x xs v e f m comes is =
-    let there : same_name part.name (said_name x) && is_meant part.name names ≡ true =
-    sym (ap (λ ys. next_comes part.name names (parts_said ys)) f) ∙ comes in
-    rw (e, f, m) (rw (there, is) (slot_read before (Present v)
-    (components_said filter (names ++ part.name ∷ []) (parts_listed rest) (parts_said xs))))
-
-pub part_bad : (filter : Reading) (before : List Slot) (names : List (List ℕ)) (part : Part)
-    (left rest : List Part) (texts : List ValuePart) (x : ValuePart) (xs : List ValuePart)
+pub part_there : (filter : Reading) (before : List Slot) (part : Part) (left rest : List Part)
+    (texts : List ValuePart) (x : ValuePart) (xs : List ValuePart) (v : TypedValue)
     → left ≡ part ∷ rest → texts ≡ x ∷ xs
-    → next_comes part.name names (parts_said texts) ≡ true → denoted filter part.syntax (said_value x) ≡ None
-    → option_map (slots_before before) (components_said filter names (parts_listed left) (parts_said texts)) ≡ None
-part_bad filter before names part left rest texts x xs e f comes is =
-    let there : same_name part.name (said_name x) && is_meant part.name names ≡ true =
-    sym (ap (λ ys. next_comes part.name names (parts_said ys)) f) ∙ comes in
+    → next_comes part.name (parts_said texts) ≡ true → denoted filter part.syntax (said_value x) ≡ Some v
+    → option_map (slots_before before) (components_said filter (parts_listed left) (parts_said texts))
+    ≡ option_map (slots_before (before ++ Present v ∷ []))
+    (components_said filter (parts_listed rest) (parts_said xs))
+part_there filter before part left rest texts x xs v e f comes is =
+    let there : same_name part.name (said_name x) ≡ true =
+    sym (ap (λ ys. next_comes part.name (parts_said ys)) f) ∙ comes in
+    rw (e, f) (rw (there, is) (slot_read before (Present v)
+    (components_said filter (parts_listed rest) (parts_said xs))))
+
+pub part_bad : (filter : Reading) (before : List Slot) (part : Part) (left rest : List Part)
+    (texts : List ValuePart) (x : ValuePart) (xs : List ValuePart) → left ≡ part ∷ rest → texts ≡ x ∷ xs
+    → next_comes part.name (parts_said texts) ≡ true → denoted filter part.syntax (said_value x) ≡ None
+    → option_map (slots_before before) (components_said filter (parts_listed left) (parts_said texts)) ≡ None
+part_bad filter before part left rest texts x xs e f comes is =
+    let there : same_name part.name (said_name x) ≡ true =
+    sym (ap (λ ys. next_comes part.name (parts_said ys)) f) ∙ comes in
     rw (e, f) (rw (there, is) refl)
 
-skipped : (filter : Reading) (names : List (List ℕ)) (part : Part) (rest : List Part)
-    (texts : TextParts) → next_comes part.name names texts ≡ false
-    → components_said filter names (parts_listed (part ∷ rest)) texts
-    ≡ left_out part.optional part.default (components_said filter (names ++ part.name ∷ []) (parts_listed rest) texts)
-skipped filter names part rest NoTexts comes = refl
-skipped filter names part rest (AndText own text others) comes = rw comes refl
+skipped : (filter : Reading) (part : Part) (rest : List Part) (texts : TextParts)
+    → next_comes part.name texts ≡ false
+    → components_said filter (parts_listed (part ∷ rest)) texts
+    ≡ left_out part.optional part.default (components_said filter (parts_listed rest) texts)
+skipped filter part rest NoTexts comes = refl
+skipped filter part rest (AndText own text others) comes = rw comes refl
 
-pub part_absent : (filter : Reading) (before : List Slot) (names more : List (List ℕ))
-    (part : Part) (left rest : List Part) (texts : TextParts) (slot : Slot)
-    → left ≡ part ∷ rest → more ≡ names ++ part.name ∷ [] → next_comes part.name names texts ≡ false
+pub part_absent : (filter : Reading) (before : List Slot) (part : Part) (left rest : List Part)
+    (texts : TextParts) (slot : Slot) → left ≡ part ∷ rest → next_comes part.name texts ≡ false
     → slot_left_out part.optional part.default ≡ Some slot
-    → option_map (slots_before before) (components_said filter names (parts_listed left) texts)
-    ≡ option_map (slots_before (before ++ slot ∷ [])) (components_said filter more (parts_listed rest) texts)
-part_absent filter before names more part left rest texts slot e m comes is =
-    rw (e, m) (ap (option_map (slots_before before)) (skipped filter names part rest texts comes
-    ∙ left_out_is part.optional part.default slot
-    (components_said filter (names ++ part.name ∷ []) (parts_listed rest) texts) is)
-    ∙ slot_read before slot (components_said filter (names ++ part.name ∷ []) (parts_listed rest) texts))
+    → option_map (slots_before before) (components_said filter (parts_listed left) texts)
+    ≡ option_map (slots_before (before ++ slot ∷ [])) (components_said filter (parts_listed rest) texts)
+part_absent filter before part left rest texts slot e comes is =
+    rw e (ap (option_map (slots_before before)) (skipped filter part rest texts comes
+    ∙ left_out_is part.optional part.default slot (components_said filter (parts_listed rest) texts) is)
+    ∙ slot_read before slot (components_said filter (parts_listed rest) texts))
 
-pub part_missing : (filter : Reading) (before : List Slot) (names : List (List ℕ))
-    (part : Part) (left rest : List Part) (texts : TextParts)
-    → left ≡ part ∷ rest → next_comes part.name names texts ≡ false
+pub part_missing : (filter : Reading) (before : List Slot) (part : Part) (left rest : List Part) (texts : TextParts)
+    → left ≡ part ∷ rest → next_comes part.name texts ≡ false
     → slot_left_out part.optional part.default ≡ None
-    → option_map (slots_before before) (components_said filter names (parts_listed left) texts) ≡ None
-part_missing filter before names part left rest texts e comes is =
-    rw e (ap (option_map (slots_before before)) (skipped filter names part rest texts comes
-    ∙ nothing_left_out part.optional part.default
-    (components_said filter (names ++ part.name ∷ []) (parts_listed rest) texts) is))
+    → option_map (slots_before before) (components_said filter (parts_listed left) texts) ≡ None
+part_missing filter before part left rest texts e comes is =
+    rw e (ap (option_map (slots_before before)) (skipped filter part rest texts comes
+    ∙ nothing_left_out part.optional part.default (components_said filter (parts_listed rest) texts) is))
 
 -- texts behind the last component
-pub too_many : (filter : Reading) (names : List (List ℕ)) (parts : List Part)
-    (texts : List ValuePart) (at : ℕ) → parts ≡ [] → at < length texts
-    → components_said filter names (parts_listed parts) (parts_said (drop at texts)) ≡ None
-too_many filter names parts [] at e h = absurd (omega arith)
-too_many filter names parts (x ∷ xs) zero e h = rw e refl
-too_many filter names parts (x ∷ xs) (suc at) e h = too_many filter names parts xs at e (omega arith)
+pub too_many : (filter : Reading) (parts : List Part) (texts : List ValuePart) (at : ℕ)
+    → parts ≡ [] → at < length texts
+    → components_said filter (parts_listed parts) (parts_said (drop at texts)) ≡ None
+too_many filter parts [] at e h = absurd (omega arith)
+too_many filter parts (x ∷ xs) zero e h = rw e refl
+too_many filter parts (x ∷ xs) (suc at) e h = too_many filter parts xs at e (omega arith)
 
--- ---- names
-
-pub names_more : (items : List Part) (k : ℕ) (d : Part) → k < length items
-    → part_names (take (k + 1) items) ≡ part_names (take k items) ++ (get_or items k d).name ∷ []
-names_more items k d h =
-    ap part_names (take_more items k d h) ∙ map-append (λ part. part.name) (take k items) (get_or items k d ∷ [])
-
-pub names_next : (items : List Part) (k : ℕ) (part : Part) → k < length items → part ≡ get_or items k part
-    → part_names (take (k + 1) items) ≡ part_names (take k items) ++ part.name ∷ []
-names_next items k part h e =
-    names_more items k part h ∙ ap (λ (p : Part). part_names (take k items) ++ p.name ∷ []) (sym e)
+-- ---- lists
 
 pub drop_next : {T : Type 0} (xs : List T) (k : ℕ) (x : T) → k < length xs → x ≡ get_or xs k x
     → drop k xs ≡ x ∷ drop (k + 1) xs

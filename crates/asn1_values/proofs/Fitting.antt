@@ -1,6 +1,6 @@
 -- The value that a text denotes in a syntax fits it, where each DEFAULT in the syntax fits and the value is written in
 -- fewer than 2 ^ 32 octets: X.680, sections 18 to 46.
-use Rattle.std.proofs.Common.{◌≡◌, ◌<◌, ◌+◌, ℕ, zero, suc, Bool, true, false, List, [], ◌∷◌, ◌++◌, ◌&&◌, Option, None}
+use Rattle.std.proofs.Common.{◌≡◌, ◌<◌, ◌+◌, ℕ, zero, suc, Bool, true, false, List, [], ◌∷◌, Option, None}
 use Rattle.std.proofs.Common.{Some, refl, ap, sym, ◌∙◌, subst, arith, length, rules}
 use Rattle.std.specs.Prelude.{if◌then◌else◌, option_and_then, option_map, is_some}
 use Rattle.std.proofs.lemmas.Option.{none-some, same_Some}
@@ -33,7 +33,7 @@ use Rattle.typed_laws.proofs.WritableLaws.{contents_within}
 use Rattle.typed_laws.proofs.WritingStatements.{written_is_read_again_holds}
 use Rattle.typed_laws.specs.Nesting.{nesting}
 use Rattle.asn1_values.specs.Denoted.{Reading, denoted, components_said, unordered_said, picked_said, chosen_by}
-use Rattle.asn1_values.specs.Denoted.{is_meant, members_said, only_where, reading_of, taken_out, where_taken}
+use Rattle.asn1_values.specs.Denoted.{members_said, reading_of, taken_out, where_taken}
 use Rattle.asn1_values.specs.Filters.{filter_said, filters_said, each_said, item_said, no_filter, alternative}
 use Rattle.asn1_leaf_values.specs.Arcs.{NamedArcs}
 use Rattle.asn1_values.specs.Filters.{rising_filters, where_unnamed, value_named}
@@ -139,18 +139,18 @@ mutual
   said_fits filter f (TextString charset sizes) tag text v e d short = text_fits charset sizes text v e
   said_fits filter f GeneralizedTime tag text v e d short = time_fits text v e
   said_fits filter f (Sequence parts) tag text v e d short =
-      let m = map_some Parts (option_and_then (components_said filter [] parts) (parts_of text)) v e in
-      let t = then_some (components_said filter [] parts) (parts_of text) m.0 m.1 in
+      let m = map_some Parts (option_and_then (components_said filter parts) (parts_of text)) v e in
+      let t = then_some (components_said filter parts) (parts_of text) m.0 m.1 in
       let few = subst (λ (x : TypedValue). Few (der_as tag (Sequence parts) x)) (sym m.2) short in
       subst (Fits (Sequence parts)) m.2
-      (parts_fit filter f parts [] t.0 d m.0 t.2
+      (parts_fit filter f parts t.0 d m.0 t.2
       (contents_few true (due tag sequence) (joined (part_encodings parts m.0)) few))
   said_fits filter f (SetType parts) tag text v e d short =
-      let m = map_some Parts (option_and_then (unordered_said filter [] parts) (parts_of text)) v e in
-      let t = then_some (unordered_said filter [] parts) (parts_of text) m.0 m.1 in
+      let m = map_some Parts (option_and_then (unordered_said filter parts) (parts_of text)) v e in
+      let t = then_some (unordered_said filter parts) (parts_of text) m.0 m.1 in
       let few = subst (λ (x : TypedValue). Few (der_as tag (SetType parts) x)) (sym m.2) short in
       subst (Fits (SetType parts)) m.2
-      (unordered_fit filter f parts [] t.0 d m.0 t.2
+      (unordered_fit filter f parts t.0 d m.0 t.2
       (rising_few (part_encodings parts m.0)
       (contents_few true (due tag set) (joined (rising (part_encodings parts m.0))) few)))
   said_fits filter f (SequenceOf member sizes) tag text v e d short =
@@ -197,44 +197,36 @@ mutual
   said_fits filter f Any tag text v e d short = any_fits text v e short
   said_fits filter f Filter tag text v e d short = f text v e short
 
-  parts_fit : (filter : Reading) → FiltersFit filter → (parts : TypeParts)
-      (before : List (List ℕ)) (texts : TextParts) → HaveFittingDefaults parts
-      → AreFitting parts (components_said filter before parts texts)
-  parts_fit filter f NoParts before NoTexts d = λ slots e short. none_fit slots e
-  parts_fit filter f NoParts before (AndText own text others) d = λ slots e short. absurd (none-some _ e)
-  parts_fit filter f (Part name syntax optional default rest) before NoTexts d =
-      absent_fits name syntax optional default rest (components_said filter (before ++ name ∷ []) rest NoTexts) d.0
-      (parts_fit filter f rest (before ++ name ∷ []) NoTexts d.2)
-  parts_fit filter f (Part name syntax optional default rest) before (AndText own text others) d =
-      either_fits (same_name name own && is_meant name before) (Part name syntax optional default rest)
-      (option_and_then (λ v. option_map (Filled v) (components_said filter (before ++ name ∷ []) rest others))
-      (denoted filter syntax text))
-      (left_out optional default (components_said filter (before ++ name ∷ []) rest (AndText own text others)))
-      (there_fits name syntax optional default rest (denoted filter syntax text)
-      (components_said filter (before ++ name ∷ []) rest others) d.0
-      (λ v g. λ h. said_fits filter f syntax None text v g d.1 h)
-      (parts_fit filter f rest (before ++ name ∷ []) others d.2))
-      (absent_fits name syntax optional default rest
-      (components_said filter (before ++ name ∷ []) rest (AndText own text others)) d.0
-      (parts_fit filter f rest (before ++ name ∷ []) (AndText own text others) d.2))
+  parts_fit : (filter : Reading) → FiltersFit filter → (parts : TypeParts) (texts : TextParts)
+      → HaveFittingDefaults parts → AreFitting parts (components_said filter parts texts)
+  parts_fit filter f NoParts NoTexts d = λ slots e short. none_fit slots e
+  parts_fit filter f NoParts (AndText own text others) d = λ slots e short. absurd (none-some _ e)
+  parts_fit filter f (Part name syntax optional default rest) NoTexts d =
+      absent_fits name syntax optional default rest (components_said filter rest NoTexts) d.0
+      (parts_fit filter f rest NoTexts d.2)
+  parts_fit filter f (Part name syntax optional default rest) (AndText own text others) d =
+      either_fits (same_name name own) (Part name syntax optional default rest)
+      (option_and_then (λ v. option_map (Filled v) (components_said filter rest others)) (denoted filter syntax text))
+      (left_out optional default (components_said filter rest (AndText own text others)))
+      (there_fits name syntax optional default rest (denoted filter syntax text) (components_said filter rest others)
+      d.0 (λ v g. λ h. said_fits filter f syntax None text v g d.1 h) (parts_fit filter f rest others d.2))
+      (absent_fits name syntax optional default rest (components_said filter rest (AndText own text others)) d.0
+      (parts_fit filter f rest (AndText own text others) d.2))
 
-  unordered_fit : (filter : Reading) → FiltersFit filter → (parts : TypeParts)
-      (before : List (List ℕ)) (texts : TextParts) → HaveFittingDefaults parts
-      → AreFitting parts (unordered_said filter before parts texts)
-  unordered_fit filter f NoParts before NoTexts d = λ slots e short. none_fit slots e
-  unordered_fit filter f NoParts before (AndText own text others) d = λ slots e short. absurd (none-some _ e)
-  unordered_fit filter f (Part name syntax optional default rest) before texts d =
-      taken_fits (Part name syntax optional default rest) (only_where (is_meant name before) (taken_out name texts))
-      (λ text others. option_and_then
-      (λ v. option_map (Filled v) (unordered_said filter (before ++ name ∷ []) rest others))
+  unordered_fit : (filter : Reading) → FiltersFit filter → (parts : TypeParts) (texts : TextParts)
+      → HaveFittingDefaults parts → AreFitting parts (unordered_said filter parts texts)
+  unordered_fit filter f NoParts NoTexts d = λ slots e short. none_fit slots e
+  unordered_fit filter f NoParts (AndText own text others) d = λ slots e short. absurd (none-some _ e)
+  unordered_fit filter f (Part name syntax optional default rest) texts d =
+      taken_fits (Part name syntax optional default rest) (taken_out name texts)
+      (λ text others. option_and_then (λ v. option_map (Filled v) (unordered_said filter rest others))
       (denoted filter syntax text))
-      (left_out optional default (unordered_said filter (before ++ name ∷ []) rest texts))
+      (left_out optional default (unordered_said filter rest texts))
       (λ text others. there_fits name syntax optional default rest (denoted filter syntax text)
-      (unordered_said filter (before ++ name ∷ []) rest others) d.0
-      (λ v g. λ h. said_fits filter f syntax None text v g d.1 h)
-      (unordered_fit filter f rest (before ++ name ∷ []) others d.2))
-      (absent_fits name syntax optional default rest (unordered_said filter (before ++ name ∷ []) rest texts) d.0
-      (unordered_fit filter f rest (before ++ name ∷ []) texts d.2))
+      (unordered_said filter rest others) d.0 (λ v g. λ h. said_fits filter f syntax None text v g d.1 h)
+      (unordered_fit filter f rest others d.2))
+      (absent_fits name syntax optional default rest (unordered_said filter rest texts) d.0
+      (unordered_fit filter f rest texts d.2))
 
   pick_fits : (filter : Reading) → FiltersFit filter → (parts : TypeParts) (k : ℕ)
       (name : List ℕ) (text : TextValue) (v : TypedValue) → picked_said filter k parts name text ≡ Some v

@@ -9,6 +9,7 @@ use Rattle.term_values.specs.CmipTypes.{rdn_sequence}
 use Rattle.term_values.specs.Syntaxes.TypeSyntax.{Boolean, Integer, Enumerated, BitString, OctetString}
 use Rattle.term_values.specs.Syntaxes.TypeSyntax.{ObjectIdentifier, TextString, GeneralizedTime, Sequence, SetType}
 use Rattle.term_values.specs.Syntaxes.TypeSyntax.{SetOf, Choice, Any, Filter}
+use Rattle.term_values.specs.Syntaxes.{TypeParts}
 use Rattle.term_values.specs.Syntaxes.TypeParts.{NoParts, Part}
 use Rattle.term_values.specs.Typed.TypedValue.{Truth, Int, Bits, Octets, Identifier, Text, Time, Parts, Many, Pick, Raw}
 use Rattle.term_values.specs.Typed.TypedSlots.{NoSlots, Filled, Empty}
@@ -88,17 +89,53 @@ with_default : value_said (Sequence (Part (codes "a") (Integer [] []) false (Som
     ≡ Some (Parts (Filled (Int (pos 5)) (Empty NoSlots)))
 with_default = refl
 
--- of two components of one name, the first
-first_component : value_said (Sequence (Part (codes "a") (Integer [] []) true None
-    (Part (codes "a") Boolean true None NoParts)))
-    (InBraces (AndText (codes "a") (literal 0 (codes "TRUE")) NoTexts)) ≡ None
-first_component = refl
+-- two components of one name: the first text of the name is the first one's, the next that of the next one
+abbrev twice : TypeParts
+twice = Part (codes "a") (Integer [] []) true None (Part (codes "b") Boolean true None
+    (Part (codes "a") Boolean true None NoParts))
+
+abbrev part : List ℕ → TextValue → TextParts → TextParts
+part name text others = AndText name text others
+
+both_given : value_said (Sequence twice)
+    (InBraces (part (codes "a") (number (codes "1")) (part (codes "a") (literal 0 (codes "TRUE")) NoTexts)))
+    ≡ Some (Parts (Filled (Int (pos 1)) (Empty (Filled (Truth true) NoSlots))))
+both_given = refl
+
+one_given : value_said (Sequence twice) (InBraces (part (codes "a") (number (codes "1")) NoTexts))
+    ≡ Some (Parts (Filled (Int (pos 1)) (Empty (Empty NoSlots))))
+one_given = refl
+
+second_alone : value_said (Sequence twice) (InBraces (part (codes "a") (literal 0 (codes "TRUE")) NoTexts)) ≡ None
+second_alone = refl
+
+-- behind b only the second one of the name is left
+first_passed : value_said (Sequence twice) (InBraces (part (codes "b") (literal 0 (codes "FALSE"))
+    (part (codes "a") (literal 0 (codes "TRUE")) NoTexts)))
+    ≡ Some (Parts (Empty (Filled (Truth false) (Filled (Truth true) NoSlots))))
+first_passed = refl
 
 any_order : value_said (SetType
     (Part (codes "a") (Integer [] []) false None (Part (codes "b") Boolean false None NoParts)))
     (InBraces (AndText (codes "b") (literal 0 (codes "FALSE")) (AndText (codes "a") (number (codes "1")) NoTexts)))
     ≡ Some (Parts (Filled (Int (pos 1)) (Filled (Truth false) NoSlots)))
 any_order = refl
+
+both_given_of_a_set : value_said (SetType twice)
+    (InBraces (part (codes "a") (number (codes "1")) (part (codes "a") (literal 0 (codes "TRUE"))
+    (part (codes "b") (literal 0 (codes "FALSE")) NoTexts))))
+    ≡ Some (Parts (Filled (Int (pos 1)) (Filled (Truth false) (Filled (Truth true) NoSlots))))
+both_given_of_a_set = refl
+
+one_given_of_a_set : value_said (SetType twice)
+    (InBraces (part (codes "b") (literal 0 (codes "FALSE")) (part (codes "a") (number (codes "1")) NoTexts)))
+    ≡ Some (Parts (Filled (Int (pos 1)) (Filled (Truth false) (Empty NoSlots))))
+one_given_of_a_set = refl
+
+-- of a set the first text of the name is the first one's wherever it stands
+other_order_of_a_set : value_said (SetType twice)
+    (InBraces (part (codes "a") (literal 0 (codes "TRUE")) (part (codes "a") (number (codes "1")) NoTexts))) ≡ None
+other_order_of_a_set = refl
 
 -- X.690, section 11.6
 rising : value_said (SetOf (Integer [] []) []) (InBraces (one (number (codes "2")) (one (number (codes "1")) NoTexts)))

@@ -1,7 +1,7 @@
 -- One component of a SET more has been read.
 use Rattle.std.proofs.Common.{◌≡◌, ◌≤◌, ◌<◌, ◌+◌, ℕ, zero, suc, Bool, true, false, cond, not, length, drop, get_or, set}
 use Rattle.std.proofs.Common.{replicate, arith, List, [], ◌∷◌, ◌++◌, Option, None, Some, refl, ap, sym, ◌∙◌}
-use Rattle.std.specs.Prelude.{◌&&◌, option_map, option_and_then}
+use Rattle.std.specs.Prelude.{option_map, option_and_then}
 use Rattle.ber_values.proofs.DecodingLaws.{slot_read, left_out_is, nothing_left_out}
 use Rattle.ber_values.specs.Left.{slot_left_out, slot_before, slots_before}
 use Rattle.term_values.specs.Decoding.{left_out}
@@ -13,84 +13,73 @@ use Rattle.term_values.specs.declared.syntax.Part.{Part}
 use Rattle.term_values.specs.declared.value.Slot.{Slot}
 use Rattle.term_values.specs.declared.value.Slot.TheVariants.{Absent, Present}
 use Rattle.asn1_values_syntax.specs.declared.value.ValuePart.{ValuePart}
-use Rattle.asn1_values.specs.Denoted.{Reading, denoted, is_meant, unordered_said, taken_out, only_where, where_taken}
+use Rattle.asn1_values.specs.Denoted.{Reading, denoted, unordered_said, taken_out, where_taken}
 use Rattle.asn1_leaf_values.specs.Literals.{same_name}
 use Rattle.asn1_values.specs.Steps.{left_of, no_texts, slot_by, next_slot}
 use Rattle.asn1_leaf_values.specs.TextValues.{TextValue, TextParts, said_name, said_value, parts_said}
 use Rattle.asn1_leaf_values.specs.TextValues.TextParts.{NoTexts, AndText}
 
-abbrev Filters : Type 0
-Filters = Reading
-
-abbrev Names : Type 0
-Names = List (List ℕ)
-
 -- what the others hold behind the first component
-abbrev behind : Filters → Names → List Part → Option (Slot × TextParts) → Option TypedSlots
-behind filter names rest next = option_and_then (λ (r : Slot × TextParts). option_map (slot_before r.0)
-    (unordered_said filter names (parts_listed rest) r.1)) next
+abbrev behind : Reading → List Part → Option (Slot × TextParts) → Option TypedSlots
+behind filter rest next = option_and_then (λ (r : Slot × TextParts). option_map (slot_before r.0)
+    (unordered_said filter (parts_listed rest) r.1)) next
 
-read_one : (filter : Filters) (names : Names) (rest : List Part) (others : TextParts) (o : Option TypedValue)
-    → option_and_then (λ v. option_map (Filled v) (unordered_said filter names (parts_listed rest) others)) o
-    ≡ behind filter names rest (option_map (λ v. (Present v, others)) o)
-read_one filter names rest others None = refl
-read_one filter names rest others (Some v) = refl
+read_one : (filter : Reading) (rest : List Part) (others : TextParts) (o : Option TypedValue)
+    → option_and_then (λ v. option_map (Filled v) (unordered_said filter (parts_listed rest) others)) o
+    ≡ behind filter rest (option_map (λ v. (Present v, others)) o)
+read_one filter rest others None = refl
+read_one filter rest others (Some v) = refl
 
-leave_one : (filter : Filters) (names : Names) (part : Part) (rest : List Part) (texts : TextParts) (o : Option Slot)
+leave_one : (filter : Reading) (part : Part) (rest : List Part) (texts : TextParts) (o : Option Slot)
     → slot_left_out part.optional part.default ≡ o
-    → left_out part.optional part.default (unordered_said filter names (parts_listed rest) texts)
-    ≡ behind filter names rest (option_map (λ slot. (slot, texts)) o)
-leave_one filter names part rest texts None e = nothing_left_out part.optional part.default
-    (unordered_said filter names (parts_listed rest) texts) e
-leave_one filter names part rest texts (Some slot) e = left_out_is part.optional part.default slot
-    (unordered_said filter names (parts_listed rest) texts) e
+    → left_out part.optional part.default (unordered_said filter (parts_listed rest) texts)
+    ≡ behind filter rest (option_map (λ slot. (slot, texts)) o)
+leave_one filter part rest texts None e = nothing_left_out part.optional part.default
+    (unordered_said filter (parts_listed rest) texts) e
+leave_one filter part rest texts (Some slot) e = left_out_is part.optional part.default slot
+    (unordered_said filter (parts_listed rest) texts) e
 
-by_taken : (filter : Filters) (names : Names) (part : Part) (rest : List Part) (texts : TextParts)
+by_taken : (filter : Reading) (part : Part) (rest : List Part) (texts : TextParts)
     (o : Option (TextValue × TextParts))
-    → where_taken o (λ text others. option_and_then (λ v. option_map (Filled v) (unordered_said filter names
+    → where_taken o (λ text others. option_and_then (λ v. option_map (Filled v) (unordered_said filter
     (parts_listed rest) others)) (denoted filter part.syntax text))
-    (left_out part.optional part.default (unordered_said filter names (parts_listed rest) texts))
-    ≡ behind filter names rest (slot_by o (denoted filter part.syntax) (option_map (λ slot. (slot, texts))
+    (left_out part.optional part.default (unordered_said filter (parts_listed rest) texts))
+    ≡ behind filter rest (slot_by o (denoted filter part.syntax) (option_map (λ slot. (slot, texts))
     (slot_left_out part.optional part.default)))
-by_taken filter names part rest texts None =
-    leave_one filter names part rest texts (slot_left_out part.optional part.default) refl
-by_taken filter names part rest texts (Some taken) =
-    read_one filter names rest taken.1 (denoted filter part.syntax taken.0)
+by_taken filter part rest texts None =
+    leave_one filter part rest texts (slot_left_out part.optional part.default) refl
+by_taken filter part rest texts (Some taken) =
+    read_one filter rest taken.1 (denoted filter part.syntax taken.0)
 
-one_component : (filter : Filters) (names : Names) (part : Part) (rest : List Part) (texts : TextParts)
-    → unordered_said filter names (parts_listed (part ∷ rest)) texts
-    ≡ behind filter (names ++ part.name ∷ []) rest (next_slot filter names part texts)
-one_component filter names part rest texts = by_taken filter (names ++ part.name ∷ []) part rest texts
-    (only_where (is_meant part.name names) (taken_out part.name texts))
+one_component : (filter : Reading) (part : Part) (rest : List Part) (texts : TextParts)
+    → unordered_said filter (parts_listed (part ∷ rest)) texts
+    ≡ behind filter rest (next_slot filter part texts)
+one_component filter part rest texts = by_taken filter part rest texts (taken_out part.name texts)
 
-pub component_read : (filter : Reading) (before : List Slot) (names more : List (List ℕ))
-    (part : Part) (left rest : List Part) (texts others : TextParts) (slot : Slot)
-    → left ≡ part ∷ rest → more ≡ names ++ part.name ∷ []
-    → next_slot filter names part texts ≡ Some (slot, others)
-    → option_map (slots_before before) (unordered_said filter names (parts_listed left) texts)
-    ≡ option_map (slots_before (before ++ slot ∷ [])) (unordered_said filter more (parts_listed rest) others)
-component_read filter before names more part left rest texts others slot e m is =
-    rw (e, m) (ap (option_map (slots_before before)) (one_component filter names part rest texts
-    ∙ ap (behind filter (names ++ part.name ∷ []) rest) is)
-    ∙ slot_read before slot (unordered_said filter (names ++ part.name ∷ []) (parts_listed rest) others))
+pub component_read : (filter : Reading) (before : List Slot) (part : Part) (left rest : List Part)
+    (texts others : TextParts) (slot : Slot) → left ≡ part ∷ rest
+    → next_slot filter part texts ≡ Some (slot, others)
+    → option_map (slots_before before) (unordered_said filter (parts_listed left) texts)
+    ≡ option_map (slots_before (before ++ slot ∷ [])) (unordered_said filter (parts_listed rest) others)
+component_read filter before part left rest texts others slot e is =
+    rw e (ap (option_map (slots_before before)) (one_component filter part rest texts ∙ ap (behind filter rest) is)
+    ∙ slot_read before slot (unordered_said filter (parts_listed rest) others))
 
-pub component_missing : (filter : Reading) (before : List Slot) (names : List (List ℕ))
-    (part : Part) (left rest : List Part) (texts : TextParts)
-    → left ≡ part ∷ rest → next_slot filter names part texts ≡ None
-    → option_map (slots_before before) (unordered_said filter names (parts_listed left) texts) ≡ None
-component_missing filter before names part left rest texts e is =
-    rw e (ap (option_map (slots_before before)) (one_component filter names part rest texts
-    ∙ ap (behind filter (names ++ part.name ∷ []) rest) is))
+pub component_missing : (filter : Reading) (before : List Slot) (part : Part) (left rest : List Part)
+    (texts : TextParts) → left ≡ part ∷ rest → next_slot filter part texts ≡ None
+    → option_map (slots_before before) (unordered_said filter (parts_listed left) texts) ≡ None
+component_missing filter before part left rest texts e is =
+    rw e (ap (option_map (slots_before before)) (one_component filter part rest texts ∙ ap (behind filter rest) is))
 
-pub none_left : (filter : Reading) (names : List (List ℕ)) (texts : TextParts)
-    → no_texts texts ≡ true → unordered_said filter names NoParts texts ≡ Some NoSlots
-none_left filter names NoTexts e = refl
-none_left filter names (AndText own text others) e = absurd (cc)
+pub none_left : (filter : Reading) (texts : TextParts) → no_texts texts ≡ true
+    → unordered_said filter NoParts texts ≡ Some NoSlots
+none_left filter NoTexts e = refl
+none_left filter (AndText own text others) e = absurd (cc)
 
-pub some_left_over : (filter : Reading) (names : List (List ℕ)) (texts : TextParts)
-    → no_texts texts ≡ false → unordered_said filter names NoParts texts ≡ None
-some_left_over filter names NoTexts e = absurd (cc)
-some_left_over filter names (AndText own text others) e = refl
+pub some_left_over : (filter : Reading) (texts : TextParts) → no_texts texts ≡ false
+    → unordered_said filter NoParts texts ≡ None
+some_left_over filter NoTexts e = absurd (cc)
+some_left_over filter (AndText own text others) e = refl
 
 pub all_left : (xs : List ValuePart) → left_of (replicate (length xs) false) xs ≡ parts_said xs
 all_left [] = refl
@@ -149,21 +138,12 @@ none_free (b ∷ bs) [] l h = absurd (omega arith)
 none_free (true ∷ bs) (x ∷ xs) l h = none_free bs xs (omega arith) (λ j p. h (suc j) (omega arith))
 none_free (false ∷ bs) (x ∷ xs) l h = absurd (let e = h 0 (omega arith) in cc)
 
--- the component can't be meant, no text is its own, or one is
-pub next_unmeant : (filter : Reading) (names : List (List ℕ)) (part : Part) (texts : TextParts)
-    → is_meant part.name names ≡ false
-    → next_slot filter names part texts
-    ≡ option_map (λ slot. (slot, texts)) (slot_left_out part.optional part.default)
-next_unmeant filter names part texts e = rw e refl
+-- no text is the component's own, or one is
+pub next_absent : (filter : Reading) (part : Part) (texts : TextParts) → taken_out part.name texts ≡ None
+    → next_slot filter part texts ≡ option_map (λ slot. (slot, texts)) (slot_left_out part.optional part.default)
+next_absent filter part texts e = rw e refl
 
-pub next_absent : (filter : Reading) (names : List (List ℕ)) (part : Part) (texts : TextParts)
-    → is_meant part.name names ≡ true → taken_out part.name texts ≡ None
-    → next_slot filter names part texts
-    ≡ option_map (λ slot. (slot, texts)) (slot_left_out part.optional part.default)
-next_absent filter names part texts m e = rw (m, e) refl
-
-pub next_present : (filter : Reading) (names : List (List ℕ)) (part : Part) (texts : TextParts)
-    (x : TextValue) (others : TextParts)
-    → is_meant part.name names ≡ true → taken_out part.name texts ≡ Some (x, others)
-    → next_slot filter names part texts ≡ option_map (λ v. (Present v, others)) (denoted filter part.syntax x)
-next_present filter names part texts x others m e = rw (m, e) refl
+pub next_present : (filter : Reading) (part : Part) (texts : TextParts) (x : TextValue) (others : TextParts)
+    → taken_out part.name texts ≡ Some (x, others)
+    → next_slot filter part texts ≡ option_map (λ v. (Present v, others)) (denoted filter part.syntax x)
+next_present filter part texts x others e = rw e refl

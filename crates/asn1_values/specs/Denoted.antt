@@ -1,14 +1,12 @@
 -- Denoted: which value of a type a text denotes (X.680, sections 18 to 46; X.208, sections 20 to 28).
-use Rattle.std.specs.Prelude.{ℕ, zero, ◌+◌, List, [], ◌∷◌, ◌++◌, Bool, true, false, ◌&&◌, ◌||◌, not, Option, None, Some}
-use Rattle.std.specs.Prelude.{option_map, option_and_then, if◌then◌else◌}
-use Rattle.std.specs.List.{list_any}
+use Rattle.std.specs.Prelude.{ℕ, zero, ◌+◌, List, [], ◌∷◌, true, false, Option, None, Some, option_map, option_and_then}
+use Rattle.std.specs.Prelude.{if◌then◌else◌}
 use Rattle.term_values.specs.Decoding.{left_out, rising_by, sized_members}
 use Rattle.term_values.specs.Syntaxes.{TypeSyntax, TypeParts}
 use Rattle.term_values.specs.Syntaxes.TypeSyntax.{Boolean, Integer, Enumerated, BitString, OctetString, NullType}
 use Rattle.term_values.specs.Syntaxes.TypeSyntax.{ObjectIdentifier, TextString, GeneralizedTime, Sequence, SetType}
 use Rattle.term_values.specs.Syntaxes.TypeSyntax.{SequenceOf, SetOf, Choice, Tagged, Any, Filter}
 use Rattle.term_values.specs.Syntaxes.TypeParts.{NoParts, Part}
-use Rattle.term_values.specs.Times.{is_nothing}
 use Rattle.term_values.specs.Typed.{TypedValue, TypedSlots, TypedValues}
 use Rattle.term_values.specs.Typed.TypedValue.{Parts, Many, Pick}
 use Rattle.term_values.specs.Typed.TypedSlots.{NoSlots, Filled}
@@ -22,10 +20,6 @@ use Rattle.asn1_leaf_values.specs.Literals.{same_name}
 use Rattle.asn1_leaf_values.specs.TextValues.{TextValue, TextParts, parts_of}
 use Rattle.asn1_leaf_values.specs.TextValues.TextValue.{Chosen}
 use Rattle.asn1_leaf_values.specs.TextValues.TextParts.{NoTexts, AndText}
-
--- Of two components of one name a text means the first. A component without a name is written by its value alone.
-abbrev pub is_meant : List ℕ → List (List ℕ) → Bool
-is_meant name before = is_nothing name || not (list_any (same_name name) before)
 
 -- the members that texts without names denote, as they come
 abbrev pub members_said : (TextValue → Option TypedValue) → TextParts → Option TypedValues
@@ -45,10 +39,6 @@ abbrev pub where_taken : Option (TextValue × TextParts) → (TextValue → Text
     → Option TypedSlots → Option TypedSlots
 where_taken (Some taken) found absent = found taken.0 taken.1
 where_taken None found absent = absent
-
-abbrev pub only_where : Bool → Option (TextValue × TextParts) → Option (TextValue × TextParts)
-only_where true taken = taken
-only_where false taken = None
 
 -- the value behind a chosen name
 abbrev pub chosen_by : (List ℕ → TextValue → Option TypedValue) → TextValue → Option TypedValue
@@ -76,9 +66,9 @@ abbrev mutual
   denoted reading (TextString charset sizes) text = text_said charset sizes text
   denoted reading GeneralizedTime text = time_said text
   denoted reading (Sequence parts) text =
-      option_map Parts (option_and_then (components_said reading [] parts) (parts_of text))
+      option_map Parts (option_and_then (components_said reading parts) (parts_of text))
   denoted reading (SetType parts) text =
-      option_map Parts (option_and_then (unordered_said reading [] parts) (parts_of text))
+      option_map Parts (option_and_then (unordered_said reading parts) (parts_of text))
   denoted reading (SequenceOf member sizes) text =
       option_and_then (sized_members sizes) (option_and_then (members_said (denoted reading member)) (parts_of text))
   denoted reading (SetOf member sizes) text = option_and_then (sized_members sizes)
@@ -95,25 +85,24 @@ abbrev mutual
       if same_name own name then option_map (Pick k) (denoted reading syntax text)
       else picked_said reading (k + 1) rest name text
 
-  -- the components that texts in the order of the type denote; these names stand before them
-  pub components_said : Reading → List (List ℕ) → TypeParts → TextParts → Option TypedSlots
-  components_said reading before NoParts NoTexts = Some NoSlots
-  components_said reading before NoParts (AndText own text others) = None
-  components_said reading before (Part name syntax optional default rest) NoTexts =
-      left_out optional default (components_said reading (before ++ name ∷ []) rest NoTexts)
-  components_said reading before (Part name syntax optional default rest) (AndText own text others) =
-      if same_name name own && is_meant name before
-      then option_and_then (λ v. option_map (Filled v) (components_said reading (before ++ name ∷ []) rest others))
+  -- the components that texts in the order of the type denote: each takes the next text where that has its name
+  pub components_said : Reading → TypeParts → TextParts → Option TypedSlots
+  components_said reading NoParts NoTexts = Some NoSlots
+  components_said reading NoParts (AndText own text others) = None
+  components_said reading (Part name syntax optional default rest) NoTexts =
+      left_out optional default (components_said reading rest NoTexts)
+  components_said reading (Part name syntax optional default rest) (AndText own text others) =
+      if same_name name own
+      then option_and_then (λ v. option_map (Filled v) (components_said reading rest others))
       (denoted reading syntax text)
-      else left_out optional default (components_said reading (before ++ name ∷ []) rest (AndText own text others))
+      else left_out optional default (components_said reading rest (AndText own text others))
 
-  -- the components that texts in any order denote
-  pub unordered_said : Reading → List (List ℕ) → TypeParts → TextParts → Option TypedSlots
-  unordered_said reading before NoParts NoTexts = Some NoSlots
-  unordered_said reading before NoParts (AndText own text others) = None
-  unordered_said reading before (Part name syntax optional default rest) texts =
-      where_taken (only_where (is_meant name before) (taken_out name texts))
-      (λ text others. option_and_then
-      (λ v. option_map (Filled v) (unordered_said reading (before ++ name ∷ []) rest others))
+  -- the components that texts in any order denote: each takes the first text of its name that is left
+  pub unordered_said : Reading → TypeParts → TextParts → Option TypedSlots
+  unordered_said reading NoParts NoTexts = Some NoSlots
+  unordered_said reading NoParts (AndText own text others) = None
+  unordered_said reading (Part name syntax optional default rest) texts =
+      where_taken (taken_out name texts)
+      (λ text others. option_and_then (λ v. option_map (Filled v) (unordered_said reading rest others))
       (denoted reading syntax text))
-      (left_out optional default (unordered_said reading (before ++ name ∷ []) rest texts))
+      (left_out optional default (unordered_said reading rest texts))

@@ -1,5 +1,5 @@
 -- Steps: what is left of components and of texts while they are gone through.
-use Rattle.std.specs.Prelude.{ℕ, List, [], ◌∷◌, Bool, true, false, ◌&&◌, Option, None, Some, map, option_map}
+use Rattle.std.specs.Prelude.{ℕ, List, [], ◌∷◌, Bool, true, false, Option, None, Some, option_map}
 use Rattle.ber_values.specs.Left.{slot_left_out}
 use Rattle.term_values.specs.Syntaxes.{TypeSyntax}
 use Rattle.term_values.specs.Typed.{TypedValue}
@@ -7,19 +7,15 @@ use Rattle.term_values.specs.declared.syntax.Part.{Part}
 use Rattle.term_values.specs.declared.value.Slot.{Slot}
 use Rattle.term_values.specs.declared.value.Slot.TheVariants.{Absent, Present}
 use Rattle.asn1_values_syntax.specs.declared.value.ValuePart.{ValuePart}
-use Rattle.asn1_values.specs.Denoted.{Reading, denoted, is_meant, taken_out, only_where}
+use Rattle.asn1_values.specs.Denoted.{Reading, denoted, taken_out}
 use Rattle.asn1_leaf_values.specs.Literals.{same_name}
 use Rattle.asn1_leaf_values.specs.TextValues.{TextValue, TextParts, said_name, said_value}
 use Rattle.asn1_leaf_values.specs.TextValues.TextParts.{NoTexts, AndText}
 
--- the names of components
-abbrev pub part_names : List Part → List (List ℕ)
-part_names parts = map (λ part. part.name) parts
-
--- the next text is that of the component; these names stand before it
-abbrev pub next_comes : List ℕ → List (List ℕ) → TextParts → Bool
-next_comes name before NoTexts = false
-next_comes name before (AndText own text others) = same_name name own && is_meant name before
+-- the next text has the name
+abbrev pub next_comes : List ℕ → TextParts → Bool
+next_comes name NoTexts = false
+next_comes name (AndText own text others) = same_name name own
 
 -- the texts that are not marked as taken
 abbrev pub left_of : List Bool → List ValuePart → TextParts
@@ -38,7 +34,7 @@ abbrev pub slot_by : Option (TextValue × TextParts) → (TextValue → Option T
 slot_by (Some taken) read absent = option_map (λ v. (Present v, taken.1)) (read taken.0)
 slot_by None read absent = absent
 
-abbrev pub next_slot : Reading → List (List ℕ) → Part → TextParts → Option (Slot × TextParts)
-next_slot reading before part texts =
-    slot_by (only_where (is_meant part.name before) (taken_out part.name texts)) (denoted reading part.syntax)
+abbrev pub next_slot : Reading → Part → TextParts → Option (Slot × TextParts)
+next_slot reading part texts =
+    slot_by (taken_out part.name texts) (denoted reading part.syntax)
     (option_map (λ slot. (slot, texts)) (slot_left_out part.optional part.default))

@@ -1,6 +1,5 @@
 //! The value of a syntax that a text denotes (X.680, sections 18 to 46; X.208, sections 20 to 28).
 
-ghost use Rattle.std.specs.List.{list_any};
 ghost use Rattle.std.specs.Prelude.{◌≡◌, ◌<◌, true, not, zero, [], IfOk, IfSome, IfNone, None, Some, Option, length};
 ghost use Rattle.std.specs.Prelude.{drop, get_or, set as list_set, option_map, option_and_then};
 ghost use Rattle.ber_values.specs.Left.{slot_left_out};
@@ -9,12 +8,12 @@ ghost use Rattle.term_values.specs.Typed.{TypedValue};
 ghost use Rattle.term_values.specs.Typed.TypedValue.{Parts as PartsValue};
 ghost use Rattle.term_values.specs.Written.{der};
 ghost use Rattle.asn1_values_syntax.specs.declared.value.ValuePart.{ValuePart};
-ghost use Rattle.asn1_values.specs.Denoted.{denoted, is_meant, members_said, taken_out, chosen_by, picked_said};
+ghost use Rattle.asn1_values.specs.Denoted.{denoted, members_said, taken_out, chosen_by, picked_said};
 ghost use Rattle.asn1_values.specs.Denoted.{components_said, reading_of, unordered_said};
 ghost use Rattle.asn1_leaf_values.specs.Arcs.{NamedArcs};
 ghost use Rattle.asn1_leaf_values.specs.FirstNames.{arcs_named};
 ghost use Rattle.asn1_leaf_values.specs.Literals.{same_name};
-ghost use Rattle.asn1_values.specs.Steps.{part_names, next_comes, left_of, no_texts, next_slot};
+ghost use Rattle.asn1_values.specs.Steps.{next_comes, left_of, no_texts, next_slot};
 ghost use Rattle.asn1_leaf_values.specs.TextValues.{TextValue, said, said_value, parts_of, parts_said};
 
 use asn1_leaf_values::any_values::read_any;
@@ -96,7 +95,7 @@ fn denote_sequence<F: FilterReading>(
     text: &ValueText,
 ) -> Result<Option<Value>, AllocError>
     ensures { IfOk result (λ found.
-        option_map PartsValue (option_and_then (components_said (reading_of F.reading (arcs_named names.now)) [] parts.now) (parts_of (said text.now)))
+        option_map PartsValue (option_and_then (components_said (reading_of F.reading (arcs_named names.now)) parts.now) (parts_of (said text.now)))
         ≡ found) }
 {
     let Some(texts) = parts_of(text) else {
@@ -118,7 +117,7 @@ fn denote_set<F: FilterReading>(
     text: &ValueText,
 ) -> Result<Option<Value>, AllocError>
     ensures { IfOk result (λ found.
-        option_map PartsValue (option_and_then (unordered_said (reading_of F.reading (arcs_named names.now)) [] parts.now) (parts_of (said text.now)))
+        option_map PartsValue (option_and_then (unordered_said (reading_of F.reading (arcs_named names.now)) parts.now) (parts_of (said text.now)))
         ≡ found) }
 {
     let Some(texts) = parts_of(text) else {
@@ -238,36 +237,15 @@ fn denote_members<F: FilterReading>(
     Ok(Some(Values { items }))
 }
 
-/// Whether some component has the name.
-fn is_named(items: &[Part], name: &[u8]) -> bool
-    ensures { result ≡ list_any (same_name name.now) (part_names items.now) }
-{
-    for part in items {
-        if same_name(name, part.name.as_slice()) {
-            return true;
-        }
-    }
-    false
-}
-
-/// Whether a text may mean the component: it has no name, or is the first one of its name.
-fn is_meant(part: &Part, before: &[Part]) -> bool
-    ensures { result ≡ is_meant part.now.name (part_names before.now) }
-{
-    let name = part.name.as_slice();
-    name.is_empty() || !is_named(before, name)
-}
-
 /// Whether the text at a place is that of the component.
-fn comes(part: &Part, before: &[Part], texts: &[ValuePart], next: usize) -> bool
-    ensures comes { result ≡ next_comes part.now.name (part_names before.now) (parts_said (drop next texts.now)) }
+fn comes(part: &Part, texts: &[ValuePart], next: usize) -> bool
+    ensures comes { result ≡ next_comes part.now.name (parts_said (drop next texts.now)) }
     ensures within { result ≡ true → next < length texts.now }
 {
     if next >= texts.len() {
         return false;
     }
-    let text = &texts[next];
-    same_name(part.name.as_slice(), part_name(text)) && is_meant(part, before)
+    same_name(part.name.as_slice(), part_name(&texts[next]))
 }
 
 /// What a component that is left out holds.
@@ -291,14 +269,13 @@ fn denote_components<F: FilterReading>(
     parts: &Parts,
     texts: &[ValuePart],
 ) -> Result<Option<Slots>, AllocError>
-    ensures { IfOk result (λ found. components_said (reading_of F.reading (arcs_named names.now)) [] parts.now (parts_said texts.now) ≡ found) }
+    ensures { IfOk result (λ found. components_said (reading_of F.reading (arcs_named names.now)) parts.now (parts_said texts.now) ≡ found) }
 {
     let items = parts.items.as_slice();
     let mut slots = Vec::new(alloc);
     let mut next = 0;
-    for k in 0..items.len() {
-        let part = &items[k];
-        if comes(part, &items[..k], texts, next) {
+    for part in items {
+        if comes(part, texts, next) {
             match denote::<F>(alloc, names, &part.syntax, part_value(&texts[next]))? {
                 None => return Ok(None),
                 Some(value) => slots.push(Slot::Present(value))?,
@@ -353,19 +330,15 @@ fn denote_component<F: FilterReading>(
     alloc: Global,
     names: &FirstNames,
     part: &Part,
-    before: &[Part],
     texts: &[ValuePart],
     taken: &mut [bool],
 ) -> Result<Option<Slot>, AllocError>
     requires { length taken.old ≡ length texts.now }
     ensures len { length taken.new ≡ length taken.old }
     ensures found { IfOk result (λ found.
-        next_slot (reading_of F.reading (arcs_named names.now)) (part_names before.now) part.now (left_of taken.old texts.now)
+        next_slot (reading_of F.reading (arcs_named names.now)) part.now (left_of taken.old texts.now)
         ≡ option_map (λ slot. (slot, left_of taken.new texts.now)) found) }
 {
-    if !is_meant(part, before) {
-        return left_out(alloc, part);
-    }
     match find_text(part.name.as_slice(), texts, taken) {
         None => left_out(alloc, part),
         Some(k) => {
@@ -386,13 +359,13 @@ fn denote_unordered<F: FilterReading>(
     parts: &Parts,
     texts: &[ValuePart],
 ) -> Result<Option<Slots>, AllocError>
-    ensures { IfOk result (λ found. unordered_said (reading_of F.reading (arcs_named names.now)) [] parts.now (parts_said texts.now) ≡ found) }
+    ensures { IfOk result (λ found. unordered_said (reading_of F.reading (arcs_named names.now)) parts.now (parts_said texts.now) ≡ found) }
 {
     let items = parts.items.as_slice();
     let mut taken = vec![in alloc; false; texts.len()]?;
     let mut slots = Vec::new(alloc);
-    for k in 0..items.len() {
-        match denote_component::<F>(alloc, names, &items[k], &items[..k], texts, &mut taken)? {
+    for part in items {
+        match denote_component::<F>(alloc, names, part, texts, &mut taken)? {
             None => return Ok(None),
             Some(slot) => slots.push(slot)?,
         }

@@ -43,8 +43,8 @@ pub fn first_place(text: &ValueText) -> u64
 /// sections 18 to 46; X.208, sections 20 to 28.
 ///
 /// `BadValue` comes exactly where the text denotes none, with the place of its first token; `Memory` where there is no
-/// memory for the value. A component is looked for by its name alone, in a SEQUENCE from the next one on; members of a
-/// SET OF are sorted by their encodings. The recursion goes down what the text nests.
+/// memory for the value. A component takes a part by its name alone: in a SEQUENCE the next one, in a SET the first one
+/// that is left. Members of a SET OF are sorted by their encodings. The recursion goes down what the text nests.
 pub fn value_with_names(
     alloc: Global,
     names: &FirstNames,
