@@ -1,7 +1,8 @@
 //! The first names in the values that modules assign, and in those that stand behind DEFAULT (X.680, sections 16 and
 //! 25; docs/PROFILE.md, section 12).
 
-use crate::begun_names::{BegunNames, mark_names};
+use crate::begun_names::BegunNames;
+use crate::value_names::mark_names;
 use asn1_names::name_tables::{Meaning, NameTables};
 use asn1_syntax::module::Assigned;
 use asn1_syntax::presence::Presence;

@@ -1,6 +1,7 @@
 //! The first names in the values of rules and instances (docs/PROFILE.md, sections 9 and 12).
 
-use crate::begun_names::{BegunNames, mark_names};
+use crate::begun_names::BegunNames;
+use crate::value_names::mark_names;
 use asn1_names::Meaning;
 use asn1_values_syntax::value::ValueText;
 use extra_syntax::assignment::Assignment;

@@ -1,12 +1,11 @@
 -- LabelledLaws: the attribute whose label a word is (docs/PROFILE.md, sections 9 and 12).
-use Rattle.std.specs.Prelude.{◌≡◌, ℕ, List, Option, None, Some, IfNone, IfSome, option_map}
+use Rattle.std.specs.Prelude.{◌≡◌, ℕ, List, Option, None, Some, IfNone, IfSome}
 use Rattle.std.proofs.Common.{ap, sym, ◌∙◌}
 use Rattle.std.proofs.Math.Path.{subst}
 use Rattle.token_grammar.specs.declared.token.Token.{Token}
-use Rattle.gdmo_names.specs.FoundViews.{found_view, found_views, numbered}
+use Rattle.gdmo_names.specs.FoundViews.{found_views, numbered}
 use Rattle.gdmo_names.specs.LabelMeaning.{label_meaning}
 use Rattle.gdmo_names.specs.PartTerms.{Placed, PartTerms, kind_of}
-use Rattle.gdmo_names.specs.RuleWords.{IsAttributeLabel}
 use Rattle.gdmo_names.specs.TemplateTerms.TemplateKind.{AttributeKind}
 use Rattle.gdmo_names.specs.declared.found.Found.{Found}
 use Rattle.gdmo_rules.specs.AttributeLabels.{IsAttributeAt, TellsAttribute}

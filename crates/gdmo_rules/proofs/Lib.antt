@@ -1,2 +1,4 @@
 -- The lemmas of this crate.
 pub mod LabelledLaws
+pub mod TypeFaultLaws
+pub mod StandardFacts

@@ -4,3 +4,4 @@
 
 pub mod class_members;
 pub mod rule_faults;
+pub mod type_faults;

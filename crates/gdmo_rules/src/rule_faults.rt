@@ -10,21 +10,24 @@ ghost use Rattle.gdmo_rules.specs.AttributeLabels.{IsAttributeAt, TellsAttribute
 ghost use Rattle.gdmo_rules.specs.TakenViews.{taken_view};
 
 use crate::class_members::{ClassFacts, ClassGraph};
+use crate::type_faults::{
+    ActionTypes, Naming, action_types, is_label_of_nothing, note_added, note_other,
+    note_other_reply,
+};
 use asn1_values_syntax::value::{NamedValue, ValueText};
 use extra_syntax::rule::Rule;
 use extra_syntax::section::Section;
 use extra_syntax::step::{Reply, Step};
 use gdmo_names::first_fault::{FaultKind, Faults};
-use gdmo_names::found::{Body, Found, Mention, Target, kind_of};
+use gdmo_names::found::{Found, Mention, Target, kind_of};
 use gdmo_names::roles::{Role, TemplateKind};
 use gdmo_targets::labels::meant_template;
 use gdmo_targets::section_references::RuleTargets;
-use gdmo_types::compared_types::{ComparedType, are_other, attribute_type, stated_type};
 use gdmo_types::linkage::Linkage;
 use indexmap::IndexMap;
 use std::alloc::AllocError;
 use token_grammar::Token;
-use token_grammar::token_tests::{is_label, is_word_of};
+use token_grammar::token_tests::is_word_of;
 use type_numbers::numbered_types::TypeNumbers;
 
 /// What SET or REPLY takes.
@@ -111,21 +114,6 @@ pub fn labelled_attribute<'a>(
     }
 }
 
-/// A step names an attribute.
-#[derive(Clone, Copy)]
-struct Naming<'a> {
-    document: u32,
-    label: &'a Token,
-    attribute: usize,
-}
-
-/// The types of an action.
-#[derive(Clone, Copy)]
-struct ActionTypes {
-    information: ComparedType,
-    reply: ComparedType,
-}
-
 /// What judges the steps of rules.
 #[derive(Drop)]
 pub struct RuleJudge<'a, 't, 'n> {
@@ -148,22 +136,6 @@ impl<'a, 't, 'n> RuleJudge<'a, 't, 'n> {
         }
     }
 
-    /// The types of an action; none where the action is missing.
-    fn action_types(&mut self, action: Option<usize>) -> Result<Option<ActionTypes>, AllocError> {
-        let Some(number) = action else {
-            return Ok(None);
-        };
-        let Some(found) = self.linkage.templates.get(number) else {
-            return Ok(None);
-        };
-        let Body::Action(action) = found.body else {
-            return Ok(None);
-        };
-        let information = stated_type(&self.linkage, self.numbers, &action.information)?;
-        let reply = stated_type(&self.linkage, self.numbers, &action.reply)?;
-        Ok(Some(ActionTypes { information, reply }))
-    }
-
     /// Keeps the attribute that a step of a rule names.
     fn keep(&mut self, class: Option<usize>, naming: Naming<'a>) -> Result<(), AllocError> {
         let Some(class) = class else {
@@ -179,53 +151,6 @@ impl<'a, 't, 'n> RuleJudge<'a, 't, 'n> {
         Ok(())
     }
 
-    /// Notes that an attribute is of another type than what it is set to, or than the reply that it is.
-    fn note_other(
-        &mut self,
-        attribute: usize,
-        other: ComparedType,
-        document: u32,
-        word: &Token,
-        faults: &mut Faults,
-    ) -> Result<(), AllocError> {
-        let own = attribute_type(&self.linkage, self.numbers, attribute)?;
-        if are_other(own, other) {
-            faults.note(document, word, FaultKind::WrongKind);
-        }
-        Ok(())
-    }
-
-    /// Notes that ADD names an attribute that isn't INTEGER.
-    fn note_added(&mut self, naming: Naming<'a>, faults: &mut Faults) -> Result<(), AllocError> {
-        let is_fault = match attribute_type(&self.linkage, self.numbers, naming.attribute)? {
-            ComparedType::Missing => false,
-            ComparedType::Nothing => true,
-            ComparedType::Number(number) => !self.numbers.is_integer(number),
-        };
-        if is_fault {
-            faults.note(naming.document, naming.label, FaultKind::WrongKind);
-        }
-        Ok(())
-    }
-
-    /// Whether a word alone behind REPLY that means no attribute is a label.
-    fn is_label_of_nothing(
-        &mut self,
-        types: Option<ActionTypes>,
-        word: &Token,
-    ) -> Result<bool, AllocError> {
-        let Some(types) = types else {
-            return Ok(false);
-        };
-        match types.reply {
-            ComparedType::Missing => Ok(false),
-            ComparedType::Nothing => Ok(is_label(word)),
-            ComparedType::Number(number) => {
-                Ok(is_label(word) && !self.numbers.names_number(number, word.text.as_slice())?)
-            }
-        }
-    }
-
     /// Judges an attribute that is replied.
     fn judge_replied(
         &mut self,
@@ -238,7 +163,9 @@ impl<'a, 't, 'n> RuleJudge<'a, 't, 'n> {
         match types {
             Some(types) => {
                 let document = naming.document;
-                self.note_other(
+                note_other(
+                    &self.linkage,
+                    self.numbers,
                     naming.attribute,
                     types.reply,
                     document,
@@ -278,7 +205,7 @@ impl<'a, 't, 'n> RuleJudge<'a, 't, 'n> {
             };
             return self.judge_replied(own.class, types, naming, faults);
         }
-        if self.is_label_of_nothing(types, word)? {
+        if is_label_of_nothing(self.numbers, types, word)? {
             self.note_label(own.document, word, faults);
         }
         Ok(())
@@ -294,9 +221,7 @@ impl<'a, 't, 'n> RuleJudge<'a, 't, 'n> {
         match taken_reply(reply) {
             Taken::Argument(word) => {
                 if let Some(types) = types {
-                    if are_other(types.information, types.reply) {
-                        faults.note(own.document, word, FaultKind::WrongKind);
-                    }
+                    note_other_reply(types, own.document, word, faults);
                 }
                 Ok(())
             }
@@ -330,7 +255,16 @@ impl<'a, 't, 'n> RuleJudge<'a, 't, 'n> {
                     },
                 )?;
                 if let (Taken::Argument(word), Some(types)) = (taken_value(&set.value), types) {
-                    self.note_other(attribute, types.information, document, word, faults)?;
+                    let other = types.information;
+                    note_other(
+                        &self.linkage,
+                        self.numbers,
+                        attribute,
+                        other,
+                        document,
+                        word,
+                        faults,
+                    )?;
                 }
                 Ok(())
             }
@@ -344,7 +278,7 @@ impl<'a, 't, 'n> RuleJudge<'a, 't, 'n> {
                     attribute,
                 };
                 self.keep(own.class, naming)?;
-                self.note_added(naming, faults)
+                note_added(&self.linkage, self.numbers, naming, faults)
             }
             Step::Emit(_) => Ok(()),
             Step::Reply(reply) => self.judge_reply(own, types, reply, faults),
@@ -357,7 +291,7 @@ impl<'a, 't, 'n> RuleJudge<'a, 't, 'n> {
         own: &RuleTargets,
         faults: &mut Faults,
     ) -> Result<(), AllocError> {
-        let types = self.action_types(own.action)?;
+        let types = action_types(&self.linkage, self.numbers, own.action)?;
         for (k, step) in rule.steps.iter().enumerate() {
             let target = own.steps.get(k).copied().flatten();
             self.judge_step(own, types, step, target, faults)?;

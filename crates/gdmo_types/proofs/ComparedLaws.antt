@@ -175,7 +175,7 @@ missing_stated : (parts : PartTerms) (stated : Option QualifiedName) → IsState
     IsKnownType parts stated → ⊥
 missing_stated parts stated lost known = (subst (IsKnownType parts) lost.is known) lost.no_type
 
-missing_attribute : (parts : PartTerms) (x : Placed) → kind_of x.template ≡ AttributeKind → TellsMissing parts x →
+pub missing_attribute : (parts : PartTerms) (x : Placed) → kind_of x.template ≡ AttributeKind → TellsMissing parts x →
     ¬ HasUnknownSyntax parts x → ⊥
 missing_attribute parts x is (inl unknown) known = known unknown
 missing_attribute parts x is (inr other) known = other is

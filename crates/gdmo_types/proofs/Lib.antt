@@ -8,4 +8,6 @@ pub mod ModuleNameLaws
 pub mod QualifiedLaws
 pub mod ComparedLaws
 pub mod ComponentLaws
+pub mod FieldLaws
+pub mod TemplateFieldLaws
 pub mod StandardFacts

@@ -1,5 +1,5 @@
 -- Examples of the definitions of this crate, computed: numbers in a role, the type of an attribute, an attribute that
--- derives from nothing that there is, and names that come again or mean nothing.
+-- derives from nothing that there is, names that come again or mean nothing, and a notification without fields.
 use Rattle.std.specs.Prelude.{◌≡◌, ℕ, List, [], ◌∷◌, Option, None, Some, codes, false, refl}
 use Rattle.std.proofs.Common.{arith, inl, inr}
 use Rattle.asn1_names.specs.ModuleTerms.{ModuleTerm}
@@ -12,17 +12,21 @@ use Rattle.gdmo_names.specs.FirstLabelFault.LabelFault.{LabelDouble, LabelUnknow
 use Rattle.gdmo_names.specs.Mentions.{Mention, mention}
 use Rattle.gdmo_names.specs.Mentions.Role.{OfBehaviour, Superclass}
 use Rattle.gdmo_names.specs.PartTerms.{PartTerms}
-use Rattle.gdmo_names.specs.TemplateTerms.BodyTerm.{BehaviourBody}
+use Rattle.gdmo_names.specs.TemplateTerms.BodyTerm.{BehaviourBody, NotificationBody}
+use Rattle.gdmo_names.specs.TemplateTerms.FieldTerms.{NoFields}
 use Rattle.gdmo_names.specs.TemplateTerms.ReferenceTerm.{ByLabel}
+use Rattle.gdmo_names.specs.TemplateTerms.ReferenceTerms.{NoReferences}
 use Rattle.gdmo_names.specs.TemplateTerms.TemplateTerm.{Template}
 use Rattle.gdmo_names.proofs.Texts.{of_templates, placed, qualified, word}
 use Rattle.gdmo_types.specs.AttributeTypes.{TellsType}
+use Rattle.gdmo_types.specs.FieldFaults.{AreFieldsOf, TellsPart}
 use Rattle.gdmo_types.specs.ModuleNames.{AssignedTwice, DoubleModuleNames}
 use Rattle.gdmo_types.specs.QualifiedFaults.{UnknownName}
 use Rattle.gdmo_types.specs.RoleTargets.{AreInRole, IsFirst}
 use Rattle.gdmo_types.specs.RoleTargets.AreInRole.{no_more, one, other}
 use Rattle.gdmo_types.specs.RoleTargets.IsFirst.{here, later}
 use Rattle.gdmo_types.specs.declared.attribute_types.AttributeType.TheVariants.{Missing}
+use Rattle.gdmo_types.specs.declared.compared_types.ComparedType.TheVariants as compared
 
 -- ---- numbers in a role
 
@@ -98,3 +102,12 @@ named_again = (0, twice, refl, inl (standard refl, refl, refl, refl))
 no_such_module : UnknownName [] 1 (qualified (word 10 (codes "Net")) (word 14 (codes "Id"))) LabelUnknown 1 10
 unfolding module_meaning first_module
 no_such_module = inl (refl, refl, refl, refl)
+
+-- ---- fields
+
+without_fields : AreFieldsOf (NotificationBody NoReferences NoReferences (Some (qualified (word 10 (codes "Net"))
+    (word 14 (codes "Info")))) NoFields None) (qualified (word 10 (codes "Net")) (word 14 (codes "Info"))) []
+without_fields = record { behaviours = NoReferences; parameters = NoReferences; reply = None; is = refl }
+
+no_such_part : TellsPart [] None compared.Nothing
+no_such_part = refl

@@ -7,3 +7,4 @@ pub mod ComparedTypes
 pub mod PlaceFaults
 pub mod ModuleNames
 pub mod QualifiedFaults
+pub mod FieldFaults

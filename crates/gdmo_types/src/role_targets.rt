@@ -40,7 +40,8 @@ fn known_number(templates: &[Found], number: Option<usize>) -> Option<usize>
     }
 }
 
-fn number_at(numbers: &[Option<usize>], place: usize) -> Option<usize>
+/// The number that stands at a place.
+pub(crate) fn number_at(numbers: &[Option<usize>], place: usize) -> Option<usize>
     ensures { (n : Option ℕ) → slice_get numbers.now place ≡ Some n → result ≡ n }
 {
     match numbers.get(place) {

@@ -1,7 +1,7 @@
 -- The template at the place of the number.
-use Rattle.std.proofs.Common.{◌≡◌, None, Some, ap, option_map, refl, rules, sym, ◌∙◌}
+use Rattle.std.proofs.Common.{ap, option_map, refl, sym, ◌∙◌}
 use Rattle.std.proofs.lemmas.Bool.{true≢false}
-use Rattle.gdmo_names.specs.FoundViews.{found_view, found_views, numbered}
+use Rattle.gdmo_names.specs.FoundViews.{found_view}
 use Rattle.gdmo_targets.proofs.TableLaws.{got_view}
 use Rattle.gdmo_rules.proofs.LabelledLaws.{nothing_there, other_kind}
 use Rattle.gdmo_rules.proofs.rule_faults.attribute_number.Goals as goal

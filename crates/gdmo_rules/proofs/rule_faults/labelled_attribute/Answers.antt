@@ -1,5 +1,5 @@
 -- The template that the label means, or none.
-use Rattle.std.proofs.Common.{◌≡◌, None, Some, ap, sym, ◌∙◌}
+use Rattle.std.proofs.Common.{ap, sym, ◌∙◌}
 use Rattle.asn1_names.specs.FirstNames.{found}
 use Rattle.gdmo_names.specs.FoundViews.{found_views, numbered}
 use Rattle.gdmo_rules.proofs.LabelledLaws.{nothing_told, number_told}
