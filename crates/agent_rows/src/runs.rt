@@ -9,7 +9,7 @@ use agent_run::{agent, command_words};
 use std::alloc::{AllocError, Global};
 
 /// Room in a sink for all that a row writes.
-const ROOM: usize = 4096;
+const ROOM: usize = 16_384;
 
 /// The most octets that a sink with faults takes in a call.
 const TURN: usize = 100;

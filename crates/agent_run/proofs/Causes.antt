@@ -8,19 +8,16 @@ use Rattle.std.specs.Result.{IsErrAnd}
 use Rattle.agent_bytes.specs.Faults.{Rose}
 use Rattle.agent_run.specs.declared.refusal.Refusal.{Refusal}
 use Rattle.agent_run.specs.declared.refusal.Refusal.TheVariants.{Usage, FileFault, FileTooLarge, BadDocument}
-use Rattle.agent_run.specs.declared.refusal.Refusal.TheVariants.{BadInstance, NotBuilt, OutOfMemory}
+use Rattle.agent_run.specs.declared.refusal.Refusal.TheVariants.{BadInstance, BadScript, NotBuilt, OutOfMemory}
 use Rattle.agent_run.specs.declared.refusal.Unbuilt.TheVariants.{Command as ACommand, Document, Script}
 use Rattle.command_line.specs.WordForms.{AreWordsOf, Command}
-use Rattle.command_line.specs.WordForms.Command.{Run}
+use Rattle.command_line.specs.WordForms.Command.{Check, Report, Run}
 use Rattle.document_parts.specs.declared.documents.Doc.{Doc}
 use Rattle.agent_run.specs.Files.{AreDocuments, FileToRead, IsDocumentIn, IsWithin, Reaches, Told, document_files}
 use Rattle.agent_run.specs.Files.{files_of}
 use Rattle.agent_run.specs.Files.AreDocuments.{no_document, document}
 use Rattle.agent_run.specs.Files.Reaches.{here, behind}
-use Rattle.agent_run.specs.Refusing.{AreCompiledBy, AreRunFiles, HasCause, HasCauseBy, HasFileCause, HasRunCause}
-use Rattle.agent_run.specs.Refusing.{HasScriptCause, HasSetCause, HasUnplayedCause}
-use Rattle.agent_run.specs.Running.{IsDocument, IsFirst, IsNotFirst, IsScriptFor, TellsFirst, TellsSchema}
-use Rattle.term_model.specs.declared.schema.Set.{Set}
+use Rattle.agent_run.specs.Refusing.{AreRunFiles, HasCause, HasCauseBy, HasFileCause, HasRunCause, HasSetCause}
 
 -- what a call answers at the exit of a `?`: the refusal that it was given
 pub exit_with : {X : Type 0} (P : Refusal → Type 0) (r : Result X Refusal) (e : Refusal) → IsErrAnd r (λ d. d ≡ e)
@@ -48,6 +45,7 @@ of_first files x others before after OutOfMemory cause = tt
 of_first files x others before after Usage cause = cause
 of_first files x others before after (BadDocument number line kind) cause = cause
 of_first files x others before after (BadInstance index error) cause = cause
+of_first files x others before after (BadScript line) cause = cause
 of_first files x others before after (NotBuilt what) cause = cause
 
 -- and of files behind one that is there within its limit
@@ -61,6 +59,7 @@ of_others files x others before between after OutOfMemory within earlier later c
 of_others files x others before between after Usage within earlier later cause = cause
 of_others files x others before between after (BadDocument number line kind) within earlier later cause = cause
 of_others files x others before between after (BadInstance index error) within earlier later cause = cause
+of_others files x others before between after (BadScript line) within earlier later cause = cause
 of_others files x others before between after (NotBuilt what) within earlier later cause = cause
 
 -- and of a command that reads these files
@@ -72,18 +71,31 @@ of_files files command before after OutOfMemory cause = tt
 of_files files command before after Usage cause = cause
 of_files files command before after (BadDocument number line kind) cause = absurd cause
 of_files files command before after (BadInstance index error) cause = absurd cause
+of_files files command before after (BadScript line) cause = absurd cause
 of_files files command before after (NotBuilt what) cause = absurd cause
 
--- the causes of documents that a command compiles
-pub of_documents : (files : Told) (command : Command) (docs : List Doc) (before after : ℕ) (r : Refusal) →
-    AreCompiledBy files command docs → HasSetCause docs r → HasCauseBy files command before after r
-of_documents files command docs before after (BadDocument number line kind) compiled cause = (docs, compiled, cause)
-of_documents files command docs before after (BadInstance index error) compiled cause = (docs, compiled, cause)
-of_documents files command docs before after OutOfMemory compiled cause = tt
-of_documents files command docs before after Usage compiled cause = cause
-of_documents files command docs before after (FileFault name) compiled cause = absurd cause
-of_documents files command docs before after (FileTooLarge name) compiled cause = absurd cause
-of_documents files command docs before after (NotBuilt what) compiled cause = absurd cause
+-- the causes of the documents of `check`, and of those of `report`
+pub of_checked : (files : Told) (names : List (List ℕ)) (docs : List Doc) (before after : ℕ) (r : Refusal) →
+    AreDocuments files names docs → HasSetCause docs r → HasCauseBy files (Check names) before after r
+of_checked files names docs before after (BadDocument number line kind) are cause = (docs, are, cause)
+of_checked files names docs before after (BadInstance index error) are cause = (docs, are, cause)
+of_checked files names docs before after OutOfMemory are cause = tt
+of_checked files names docs before after Usage are cause = cause
+of_checked files names docs before after (FileFault name) are cause = absurd cause
+of_checked files names docs before after (FileTooLarge name) are cause = absurd cause
+of_checked files names docs before after (BadScript line) are cause = absurd cause
+of_checked files names docs before after (NotBuilt what) are cause = absurd cause
+
+pub of_reported : (files : Told) (names : List (List ℕ)) (docs : List Doc) (before after : ℕ) (r : Refusal) →
+    AreDocuments files names docs → HasSetCause docs r → HasCauseBy files (Report names) before after r
+of_reported files names docs before after (BadDocument number line kind) are cause = (docs, are, cause)
+of_reported files names docs before after (BadInstance index error) are cause = (docs, are, cause)
+of_reported files names docs before after OutOfMemory are cause = tt
+of_reported files names docs before after Usage are cause = cause
+of_reported files names docs before after (FileFault name) are cause = absurd cause
+of_reported files names docs before after (FileTooLarge name) are cause = absurd cause
+of_reported files names docs before after (BadScript line) are cause = absurd cause
+of_reported files names docs before after (NotBuilt what) are cause = absurd cause
 
 -- the causes of a script and documents that are run
 pub of_run : (files : Told) (script_name : List ℕ) (names : List (List ℕ)) (script : List ℕ) (docs : List Doc)
@@ -93,10 +105,13 @@ of_run files script_name names script docs before after (BadDocument number line
     (docs, (script, run, cause.0), cause.1)
 of_run files script_name names script docs before after (BadInstance index error) run cause =
     (docs, (script, run, cause.0), cause.1)
+of_run files script_name names script docs before after (BadScript line) run cause =
+    (script, docs, run, cause.0, cause.1)
 of_run files script_name names script docs before after (NotBuilt Document) run cause =
-    (docs, (script, run, cause.0), cause.1)
-of_run files script_name names script docs before after (NotBuilt Script) run cause = (script, docs, run, cause)
-of_run files script_name names script docs before after (NotBuilt ACommand) run cause = cause
+    (script, docs, run, cause.0, cause.1)
+of_run files script_name names script docs before after (NotBuilt Script) run cause =
+    (script, docs, run, cause.0, cause.1)
+of_run files script_name names script docs before after (NotBuilt ACommand) run cause = absurd cause
 of_run files script_name names script docs before after OutOfMemory run cause = tt
 of_run files script_name names script docs before after Usage run cause = cause
 of_run files script_name names script docs before after (FileFault name) run cause = absurd cause
@@ -109,6 +124,7 @@ of_command files words command before after (FileFault name) are cause = ((comma
 of_command files words command before after (FileTooLarge name) are cause = (command, are, cause)
 of_command files words command before after (BadDocument number line kind) are cause = (command, are, cause)
 of_command files words command before after (BadInstance index error) are cause = (command, are, cause)
+of_command files words command before after (BadScript line) are cause = (command, are, cause)
 of_command files words command before after (NotBuilt ACommand) are cause = absurd cause
 of_command files words command before after (NotBuilt Document) are cause = (command, are, cause)
 of_command files words command before after (NotBuilt Script) are cause = (command, are, cause)
@@ -141,6 +157,7 @@ behind_documents files names others docs before after OutOfMemory are cause = tt
 behind_documents files names others docs before after Usage are cause = cause
 behind_documents files names others docs before after (BadDocument number line kind) are cause = cause
 behind_documents files names others docs before after (BadInstance index error) are cause = cause
+behind_documents files names others docs before after (BadScript line) are cause = cause
 behind_documents files names others docs before after (NotBuilt what) are cause = cause
 
 -- the same of the first of these files alone
@@ -151,47 +168,6 @@ at_document files name names others docs before after r are cause =
     behind_documents files names (name ∷ others) docs before after r are
     (of_first files _ (document_files others) before after r cause)
 
--- the causes of documents that are compiled are causes of documents that aren't played
-pub of_judged : (docs : List Doc) (r : Refusal) → HasSetCause docs r → HasUnplayedCause docs r
-of_judged docs (BadDocument number line kind) cause = cause
-of_judged docs (BadInstance index error) cause = cause
-of_judged docs OutOfMemory cause = tt
-of_judged docs Usage cause = cause
-of_judged docs (FileFault name) cause = absurd cause
-of_judged docs (FileTooLarge name) cause = absurd cause
-of_judged docs (NotBuilt what) cause = absurd cause
-
--- these are causes of a run where the documents are not one in the first form
-pub of_unplayed : (script : List ℕ) (docs : List Doc) (r : Refusal) → IsNotFirst docs → HasUnplayedCause docs r →
-    HasRunCause script docs r
-of_unplayed script docs (BadDocument number line kind) not_first cause = (not_first, cause)
-of_unplayed script docs (BadInstance index error) not_first cause = (not_first, cause)
-of_unplayed script docs (NotBuilt Document) not_first cause = (not_first, cause)
-of_unplayed script docs (NotBuilt ACommand) not_first cause = absurd cause
-of_unplayed script docs (NotBuilt Script) not_first cause = absurd cause
-of_unplayed script docs OutOfMemory not_first cause = tt
-of_unplayed script docs Usage not_first cause = absurd cause
-of_unplayed script docs (FileFault name) not_first cause = absurd cause
-of_unplayed script docs (FileTooLarge name) not_first cause = absurd cause
-
--- what comes of a script for the one schema of documents
-pub of_script : (script : List ℕ) (docs : List Doc) (schema : Set) (r : Refusal) → IsFirst docs schema →
-    ((other : Set) → IsFirst docs other → other ≡ schema) → HasScriptCause schema script r → HasRunCause script docs r
-of_script script docs schema (NotBuilt Script) first only cause = record {
-  schema = schema;
-  first = first;
-  outside = λ other bind sends is_first of_script. cause bind sends
-      (subst (λ s. IsScriptFor s script bind sends) (only other is_first) of_script);
-}
-of_script script docs schema (NotBuilt ACommand) first only cause = absurd cause
-of_script script docs schema (NotBuilt Document) first only cause = absurd cause
-of_script script docs schema OutOfMemory first only cause = tt
-of_script script docs schema Usage first only cause = absurd cause
-of_script script docs schema (FileFault name) first only cause = absurd cause
-of_script script docs schema (FileTooLarge name) first only cause = absurd cause
-of_script script docs schema (BadDocument number line kind) first only cause = absurd cause
-of_script script docs schema (BadInstance index error) first only cause = absurd cause
-
 -- the same of any answer that is a refusal
 pub in_err : {X : Type 0} (P Q : Refusal → Type 0) (r : Result X Refusal) → ((e : Refusal) → P e → Q e) → IfErr r P →
     IfErr r Q
@@ -201,29 +177,3 @@ in_err P Q (Err e) weaker p = weaker e p
 pub in_ok : {X E : Type 0} (P Q : X → Type 0) (r : Result X E) → ((x : X) → P x → Q x) → IfOk r P → IfOk r Q
 in_ok P Q (Ok x) weaker p = weaker x p
 in_ok P Q (Err e) weaker p = tt
-
--- what is told of the one document is told of documents of which there is one
-pub told_of_one : (docs : List Doc) (doc : Doc) (told : Option Set) → docs ≡ doc ∷ [] →
-    TellsSchema doc.bytes.items told → TellsFirst docs told
-told_of_one docs doc None only tells = λ schema first. tells schema
-    (subst (λ d. IsDocument d.bytes.items schema) (first_doc (sym first.only ∙ only)) first.document_is)
-  where
-    first_doc : {a b : Doc} → a ∷ [] ≡ b ∷ [] → a ≡ b
-    first_doc {a} {b} same = ap (λ ds. get_or ds 0 a) same
-told_of_one docs doc (Some schema) only tells = (
-  record { document = doc; only = only; document_is = tells.0 },
-  λ other first. tells.1 other
-      (subst (λ d. IsDocument d.bytes.items other) (first_doc (sym first.only ∙ only)) first.document_is),
-  tells.2,
-)
-  where
-    first_doc : {a b : Doc} → a ∷ [] ≡ b ∷ [] → a ≡ b
-    first_doc {a} {b} same = ap (λ ds. get_or ds 0 a) same
-
-pub one_document : (docs : List Doc) (doc : Doc) → length docs ≡ 1 → doc ≡ get_or docs 0 doc → docs ≡ doc ∷ []
-one_document [] doc one is = absurd (omega (arith, one))
-one_document (d ∷ []) doc one is = ap (λ x. x ∷ []) (sym is)
-one_document (d ∷ (other ∷ rest)) doc one is = absurd (omega (arith, one))
-
-pub not_one : (docs : List Doc) → (length docs ≡ 1 → ⊥) → IsNotFirst docs
-not_one docs other schema first = other (ap (λ ds. length ds) first.only)

@@ -9,22 +9,22 @@ use Rattle.agent_bytes.specs.Faults.{Rose}
 use Rattle.agent_bytes.specs.Told.{IsFile, IsLonger}
 use Rattle.agent_run.specs.declared.refusal.Refusal.{Refusal}
 use Rattle.agent_run.specs.declared.refusal.Refusal.TheVariants.{Usage, FileFault, FileTooLarge, BadDocument}
-use Rattle.agent_run.specs.declared.refusal.Refusal.TheVariants.{BadInstance, NotBuilt, OutOfMemory}
+use Rattle.agent_run.specs.declared.refusal.Refusal.TheVariants.{BadInstance, BadScript, NotBuilt, OutOfMemory}
 use Rattle.agent_run.specs.declared.refusal.Unbuilt.{Unbuilt}
 use Rattle.agent_run.specs.declared.refusal.Unbuilt.TheVariants.{Command as ACommand, Document, Script}
 use Rattle.command_line.specs.WordForms.{Command, IsUnbuilt}
 use Rattle.command_line.specs.WordForms.Command.{Run}
 use Rattle.command_line.proofs.CommandLaws.{one_run}
 use Rattle.document_parts.specs.declared.documents.Doc.{Doc}
-use Rattle.agent_run.specs.Answers.{EndsByBadDocument, EndsByFileFault, EndsByFileTooLarge, EndsByNotBuilt}
-use Rattle.agent_run.specs.Answers.{EndsByUsage, HasBytes, IsPut, IsRunnable}
+use Rattle.agent_run.specs.Answers.{EndsByBadDocument, EndsByBadScript, EndsByFileFault, EndsByFileTooLarge}
+use Rattle.agent_run.specs.Answers.{EndsByNotBuilt, EndsByUsage, HasBytes, IsPut, IsRunnable}
 use Rattle.agent_run.specs.Files.{AreDocuments, NamesLonger, Told, most_document, most_script}
 use Rattle.agent_run.specs.Files.{run_files}
 use Rattle.agent_run.specs.Files.AreDocuments.{no_document, document}
 use Rattle.agent_run.specs.Files.Reaches.{here, behind}
-use Rattle.agent_run.specs.Refusing.{HasCause, HasNoScript, IsOutside, IsUnplayed, OfCommand, line_of}
-use Rattle.agent_run.specs.Refusing.{status_of}
-use Rattle.agent_run.specs.Running.{IsDocument, IsFirst, IsScriptFor}
+use Rattle.first_run.specs.FirstRuns.{AreInFirstForms, IsDocument, IsFirst, IsScriptFor}
+use Rattle.agent_run.specs.Refusing.{AreRunFiles, HasBadScript, HasCause, HasNoScript, HasRunFault, IsOutside}
+use Rattle.agent_run.specs.Refusing.{IsUnplayed, OfCommand, line_of, status_of}
 use Rattle.agent_run.specs.Statuses.{all_statuses}
 
 -- what the status of a refusal is
@@ -34,19 +34,20 @@ Answered status r = (status ≡ status_of r) ⊎ (status ≡ 8)
 status_listed : (r : Refusal) → Contains all_statuses (status_of r)
 status_listed Usage = (1, omega arith, refl)
 status_listed (FileFault name) = (2, omega arith, refl)
-status_listed (FileTooLarge name) = (6, omega arith, refl)
+status_listed (FileTooLarge name) = (7, omega arith, refl)
 status_listed (BadDocument number line kind) = (3, omega arith, refl)
 status_listed (BadInstance index error) = (3, omega arith, refl)
-status_listed (NotBuilt what) = (7, omega arith, refl)
-status_listed OutOfMemory = (5, omega arith, refl)
+status_listed (BadScript line) = (4, omega arith, refl)
+status_listed (NotBuilt what) = (8, omega arith, refl)
+status_listed OutOfMemory = (6, omega arith, refl)
 
 pub written_listed : (status : ℕ) → (status ≡ 0) ⊎ (status ≡ 6) → Contains all_statuses status
 written_listed status (inl e) = (0, omega arith, sym e)
-written_listed status (inr e) = (4, omega arith, sym e)
+written_listed status (inr e) = (5, omega arith, sym e)
 
 pub answered_listed : (status : ℕ) (r : Refusal) → Answered status r → Contains all_statuses status
 answered_listed status r (inl e) = subst (λ n. Contains all_statuses n) (sym e) (status_listed r)
-answered_listed status r (inr e) = (5, omega arith, sym e)
+answered_listed status r (inr e) = (6, omega arith, sym e)
 
 -- a status that isn't that of want of memory is that of the refusal
 of_refusal : (status n : ℕ) (r : Refusal) → Answered status r → status ≡ n → n ≢ 8 → status_of r ≡ n
@@ -75,6 +76,7 @@ usage_of files words faults later out_before out_after before after status r end
     by (FileTooLarge name) cause line s = absurd (omega (arith, s))
     by (BadDocument number at kind) cause line s = absurd (omega (arith, s))
     by (BadInstance index error) cause line s = absurd (omega (arith, s))
+    by (BadScript number) cause line s = absurd (omega (arith, s))
     by (NotBuilt what) cause line s = absurd (omega (arith, s))
     by OutOfMemory cause line s = absurd (omega (arith, s))
 
@@ -94,6 +96,7 @@ file_fault_of files words faults later out_before out_after before after status 
     by (FileTooLarge name) cause line s = absurd (omega (arith, s))
     by (BadDocument number at kind) cause line s = absurd (omega (arith, s))
     by (BadInstance index error) cause line s = absurd (omega (arith, s))
+    by (BadScript number) cause line s = absurd (omega (arith, s))
     by (NotBuilt what) cause line s = absurd (omega (arith, s))
     by OutOfMemory cause line s = absurd (omega (arith, s))
 
@@ -112,6 +115,7 @@ too_large_of files words faults later out_before out_after before after status r
     by (FileFault name) cause line s = absurd (omega (arith, s))
     by (BadDocument number at kind) cause line s = absurd (omega (arith, s))
     by (BadInstance index error) cause line s = absurd (omega (arith, s))
+    by (BadScript number) cause line s = absurd (omega (arith, s))
     by (NotBuilt what) cause line s = absurd (omega (arith, s))
     by OutOfMemory cause line s = absurd (omega (arith, s))
 
@@ -132,6 +136,26 @@ bad_document_of files words faults later out_before out_after before after statu
     by Usage cause line s = absurd (omega (arith, s))
     by (FileFault name) cause line s = absurd (omega (arith, s))
     by (FileTooLarge name) cause line s = absurd (omega (arith, s))
+    by (BadScript number) cause line s = absurd (omega (arith, s))
+    by (NotBuilt what) cause line s = absurd (omega (arith, s))
+    by OutOfMemory cause line s = absurd (omega (arith, s))
+
+pub bad_script_of : (files : Told) (words : List (List ℕ)) (faults later out_before out_after : ℕ)
+    (before after : Option (List ℕ)) (status : ℕ) (r : Refusal) →
+    Ended files words faults later out_before out_after before after status r → status ≡ 5 →
+    EndsByBadScript files words out_before out_after before after
+bad_script_of files words faults later out_before out_after before after status r ended e =
+    by r ended.cause (ended.line (λ o. omega (arith, e, o)))
+    (of_refusal status 5 r ended.answered e (λ o. omega (arith, o)))
+  where
+    by : (r : Refusal) → HasCause files words faults later r → IsPut out_before out_after before after (line_of r) →
+        status_of r ≡ 5 → EndsByBadScript files words out_before out_after before after
+    by (BadScript number) cause line s = record { number = number; fault = cause; line = line }
+    by Usage cause line s = absurd (omega (arith, s))
+    by (FileFault name) cause line s = absurd (omega (arith, s))
+    by (FileTooLarge name) cause line s = absurd (omega (arith, s))
+    by (BadDocument number at kind) cause line s = absurd (omega (arith, s))
+    by (BadInstance index error) cause line s = absurd (omega (arith, s))
     by (NotBuilt what) cause line s = absurd (omega (arith, s))
     by OutOfMemory cause line s = absurd (omega (arith, s))
 
@@ -146,6 +170,7 @@ not_built_of files words faults later out_before out_after before after status r
     by : (r : Refusal) → HasCause files words faults later r → IsPut out_before out_after before after (line_of r) →
         status_of r ≡ 12 → EndsByNotBuilt files words out_before out_after before after
     by (NotBuilt what) cause line s = record { what = what; outside = cause; line = line }
+    by (BadScript number) cause line s = absurd (omega (arith, s))
     by Usage cause line s = absurd (omega (arith, s))
     by (FileFault name) cause line s = absurd (omega (arith, s))
     by (FileTooLarge name) cause line s = absurd (omega (arith, s))
@@ -201,19 +226,32 @@ unbuilt_is_no_run command script names unbuilt same = absurd_of (subst IsUnbuilt
     absurd_of : IsUnbuilt (Run script names) → ⊥
     absurd_of u = elim u [ ]
 
+-- the script and the documents of the run are in the first forms
+first_forms : (files : Told) (words : List (List ℕ)) (run : IsRunnable files words) (script : List ℕ)
+    (docs : List Doc) → AreRunFiles files run.script_name (run.document_name ∷ []) script docs →
+    AreInFirstForms script docs
+first_forms files words run script docs are = record {
+  schema = run.schema;
+  first = first_of files words run docs are.documents;
+  bind = run.bind;
+  sends = run.sends;
+  script_is = subst (λ text. IsScriptFor run.schema text run.bind run.sends)
+      (sym (sym are.script_is ∙ one_content files run.script_name run.script_name run.script are.within.bytes refl
+      run.script_told are.within.told)) run.script_is;
+}
+
+no_fault : (files : Told) (words : List (List ℕ)) (Fault : List ℕ → List Doc → Type 0)
+    (run : IsRunnable files words) → OfCommand words (λ command. HasRunFault files command Fault) → ⊥
+no_fault files words Fault run of =
+    let found = of_the_run files words (λ command. HasRunFault files command Fault) run of in
+    found.3 (first_forms files words run found.0 found.1 found.2)
+
 inside : (files : Told) (words : List (List ℕ)) (what : Unbuilt) → IsRunnable files words
     → IsOutside files words what → ⊥
 inside files words ACommand run outside = unbuilt_is_no_run outside.command run.script_name (run.document_name ∷ [])
     outside.unbuilt (one_run words run.script_name (run.document_name ∷ []) outside.command run.words_are outside.are)
-inside files words Document run outside =
-    let unplayed = of_the_run files words (IsUnplayed files) run outside in
-    unplayed.1.2 run.schema (first_of files words run unplayed.0 unplayed.1.1.documents)
-inside files words Script run outside =
-    let found = of_the_run files words (HasNoScript files) run outside in
-    found.3.outside run.schema run.bind run.sends (first_of files words run found.1 found.2.documents)
-    (subst (λ text. IsScriptFor run.schema text run.bind run.sends)
-    (sym (sym found.2.script_is ∙ one_content files run.script_name run.script_name run.script found.2.within.bytes refl
-    run.script_told found.2.within.told)) run.script_is)
+inside files words Document run outside = no_fault files words _ run outside
+inside files words Script run outside = no_fault files words _ run outside
 
 -- no refusal but that for want of memory has its cause
 no_cause : (files : Told) (words : List (List ℕ)) (faults later status : ℕ) (r : Refusal)
@@ -226,10 +264,12 @@ no_cause files words faults later status (FileTooLarge name) s cause run quiet =
     absurd (small_enough files words run name.now (of_the_run files words _ run cause))
 no_cause files words faults later status (BadDocument number line kind) s cause run quiet =
     let found = of_the_run files words _ run cause in
-    absurd (found.1.2 run.schema (first_of files words run found.0 found.1.1.documents))
+    absurd (found.1.2 (first_forms files words run found.1.0 found.0 found.1.1))
 no_cause files words faults later status (BadInstance index error) s cause run quiet =
     let found = of_the_run files words _ run cause in
-    absurd (found.1.2 run.schema (first_of files words run found.0 found.1.1.documents))
+    absurd (found.1.2 (first_forms files words run found.1.0 found.0 found.1.1))
+no_cause files words faults later status (BadScript line) s cause run quiet =
+    absurd (no_fault files words _ run cause)
 no_cause files words faults later status (NotBuilt what) s cause run quiet = absurd (inside files words what run cause)
 no_cause files words faults later status OutOfMemory s cause run quiet = inr s
 

@@ -8,13 +8,13 @@ use Rattle.command_line.specs.WordForms.{AreInNoForm, AreWordsOf}
 use Rattle.command_line.specs.WordForms.Command.{Run}
 use Rattle.document_parts.specs.declared.documents.Doc.{Doc}
 use Rattle.template_compile.specs.declared.refusal.Kind.{Kind}
-use Rattle.set_commands.specs.CommandTexts.{IsBadInstance}
+use Rattle.first_run.specs.FirstRuns.{IsDocument, IsScriptFor}
 use Rattle.template_compile.specs.DocumentFaults.{IsTold}
 use Rattle.term_model.specs.declared.schema.Set.{Set}
 use Rattle.agent_run.specs.Files.{IsNamed, IsTooLarge, Told, most_document, most_script}
-use Rattle.agent_run.specs.Refusing.{AreCompiledBy, IsOutside, IsTextBy, OfCommand, bad_document_line}
-use Rattle.agent_run.specs.Refusing.{bad_instance_line, file_line, not_built_line, too_large_line, usage_line}
-use Rattle.agent_run.specs.Running.{IsDocument, IsScriptFor}
+use Rattle.agent_run.specs.Refusing.{AreCompiledBy, HasBadScript, IsBadInstanceBy, IsOutside, IsTextBy, OfCommand}
+use Rattle.agent_run.specs.Refusing.{bad_document_line, bad_instance_line, bad_script_line, file_line, not_built_line}
+use Rattle.agent_run.specs.Refusing.{too_large_line, usage_line}
 
 -- These bytes were written; or, where a call of the output failed, a part of them. The counts are those of the output's
 -- faults.
@@ -69,13 +69,20 @@ pub record EndsByInstance (files : Told) (words : List (List ℕ)) (out_before o
   pub index : ℕ
   pub error : ℕ
   pub fault : OfCommand words (λ command.
-      (docs : List Doc) × AreCompiledBy files command docs × IsBadInstance docs index error)
+      (docs : List Doc) × AreCompiledBy files command docs × IsBadInstanceBy command docs index error)
   pub line : IsPut out_before out_after before after (bad_instance_line index error)
 
 abbrev pub EndsByBadDocument : Told → List (List ℕ) → ℕ → ℕ → Option (List ℕ) → Option (List ℕ) → Type 0
 EndsByBadDocument files words out_before out_after before after =
     EndsByFault files words out_before out_after before after
     ⊎ EndsByInstance files words out_before out_after before after
+
+-- the line of the script that is printed breaks its form or a condition
+pub record EndsByBadScript (files : Told) (words : List (List ℕ)) (out_before out_after : ℕ)
+    (before after : Option (List ℕ)) : Type 0 where
+  pub number : ℕ
+  pub fault : OfCommand words (λ command. HasBadScript files command number)
+  pub line : IsPut out_before out_after before after (bad_script_line number)
 
 -- the words, the documents or the script are outside their forms, as the line says
 pub record EndsByNotBuilt (files : Told) (words : List (List ℕ)) (out_before out_after : ℕ)

@@ -4,7 +4,7 @@ use Rattle.std.specs.Prelude.{◌≡◌, ℕ, List, ◌++◌, codes, decimal}
 use Rattle.agent_bytes.specs.Faults.{Rose}
 use Rattle.agent_run.specs.declared.refusal.Refusal.{Refusal}
 use Rattle.agent_run.specs.declared.refusal.Refusal.TheVariants.{Usage, FileFault, FileTooLarge, BadDocument}
-use Rattle.agent_run.specs.declared.refusal.Refusal.TheVariants.{BadInstance, NotBuilt, OutOfMemory}
+use Rattle.agent_run.specs.declared.refusal.Refusal.TheVariants.{BadInstance, BadScript, NotBuilt, OutOfMemory}
 use Rattle.agent_run.specs.declared.refusal.Unbuilt.{Unbuilt}
 use Rattle.agent_run.specs.declared.refusal.Unbuilt.TheVariants.{Command as ACommand, Document, Script}
 use Rattle.command_line.specs.WordForms.{AreInNoForm, AreUnbuilt, AreWordsOf, Command}
@@ -12,14 +12,16 @@ use Rattle.command_line.specs.WordForms.Command.{Check, Report, Run, Replay, Ser
 use Rattle.document_parts.specs.declared.documents.Doc.{Doc}
 use Rattle.template_compile.specs.declared.refusal.Kind.{Kind}
 use Rattle.template_compile.specs.declared.refusal.Kind.TheVariants as K
-use Rattle.set_commands.specs.CommandTexts.{AreAccepted, IsBadInstance, IsChecked, IsReported}
+use Rattle.first_run.specs.FirstRuns.{AreInOtherForms}
+use Rattle.run_command.specs.ScriptRuns.{IsBadInstance as IsUnopened, IsBadScript, IsUnplayedDocument, IsUnplayedScript}
+use Rattle.set_commands.specs.CommandTexts.{IsBadInstance, IsChecked, IsReported}
 use Rattle.template_compile.specs.DocumentFaults.{IsTold}
-use Rattle.term_model.specs.declared.schema.Set.{Set}
 use Rattle.term_model.specs.Texts.{line_feed}
 use Rattle.agent_run.specs.Files.{AreDocuments, FileToRead, IsWithin, Names, NamesLonger, Told}
 use Rattle.agent_run.specs.Files.{files_of, most_script}
-use Rattle.agent_run.specs.Running.{IsFirst, IsNotFirst, IsRun, IsScriptFor}
-use Rattle.agent_run.specs.Statuses.{bad_document, file_fault, file_too_large, not_built, out_of_memory, usage}
+use Rattle.agent_run.specs.Running.{IsRun}
+use Rattle.agent_run.specs.Statuses.{bad_document, bad_script, file_fault, file_too_large, not_built, out_of_memory}
+use Rattle.agent_run.specs.Statuses.{usage}
 
 -- the script of a run and its documents
 pub record AreRunFiles (files : Told) (script_name : List ℕ) (names : List (List ℕ)) (script : List ℕ)
@@ -38,41 +40,46 @@ IsTextBy files (Replay journal names) text = ⊥
 IsTextBy files (Serve address sessions workers names) text = ⊥
 IsTextBy files (Load seed count) text = ⊥
 
--- the documents that a command compiles: those of `run` where they are not one document in the first form
+-- the documents that a command compiles: those of `run` where they and the script are not in the first forms
 abbrev pub AreCompiledBy : Told → Command → List Doc → Type 0
 AreCompiledBy files (Check names) docs = AreDocuments files names docs
 AreCompiledBy files (Report names) docs = AreDocuments files names docs
 AreCompiledBy files (Run script_name names) docs = (script : List ℕ)
-    × AreRunFiles files script_name names script docs × IsNotFirst docs
+    × AreRunFiles files script_name names script docs × AreInOtherForms script docs
 AreCompiledBy files (Replay journal names) docs = ⊥
 AreCompiledBy files (Serve address sessions workers names) docs = ⊥
 AreCompiledBy files (Load seed count) docs = ⊥
 
--- the documents of a run are accepted, and they are not one document in the first form
+-- an instance of documents that a command compiles can't be opened; `run` opens them also where no section INSTANCES
+-- stands
+abbrev pub IsBadInstanceBy : Command → List Doc → ℕ → ℕ → Type 0
+IsBadInstanceBy (Check names) docs index error = IsBadInstance docs index error
+IsBadInstanceBy (Report names) docs index error = IsBadInstance docs index error
+IsBadInstanceBy (Run script_name names) docs index error = IsUnopened docs index error
+IsBadInstanceBy (Replay journal names) docs index error = ⊥
+IsBadInstanceBy (Serve address sessions workers names) docs index error = ⊥
+IsBadInstanceBy (Load seed count) docs index error = ⊥
+
+-- a script and documents of a run that are compiled have this fault
+abbrev pub HasRunFault : Told → Command → (List ℕ → List Doc → Type 0) → Type 0
+HasRunFault files (Run script_name names) Fault = (script : List ℕ) × (docs : List Doc)
+    × AreRunFiles files script_name names script docs × AreInOtherForms script docs × Fault script docs
+HasRunFault files (Check names) Fault = ⊥
+HasRunFault files (Report names) Fault = ⊥
+HasRunFault files (Replay journal names) Fault = ⊥
+HasRunFault files (Serve address sessions workers names) Fault = ⊥
+HasRunFault files (Load seed count) Fault = ⊥
+
+-- some class of the documents has what isn't played yet
 abbrev pub IsUnplayed : Told → Command → Type 0
-IsUnplayed files (Run script_name names) =
-    (docs : List Doc) × AreCompiledBy files (Run script_name names) docs × AreAccepted docs
-IsUnplayed files (Check names) = ⊥
-IsUnplayed files (Report names) = ⊥
-IsUnplayed files (Replay journal names) = ⊥
-IsUnplayed files (Serve address sessions workers names) = ⊥
-IsUnplayed files (Load seed count) = ⊥
+IsUnplayed files command = HasRunFault files command (λ script docs. IsUnplayedDocument docs)
 
--- the one document is in the first form, and the script is not in the form for its class
-pub record IsNoScript (script : List ℕ) (docs : List Doc) : Type 0 where
-  pub schema : Set
-  pub first : IsFirst docs schema
-  pub outside : (other : Set) (bind : List ℕ) (sends : List (List ℕ)) → IsFirst docs other
-      → IsScriptFor other script bind sends → ⊥
-
+-- some request of the script isn't carried out yet
 abbrev pub HasNoScript : Told → Command → Type 0
-HasNoScript files (Run script_name names) = (script : List ℕ) × (docs : List Doc)
-    × AreRunFiles files script_name names script docs × IsNoScript script docs
-HasNoScript files (Check names) = ⊥
-HasNoScript files (Report names) = ⊥
-HasNoScript files (Replay journal names) = ⊥
-HasNoScript files (Serve address sessions workers names) = ⊥
-HasNoScript files (Load seed count) = ⊥
+HasNoScript files command = HasRunFault files command IsUnplayedScript
+
+abbrev pub HasBadScript : Told → Command → ℕ → Type 0
+HasBadScript files command line = HasRunFault files command (λ script docs. IsBadScript script docs line)
 
 abbrev pub IsOutsideBy : Told → Command → Unbuilt → Type 0
 IsOutsideBy files command ACommand = ⊥
@@ -89,7 +96,8 @@ HasCauseBy files command before after (FileTooLarge name) = NamesLonger files (f
 HasCauseBy files command before after (BadDocument document line kind) =
     (docs : List Doc) × AreCompiledBy files command docs × IsTold docs document line kind
 HasCauseBy files command before after (BadInstance index error) =
-    (docs : List Doc) × AreCompiledBy files command docs × IsBadInstance docs index error
+    (docs : List Doc) × AreCompiledBy files command docs × IsBadInstanceBy command docs index error
+HasCauseBy files command before after (BadScript line) = HasBadScript files command line
 HasCauseBy files command before after (NotBuilt what) = IsOutsideBy files command what
 HasCauseBy files command before after OutOfMemory = Unit {0}
 
@@ -113,7 +121,8 @@ HasCause files words before after (FileTooLarge name) =
 HasCause files words before after (BadDocument document line kind) = OfCommand words (λ command.
     (docs : List Doc) × AreCompiledBy files command docs × IsTold docs document line kind)
 HasCause files words before after (BadInstance index error) = OfCommand words (λ command.
-    (docs : List Doc) × AreCompiledBy files command docs × IsBadInstance docs index error)
+    (docs : List Doc) × AreCompiledBy files command docs × IsBadInstanceBy command docs index error)
+HasCause files words before after (BadScript line) = OfCommand words (λ command. HasBadScript files command line)
 HasCause files words before after (NotBuilt what) = IsOutside files words what
 HasCause files words before after OutOfMemory = Unit {0}
 
@@ -129,14 +138,6 @@ HasFileCause files reading before after (FileTooLarge name) = NamesLonger files 
 HasFileCause files reading before after OutOfMemory = Unit {0}
 HasFileCause files reading before after _ = ⊥
 
--- the causes that documents alone may give where they are not one document in the first form
-abbrev pub HasUnplayedCause : List Doc → Refusal → Type 0
-HasUnplayedCause docs (BadDocument document line kind) = IsTold docs document line kind
-HasUnplayedCause docs (BadInstance index error) = IsBadInstance docs index error
-HasUnplayedCause docs (NotBuilt Document) = AreAccepted docs
-HasUnplayedCause docs OutOfMemory = Unit {0}
-HasUnplayedCause docs _ = ⊥
-
 -- the causes that documents alone may give where they are compiled
 abbrev pub HasSetCause : List Doc → Refusal → Type 0
 HasSetCause docs (BadDocument document line kind) = IsTold docs document line kind
@@ -144,19 +145,13 @@ HasSetCause docs (BadInstance index error) = IsBadInstance docs index error
 HasSetCause docs OutOfMemory = Unit {0}
 HasSetCause docs _ = ⊥
 
--- the causes that a script for the class of a schema may give
-abbrev pub HasScriptCause : Set → List ℕ → Refusal → Type 0
-HasScriptCause schema script (NotBuilt Script) =
-    (bind : List ℕ) (sends : List (List ℕ)) → IsScriptFor schema script bind sends → ⊥
-HasScriptCause schema script OutOfMemory = Unit {0}
-HasScriptCause schema script _ = ⊥
-
 -- the causes that a script and documents may give together
 abbrev pub HasRunCause : List ℕ → List Doc → Refusal → Type 0
-HasRunCause script docs (BadDocument document line kind) = IsNotFirst docs × IsTold docs document line kind
-HasRunCause script docs (BadInstance index error) = IsNotFirst docs × IsBadInstance docs index error
-HasRunCause script docs (NotBuilt Document) = IsNotFirst docs × AreAccepted docs
-HasRunCause script docs (NotBuilt Script) = IsNoScript script docs
+HasRunCause script docs (BadDocument document line kind) = AreInOtherForms script docs × IsTold docs document line kind
+HasRunCause script docs (BadInstance index error) = AreInOtherForms script docs × IsUnopened docs index error
+HasRunCause script docs (BadScript line) = AreInOtherForms script docs × IsBadScript script docs line
+HasRunCause script docs (NotBuilt Document) = AreInOtherForms script docs × IsUnplayedDocument docs
+HasRunCause script docs (NotBuilt Script) = AreInOtherForms script docs × IsUnplayedScript script docs
 HasRunCause script docs OutOfMemory = Unit {0}
 HasRunCause script docs _ = ⊥
 
@@ -167,6 +162,7 @@ status_of (FileFault name) = file_fault
 status_of (FileTooLarge name) = file_too_large
 status_of (BadDocument document line kind) = bad_document
 status_of (BadInstance index error) = bad_document
+status_of (BadScript line) = bad_script
 status_of (NotBuilt what) = not_built
 status_of OutOfMemory = out_of_memory
 
@@ -221,6 +217,9 @@ bad_document_line document line kind =
 abbrev pub bad_instance_line : ℕ → ℕ → List ℕ
 bad_instance_line index error = two_numbers (codes "bad instance ") index error ++ line_feed
 
+abbrev pub bad_script_line : ℕ → List ℕ
+bad_script_line line = numbered (codes "bad script ") line ++ line_feed
+
 abbrev pub not_built_line : Unbuilt → List ℕ
 not_built_line what = codes "not built " ++ (unbuilt_name what ++ line_feed)
 
@@ -233,5 +232,6 @@ line_of (FileFault name) = file_line name.now
 line_of (FileTooLarge name) = too_large_line name.now
 line_of (BadDocument document line kind) = bad_document_line document line kind
 line_of (BadInstance index error) = bad_instance_line index error
+line_of (BadScript line) = bad_script_line line
 line_of (NotBuilt what) = not_built_line what
 line_of OutOfMemory = memory_line

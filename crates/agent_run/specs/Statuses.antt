@@ -18,6 +18,10 @@ file_fault = 3
 abbrev pub bad_document : ℕ
 bad_document = 4
 
+-- a line of the script breaks its form or a condition
+abbrev pub bad_script : ℕ
+bad_script = 5
+
 -- a call of the output failed where everything else was done
 abbrev pub write_fault : ℕ
 write_fault = 6
@@ -35,4 +39,5 @@ abbrev pub not_built : ℕ
 not_built = 12
 
 abbrev pub all_statuses : List ℕ
-all_statuses = done ∷ usage ∷ file_fault ∷ bad_document ∷ write_fault ∷ out_of_memory ∷ file_too_large ∷ not_built ∷ []
+all_statuses = done ∷ usage ∷ file_fault ∷ bad_document ∷ bad_script ∷ write_fault ∷ out_of_memory ∷ file_too_large
+    ∷ not_built ∷ []

@@ -1,104 +1,36 @@
-//! The command `run`: a script played on the objects of a document, or why it isn't (docs/OPERATING.md, Commands).
+//! The command `run`: a script played on the objects of documents, or why it isn't (docs/OPERATING.md, Commands).
 
-ghost use Rattle.std.specs.Prelude.{◌≡◌, ◌≤◌, length, map, string_bytes, IfErr, IfOk, IsSome, OnOk};
-ghost use Rattle.agent_run.specs.Refusing.{HasCauseBy, HasRunCause, HasScriptCause, HasUnplayedCause, IsTextBy};
-ghost use Rattle.agent_run.specs.Refusing.{KeepsCount};
-ghost use Rattle.agent_run.specs.Running.{IsPlayed, IsRun, IsRunOn, IsScriptFor, OpensWell, TellsFirst, TellsSchema};
+ghost use Rattle.std.specs.Prelude.{◌≡◌, ◌≤◌, length, map, string_bytes, IfErr, IfOk, OnOk};
+ghost use Rattle.agent_run.specs.Refusing.{HasCauseBy, HasRunCause, IsTextBy, KeepsCount};
+ghost use Rattle.agent_run.specs.Running.{IsOtherRun, IsRun};
 ghost use Rattle.command_line.specs.WordForms.Command.{Run};
-ghost use Rattle.term_model.specs.Bind.{title_in};
+ghost use Rattle.first_run.specs.FirstRuns.{AreInOtherForms};
 
 use crate::file_reading::{read_documents, read_file};
-use crate::refusal::{Refusal, Unbuilt, of_set};
+use crate::refusal::{Refusal, of_run};
 use agent_bytes::Files;
-use first_document::{DocumentRefusal, read_document};
-use first_script::{Script, ScriptRefusal, read_script};
-use journal_text::texts::run_text;
-use one_manager_agent::playing::perform_script;
-use set_commands::{Doc, judge};
-use std::alloc::{AllocError, Global};
-use term_model::{Limits, Set};
-use text_lex::{LexRefusal, lex};
+use first_run::first_run_text;
+use run_command::run_text;
+use set_commands::Doc;
+use std::alloc::Global;
 
 /// The most bytes of a script.
 const MOST_SCRIPT: u64 = 16_777_216;
 
-/// The records of a document in the first form; none where it is in another one.
-fn read_schema(alloc: Global, document: &[u8]) -> Result<Option<Set>, AllocError>
-    ensures { IfOk result (TellsSchema document.now) }
-{
-    let tokens = match lex(alloc, document) {
-        Ok(tokens) => tokens,
-        Err(LexRefusal::Fault { .. }) => return Ok(None),
-        Err(LexRefusal::Memory) => return Err(AllocError),
-    };
-    match read_document(alloc, &tokens) {
-        Ok(schema) => Ok(Some(schema)),
-        Err(DocumentRefusal::Outside) => Ok(None),
-        Err(DocumentRefusal::Memory) => Err(AllocError),
-    }
-}
-
-/// The records of documents of which there is one, in the first form; none where they are others.
-fn first_schema(alloc: Global, documents: &[Doc]) -> Result<Option<Set>, AllocError>
-    ensures { IfOk result (TellsFirst documents.now) }
-{
-    if documents.len() != 1 {
-        return Ok(None);
-    }
-    read_schema(alloc, documents[0].bytes.as_slice())
-}
-
-/// Why documents are not played that are not one in the first form.
-fn unplayed(alloc: Global, documents: &[Doc]) -> Refusal<'static>
+/// What `run` prints of a script and documents that are not in the first forms.
+fn perform_others(
+    alloc: Global,
+    script: &[u8],
+    documents: &[Doc],
+) -> Result<Vec<u8>, Refusal<'static>>
     requires few { length documents.now ≤ 64 }
-    ensures { HasUnplayedCause documents.now result }
+    requires others { AreInOtherForms script.now documents.now }
+    ensures text { IfOk result (λ text. IsOtherRun script.now documents.now text.items) }
+    ensures cause { IfErr result (HasRunCause script.now documents.now) }
 {
-    match judge(alloc, documents) {
-        Ok(()) => Refusal::NotBuilt(Unbuilt::Document),
-        Err(refusal) => of_set(&refusal),
-    }
-}
-
-/// The script, for the class of a document.
-fn read_script_for(alloc: Global, text: &[u8], schema: &Set) -> Result<Script, Refusal<'static>>
-    ensures found { IfOk result (λ script. IsScriptFor schema.now text.now script.bind script.sends.items) }
-    ensures bound { IfOk result (λ script. IsSome (title_in script.bind)) }
-    ensures cause { IfErr result (HasScriptCause schema.now text.now) }
-{
-    match schema.classes.as_slice() {
-        [class] => match read_script(alloc, text, &class.id) {
-            Ok(script) => Ok(script),
-            Err(ScriptRefusal::Outside) => Err(Refusal::NotBuilt(Unbuilt::Script)),
-            Err(ScriptRefusal::Memory) => Err(Refusal::OutOfMemory),
-        },
-        _ => Err(Refusal::NotBuilt(Unbuilt::Script)),
-    }
-}
-
-/// What `run` prints of a script that is played on a schema.
-fn play(alloc: Global, schema: Set, script: Script) -> Result<Vec<u8>, AllocError>
-    requires bound { IsSome (title_in script.bind) }
-    requires opening { OpensWell schema }
-    ensures { IfOk result (λ text. IsPlayed schema script.bind script.sends.items text.items) }
-{
-    let limits = Limits::shipped();
-    let played = perform_script(alloc, schema, limits, script.bind, script.sends)?;
-    let journal = played.journal();
-    let agent = played.agent();
-    let text = run_text(alloc, journal, agent)?;
-    Ok(text)
-}
-
-/// What `run` prints of the text of a script on a schema.
-fn run_on(alloc: Global, script: &[u8], schema: Set) -> Result<Vec<u8>, Refusal<'static>>
-    requires opening { OpensWell schema }
-    ensures text { IfOk result (λ text. IsRunOn schema script.now text.items) }
-    ensures cause { IfErr result (HasScriptCause schema script.now) }
-{
-    let script = read_script_for(alloc, script, &schema)?;
-    match play(alloc, schema, script) {
+    match run_text(alloc, script, documents) {
         Ok(text) => Ok(text),
-        Err(_) => Err(Refusal::OutOfMemory),
+        Err(refusal) => Err(of_run(&refusal)),
     }
 }
 
@@ -108,9 +40,9 @@ fn perform(alloc: Global, script: &[u8], documents: &[Doc]) -> Result<Vec<u8>, R
     ensures text { IfOk result (λ text. IsRun script.now documents.now text.items) }
     ensures cause { IfErr result (HasRunCause script.now documents.now) }
 {
-    match first_schema(alloc, documents) {
-        Ok(Some(schema)) => run_on(alloc, script, schema),
-        Ok(None) => Err(unplayed(alloc, documents)),
+    match first_run_text(alloc, script, documents) {
+        Ok(Some(text)) => Ok(text),
+        Ok(None) => perform_others(alloc, script, documents),
         Err(_) => Err(Refusal::OutOfMemory),
     }
 }

@@ -1,13 +1,17 @@
 //! How a command ends when it is not done: its status, and the line that says why (docs/OPERATING.md, Commands).
 
-ghost use Rattle.std.specs.Prelude.{◌≡◌, ◌++◌, List, IfOk, OnOk};
+ghost use Rattle.std.specs.Prelude.{◌≡◌, ◌++◌, ℕ, List, IfOk, OnOk};
 ghost use Rattle.term_model.specs.Texts.{line_feed};
-ghost use Rattle.agent_run.specs.Refusing.{HasSetCause, bad_document_line, bad_instance_line, kind_name, line_of};
-ghost use Rattle.agent_run.specs.Refusing.{numbered, status_of, two_numbers, unbuilt_name};
+ghost use Rattle.agent_run.specs.Refusing.{HasRunCause, HasSetCause, bad_document_line, bad_instance_line};
+ghost use Rattle.agent_run.specs.Refusing.{bad_script_line, kind_name, line_of, numbered, status_of, two_numbers};
+ghost use Rattle.agent_run.specs.Refusing.{unbuilt_name};
+ghost use Rattle.first_run.specs.FirstRuns.{AreInOtherForms};
+ghost use Rattle.run_command.specs.ScriptRuns.{HasCause as HasRunRefusalCause};
 ghost use Rattle.set_commands.specs.CommandTexts.{HasCause as HasSetRefusalCause};
 ghost use Rattle.document_parts.specs.declared.documents.Doc.{Doc};
 
 use journal_text::texts::{LINE_FEED, write_decimal};
+use run_command::RunRefusal;
 use set_commands::{Kind, SetRefusal};
 use std::alloc::{AllocError, Global};
 
@@ -22,6 +26,9 @@ pub const FILE_FAULT: u8 = 3;
 
 /// A document has a fault, or an instance can't be opened.
 pub const BAD_DOCUMENT: u8 = 4;
+
+/// A line of the script breaks its form or a condition.
+pub const BAD_SCRIPT: u8 = 5;
 
 /// A call of the output failed.
 pub const WRITE_FAULT: u8 = 6;
@@ -59,6 +66,8 @@ pub enum Refusal<'a> {
     BadDocument(u32, u32, Kind),
     /// An instance can't be opened: which one, counted from 1, and the number of the error that its creation has.
     BadInstance(u32, u32),
+    /// A line of the script, counted from 1, breaks the form, or an association is not as the line asks.
+    BadScript(u64),
     /// What the words name is not built.
     NotBuilt(Unbuilt),
     /// There was no memory.
@@ -114,11 +123,11 @@ fn write_line(words: &str, rest: &str, into: &mut Vec<u8>) -> Result<(), AllocEr
 }
 
 /// Appends words and a number.
-fn write_numbered(words: &str, number: u32, into: &mut Vec<u8>) -> Result<(), AllocError>
+fn write_numbered(words: &str, number: u64, into: &mut Vec<u8>) -> Result<(), AllocError>
     ensures { OnOk result (into.new.items ≡ into.old.items ++ numbered words.now number) }
 {
     into.extend_from_slice(words.as_bytes())?;
-    write_decimal(u64::from(number), into)
+    write_decimal(number, into)
 }
 
 /// Appends words and two numbers with a blank between them.
@@ -131,8 +140,8 @@ fn write_two_numbers(
 ) -> Result<(), AllocError>
     ensures { OnOk result (into.new.items ≡ into.old.items ++ two_numbers words.now one other) }
 {
-    write_numbered(words, one, into)?;
-    write_numbered(" ", other, into)
+    write_numbered(words, u64::from(one), into)?;
+    write_numbered(" ", u64::from(other), into)
 }
 
 /// Appends the line of a document's fault.
@@ -157,6 +166,34 @@ fn write_instance_line(index: u32, error: u32, into: &mut Vec<u8>) -> Result<(),
     write_two_numbers("bad instance ", index, error, into)?;
     into.push(LINE_FEED)?;
     Ok(())
+}
+
+/// Appends the line of a script's fault.
+fn write_script_line(line: u64, into: &mut Vec<u8>) -> Result<(), AllocError>
+    ensures { OnOk result (into.new.items ≡ into.old.items ++ bad_script_line line) }
+{
+    write_numbered("bad script ", line, into)?;
+    into.push(LINE_FEED)?;
+    Ok(())
+}
+
+/// Why a script is not played on documents.
+pub(crate) fn of_run(refusal: &RunRefusal) -> Refusal<'static>
+    ensures { (script : List ℕ) (docs : List Doc) → AreInOtherForms script docs
+        → HasRunRefusalCause script docs refusal.now → HasRunCause script docs result }
+{
+    match refusal {
+        RunRefusal::BadDocument {
+            document,
+            line,
+            kind,
+        } => Refusal::BadDocument(*document, *line, *kind),
+        RunRefusal::BadInstance { index, error } => Refusal::BadInstance(*index, *error),
+        RunRefusal::UnplayedDocument => Refusal::NotBuilt(Unbuilt::Document),
+        RunRefusal::BadScript { line } => Refusal::BadScript(*line),
+        RunRefusal::UnplayedScript => Refusal::NotBuilt(Unbuilt::Script),
+        RunRefusal::Memory => Refusal::OutOfMemory,
+    }
 }
 
 /// Why a command is not done whose documents are refused.
@@ -184,6 +221,7 @@ impl Refusal<'_> {
             Refusal::FileFault(_) => FILE_FAULT,
             Refusal::FileTooLarge(_) => FILE_TOO_LARGE,
             Refusal::BadDocument(_, _, _) | Refusal::BadInstance(_, _) => BAD_DOCUMENT,
+            Refusal::BadScript(_) => BAD_SCRIPT,
             Refusal::NotBuilt(_) => NOT_BUILT,
             Refusal::OutOfMemory => OUT_OF_MEMORY,
         }
@@ -201,6 +239,7 @@ impl Refusal<'_> {
                 write_document_line(*document, *line, *kind, into)
             }
             Refusal::BadInstance(index, error) => write_instance_line(*index, *error, into),
+            Refusal::BadScript(line) => write_script_line(*line, into),
             Refusal::NotBuilt(what) => write_line("not built ", unbuilt_name(*what), into),
             Refusal::OutOfMemory => write_line("memory", "", into),
         }

@@ -5,8 +5,9 @@ ghost use Rattle.std.specs.Prelude.{◌≡◌, ◌≢◌, ◌⊎◌, ◌≤◌, 
 ghost use Rattle.std.specs.Prelude.{IsSome, OnOk};
 ghost use Rattle.agent_bytes.specs.Faults.{Rose};
 ghost use Rattle.agent_bytes.specs.Told.{GainsPart, gained};
-ghost use Rattle.agent_run.specs.Answers.{EndsByBadDocument, EndsByFileFault, EndsByFileTooLarge, EndsByNotBuilt};
-ghost use Rattle.agent_run.specs.Answers.{EndsByUsage, EndsByWriteFault, IsPut, IsRunnable, IsTextOf, Prints};
+ghost use Rattle.agent_run.specs.Answers.{EndsByBadDocument, EndsByBadScript, EndsByFileFault, EndsByFileTooLarge};
+ghost use Rattle.agent_run.specs.Answers.{EndsByNotBuilt, EndsByUsage, EndsByWriteFault, IsPut, IsRunnable, IsTextOf};
+ghost use Rattle.agent_run.specs.Answers.{Prints};
 ghost use Rattle.agent_run.specs.Refusing.{HasCause, HasCauseBy, IsTextBy, KeepsCount, line_of, memory_line};
 ghost use Rattle.agent_run.specs.Refusing.{status_of};
 ghost use Rattle.agent_run.specs.Statuses as status;
@@ -138,13 +139,13 @@ fn refuse<O: Sink>(alloc: Global, refusal: &Refusal<'_>, out: &mut O) -> u8
 /// The words are `check DOC..`, `report DOC..` or `run SCRIPT DOC..`, with 1 to 64 documents. The files are read in this
 /// order. `check` compiles the documents, opens their objects where a section INSTANCES stands, and writes how many
 /// documents, templates of each kind, types and objects there are; `report` writes the text of the schema. `run` plays
-/// the script on the objects of one document in the first form, and writes the journal, a line of two dashes, a line
-/// `out A HEX` for each association and a line `objects N`.
+/// the script on the objects of the documents, and writes the journal, a line of two dashes, a line `out A HEX` for each
+/// association and a line `objects N`.
 ///
 /// With another status than 0 and 6 one line is written that says why. Words in no form end with 2, a call of the files
 /// that fails with 3, a file past its limit with 10, documents with a fault, or with an instance that can't be opened,
-/// with 4, a command, documents that aren't played or a script that are not built with 12, and want of memory with 8.
-/// The line of 3 and 10 names the first file in the order of the words that has either cause. A failed write ends a
+/// with 4, a script with a bad line with 5, a command, documents or a script that are not built with 12, and want of
+/// memory with 8. The line of 3 and 10 names the first file in the order of the words that has either cause. A failed write ends a
 /// command that would else end with 0 with 6, and changes no other status.
 pub fn agent<R: AllocGlobal, F: Files, O: Sink>(
     rt: &R,
@@ -152,8 +153,8 @@ pub fn agent<R: AllocGlobal, F: Files, O: Sink>(
     files: &mut F,
     out: &mut O,
 ) -> u8
-    // What was written is the text of the command: what the named script comes to on the named document, its journal and
-    // what the agent placed; the counts of the named documents; or the text of a schema.
+    // What was written is the text of the command: what the named script comes to on the named documents, its journal
+    // and what the agent placed; the counts of the named documents; or the text of a schema.
     ensures printed { result ≡ status.done
         → Prints (F.files files.old) (map string_bytes words.now) (O.contents out.old) (O.contents out.new) }
 
@@ -170,6 +171,9 @@ pub fn agent<R: AllocGlobal, F: Files, O: Sink>(
         (O.faults out.old) (O.faults out.new) (O.contents out.old) (O.contents out.new) }
     ensures bad_document { result ≡ status.bad_document
         → EndsByBadDocument (F.files files.old) (map string_bytes words.now)
+        (O.faults out.old) (O.faults out.new) (O.contents out.old) (O.contents out.new) }
+    ensures bad_script { result ≡ status.bad_script
+        → EndsByBadScript (F.files files.old) (map string_bytes words.now)
         (O.faults out.old) (O.faults out.new) (O.contents out.old) (O.contents out.new) }
     ensures not_built { result ≡ status.not_built
         → EndsByNotBuilt (F.files files.old) (map string_bytes words.now)
@@ -188,8 +192,8 @@ pub fn agent<R: AllocGlobal, F: Files, O: Sink>(
     ensures quiet { result ≢ status.file_fault → result ≢ status.out_of_memory
         → F.faults files.new ≡ F.faults files.old }
 
-    // Where words and files are those of a run on a document in the first form and no call failed, everything was
-    // written, or there was no memory.
+    // Where words and files are those of a run in the first forms and no call failed, everything was written, or there
+    // was no memory.
     ensures complete { IsRunnable (F.files files.old) (map string_bytes words.now)
         → (Rose (F.faults files.old) (F.faults files.new) → ⊥) → (Rose (O.faults out.old) (O.faults out.new) → ⊥)
         → result ≡ status.done ⊎ result ≡ status.out_of_memory }

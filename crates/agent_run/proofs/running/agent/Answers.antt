@@ -2,8 +2,8 @@ use Rattle.std.proofs.Common.{map}
 use Rattle.std.proofs.Math.Path.{subst}
 use Rattle.std.specs.Prelude.{string_bytes}
 use Rattle.agent_bytes.specs.Told.{GainsPart}
-use Rattle.agent_run.proofs.Endings.{answered_listed, bad_document_of, complete_of, file_fault_of, not_built_of}
-use Rattle.agent_run.proofs.Endings.{too_large_of, usage_of, written_listed}
+use Rattle.agent_run.proofs.Endings.{answered_listed, bad_document_of, bad_script_of, complete_of, file_fault_of}
+use Rattle.agent_run.proofs.Endings.{not_built_of, too_large_of, usage_of, written_listed}
 use Rattle.agent_run.proofs.running.agent.Goals as goal
 
 pub returns-in-Ok-clause-statuses : goal.returns-in-Ok-clause-statuses
@@ -39,6 +39,14 @@ returns-in-Err-clause-too_large g c =
 pub returns-in-Err-clause-bad_document : goal.returns-in-Err-clause-bad_document
 returns-in-Err-clause-bad_document g c =
     bad_document_of (g.F.Files.files c.args.files.now) (map string_bytes c.args.words.now)
+    (g.F.Files.faults c.args.files.now) (g.F.Files.faults c.prepare.new.files)
+    (g.O.Sink.faults c.args.out.now) (g.O.Sink.faults c.refuse.new.out)
+    (g.O.Sink.contents c.args.out.now) (g.O.Sink.contents c.refuse.new.out) c.refuse.result c.in-Err.refusal
+    (record { answered = c.refuse.ensures.status; cause = c.in-Err.ensures.cause; line = c.refuse.ensures.line })
+
+pub returns-in-Err-clause-bad_script : goal.returns-in-Err-clause-bad_script
+returns-in-Err-clause-bad_script g c =
+    bad_script_of (g.F.Files.files c.args.files.now) (map string_bytes c.args.words.now)
     (g.F.Files.faults c.args.files.now) (g.F.Files.faults c.prepare.new.files)
     (g.O.Sink.faults c.args.out.now) (g.O.Sink.faults c.refuse.new.out)
     (g.O.Sink.contents c.args.out.now) (g.O.Sink.contents c.refuse.new.out) c.refuse.result c.in-Err.refusal

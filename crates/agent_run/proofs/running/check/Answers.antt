@@ -1,9 +1,8 @@
 use Rattle.std.proofs.Common.{◌≤◌, length, map, sym}
 use Rattle.std.proofs.Math.Path.{subst}
 use Rattle.std.specs.Prelude.{string_bytes}
-use Rattle.command_line.specs.WordForms.Command.{Check}
 use Rattle.set_commands.specs.CommandTexts.{HasCause, IsChecked}
-use Rattle.agent_run.proofs.Causes.{of_documents}
+use Rattle.agent_run.proofs.Causes.{of_checked}
 use Rattle.agent_run.proofs.ReadingLaws.{few_documents}
 use Rattle.agent_run.proofs.running.check.Goals as goal
 
@@ -24,7 +23,7 @@ returns-in-Ok-clause-text g c = (
 pub returns-clause-cause : goal.returns-clause-cause
 returns-clause-cause g c =
     let docs = c.in_ok-documents.documents.items in
-    of_documents (g.F.Files.files c.args.files.now) (Check (map string_bytes c.args.names.now)) docs
+    of_checked (g.F.Files.files c.args.files.now) (map string_bytes c.args.names.now) docs
     (g.F.Files.faults c.args.files.now) (g.F.Files.faults c.read_documents.new.files) c.of_set.result
     c.in_ok-documents.ensures.told
     (c.of_set.ensures docs (subst (λ ds. HasCause ds c.in-Err.refusal) c.as_slice.ensures.value c.in-Err.ensures.cause))

@@ -14,7 +14,7 @@ use Rattle.term_model.specs.WellFormedMib.{IsWellFormedMib}
 use Rattle.term_model.proofs.ObjectLaws.{replay_objects}
 use Rattle.term_model.proofs.TextLaws.{print_tells_journal}
 use Rattle.one_manager_agent.specs.Playing.{script_lines}
-use Rattle.agent_run.proofs.playing.play.Goals as goal
+use Rattle.first_run.proofs.first_running.play.Goals as goal
 
 -- a journal is legal on the records and the limits of its agent, and comes to it
 abbrev Stands : Set → Limits → AgentState → List Entry → Type 0

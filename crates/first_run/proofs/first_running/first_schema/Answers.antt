@@ -1,8 +1,8 @@
 use Rattle.std.proofs.Common.{rules}
 use Rattle.std.proofs.Math.Path.{subst}
-use Rattle.agent_run.specs.Running.{TellsFirst, TellsSchema}
-use Rattle.agent_run.proofs.Causes.{in_ok, one_document, told_of_one}
-use Rattle.agent_run.proofs.playing.first_schema.Goals as goal
+use Rattle.first_run.specs.FirstRuns.{TellsFirst, TellsSchema}
+use Rattle.first_run.proofs.FirstLaws.{in_ok, one_document, told_of_one}
+use Rattle.first_run.proofs.first_running.first_schema.Goals as goal
 
 pub returns : goal.returns
 returns c =

@@ -2,7 +2,7 @@ use Rattle.std.proofs.Common.{rules, [], sym, ◌∙◌}
 use Rattle.std.proofs.Math.Path.{subst}
 use Rattle.text_lex.proofs.Once.{tokens_once}
 use Rattle.first_document.specs.FirstDocument.{IsFirstDocument}
-use Rattle.agent_run.proofs.playing.read_schema.Goals as goal
+use Rattle.first_run.proofs.first_running.read_schema.Goals as goal
 
 pub returns-in-Ok-read_document : goal.returns-in-Ok-read_document
 returns-in-Ok-read_document c = (
