@@ -2,8 +2,10 @@
 use Rattle.std.proofs.Common.{◌≡◌, ℕ, zero, suc, ◌+◌, ◌^◌, ◌<◌, ◌≤◌, Bool, true, false, List, [], ◌∷◌, length, take}
 use Rattle.std.proofs.Common.{drop, get_or, None, Some, if◌then◌else◌, refl, sym, ap, ◌∙◌, arith}
 use Rattle.std.proofs.lemmas.Bool.{false≢true}
+use Rattle.std.proofs.lemmas.Option.{none-some}
+use Rattle.std.specs.Option.{option_map}
 use Rattle.std.specs.Arc.{arc_value}
-use Rattle.std.specs.Prelude.{slice_get}
+use Rattle.std.specs.Prelude.{Option, slice_get}
 use Rattle.std.specs.List.{AllByRecursion}
 use Rattle.std.specs.List.Sorted.{IsStrictlySortedBy}
 use Rattle.std.specs.Ordering.{is_eq, is_gt, is_lt}
@@ -18,6 +20,7 @@ use Rattle.term_model.specs.NameOrder.{name_cmp}
 use Rattle.term_model.specs.NamedObjects.{IsByName, is_named_at, names, object_at}
 use Rattle.term_model.specs.StepCounts.{IsOneCall}
 use Rattle.term_model.proofs.MapLaws.{all_by, here, later, not_same, nothing_below, turned}
+use Rattle.scope_select.specs.Subtrees.{entry_of}
 use Rattle.mo_list.specs.Entries.{objects_in}
 use Rattle.mo_list.specs.Places.{AllInFront, NoneInFront}
 use Rattle.mo_list.proofs.PlaceLaws.{Entry, is_greater, length_objects}
@@ -69,6 +72,25 @@ none_named name (x ∷ xs) zero rising front behind named =
     )
 none_named name (x ∷ xs) (suc at) rising front behind named =
     later x xs name (other_name name x front.0) ∙ none_named name xs at rising.1 front.1 behind named
+
+-- the entry itself
+pub entry_there : (name : List Rdn) (entries : List Entry) (at : ℕ) (e : Entry)
+    → AllInFront name (take at (objects_in entries))
+    → is_named_at (objects_in entries) at name ≡ true → e ≡ get_or entries at e
+    → entry_of (objects_in entries) name ≡ Some (arc_value e)
+entry_there name [] at e front named is = absurd (false≢true named)
+entry_there name (x ∷ xs) zero e front named is =
+    rw (same_name name (arc_value x) named) (ap (λ (y : Entry). Some (arc_value y)) (sym is))
+entry_there name (x ∷ xs) (suc at) e front named is =
+    rw (other_name name (arc_value x) front.0) (entry_there name xs at e front.1 named is)
+
+pub entry_nowhere : (objects : List NamedObject) (name : List Rdn) → object_at objects name ≡ None
+    → entry_of objects name ≡ None
+entry_nowhere objects name none = by (entry_of objects name) none
+  where
+    by : (o : Option NamedObject) → option_map (λ (entry : NamedObject). entry.object) o ≡ None → o ≡ None
+    by None h = refl
+    by (Some x) h = absurd (none-some x.object (sym h))
 
 -- ---- what follows
 

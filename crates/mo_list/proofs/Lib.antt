@@ -2,3 +2,4 @@
 pub mod ChangeLaws
 pub mod FindingLaws
 pub mod PlaceLaws
+pub mod CutLaws

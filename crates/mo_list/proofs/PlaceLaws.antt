@@ -1,5 +1,5 @@
 -- A place among entries by rising name, found by halves.
-use Rattle.std.proofs.Common.{◌≡◌, ℕ, zero, suc, ◌+◌, ◌-◌, ◌/◌, ◌^◌, ◌<◌, ◌≤◌, true, false, List, [], ◌∷◌, length, take}
+use Rattle.std.proofs.Common.{◌≡◌, ℕ, zero, suc, ◌+◌, ◌-◌, ◌/◌, ◌^◌, ◌<◌, ◌≤◌, Bool, true, false, List, [], ◌∷◌, length, take}
 use Rattle.std.proofs.Common.{drop, get_or, refl, sym, ap, ◌∙◌, arith}
 use Rattle.std.proofs.Math.Nat.{pow-suc}
 use Rattle.std.proofs.lemmas.Bool.{false≢true}
@@ -17,7 +17,7 @@ use Rattle.term_model.specs.NameLaws.{name_total}
 use Rattle.term_model.specs.NameOrder.{name_cmp}
 use Rattle.term_model.specs.NamedObjects.{IsByName, names}
 use Rattle.mo_list.specs.Entries.{objects_in}
-use Rattle.mo_list.specs.Places.{AllInFront, IsPlace, NoneInFront}
+use Rattle.mo_list.specs.Places.{AllPass, IsCut, NonePass}
 
 abbrev pub Entry : Type 0
 Entry = Arc NamedObject Global
@@ -33,24 +33,26 @@ turned : (xs ys : List Rdn) (o : Ordering) → name_cmp xs ys ≡ o → name_cmp
 turned xs ys o e = name_total.antisymm ys xs ∙ ap ordering_reverse e
 
 -- a name that is greater than one is greater than what stands in front of it
-greater_still : (name first other : List Rdn) → name_cmp first other ≡ Less → is_gt (name_cmp name other) ≡ true
+pub greater_still : (name first other : List Rdn) → name_cmp first other ≡ Less → is_gt (name_cmp name other) ≡ true
     → is_gt (name_cmp name first) ≡ true
 greater_still name first other less greater =
     let below = turned name other Greater (is_greater (name_cmp name other) greater) in
     ap is_gt (turned first name Less (name_total.trans first other name less below))
 
--- one that is not greater than a name is not greater than what stands behind it
-not_greater_still : (name first other : List Rdn) → is_gt (name_cmp name first) ≡ false → name_cmp first other ≡ Less
-    → is_gt (name_cmp name other) ≡ false
-not_greater_still name first other = by (name_cmp name first) refl
-  where
-    by : (o : Ordering) → name_cmp name first ≡ o → is_gt o ≡ false → name_cmp first other ≡ Less
-        → is_gt (name_cmp name other) ≡ false
-    by Less e h less = ap is_gt (name_total.trans name first other e less)
-    by Equal e h less = ap is_gt (name_total.congr name first other e ∙ less)
-    by Greater e h less = absurd (false≢true (sym h))
-
 -- ---- what the order of the names tells
+
+-- the test holds of each name in front of one of which it holds
+abbrev pub Closed : (List Rdn → Bool) → Type 0
+Closed test = (first other : List Rdn) → name_cmp first other ≡ Less → test other ≡ true → test first ≡ true
+
+-- and of none behind one of which it doesn't
+still_not : (test : List Rdn → Bool) → Closed test → (first other : List Rdn) → test first ≡ false
+    → name_cmp first other ≡ Less → test other ≡ false
+still_not test closed first other not less = by (test other) refl
+  where
+    by : (b : Bool) → test other ≡ b → test other ≡ false
+    by true e = absurd (false≢true (sym not ∙ closed first other less e))
+    by false e = e
 
 all_at : (P : List Rdn → Type 0) (entries : List Entry) (i : ℕ) (d : Entry) → i < length entries
     → AllByRecursion P (names (objects_in entries)) → P (arc_value (get_or entries i d)).name
@@ -58,39 +60,39 @@ all_at P [] i d h all = absurd (omega arith)
 all_at P (e ∷ es) zero d h all = all.0
 all_at P (e ∷ es) (suc i) d h all = all_at P es i d (omega arith) all.1
 
-none_from : (name first : List Rdn) (objects : List NamedObject) → is_gt (name_cmp name first) ≡ false
-    → AllByRecursion (λ n. name_cmp first n ≡ Less) (names objects) → NoneInFront name objects
-none_from name first [] h all = tt
-none_from name first (x ∷ xs) h all = (not_greater_still name first x.name h all.0, none_from name first xs h all.1)
+none_from : (test : List Rdn → Bool) → Closed test → (first : List Rdn) (objects : List NamedObject)
+    → test first ≡ false → AllByRecursion (λ n. name_cmp first n ≡ Less) (names objects) → NonePass test objects
+none_from test closed first [] h all = tt
+none_from test closed first (x ∷ xs) h all =
+    (still_not test closed first x.name h all.0, none_from test closed first xs h all.1)
 
-pub front_all : (name : List Rdn) (entries : List Entry) (i : ℕ) (d : Entry) → i < length entries
-    → IsByName (objects_in entries)
-    → is_gt (name_cmp name (arc_value (get_or entries i d)).name) ≡ true
-    → AllInFront name (take (i + 1) (objects_in entries))
+pub front_all : (test : List Rdn → Bool) → Closed test → (entries : List Entry) (i : ℕ) (d : Entry)
+    → i < length entries → IsByName (objects_in entries) → test (arc_value (get_or entries i d)).name ≡ true
+    → AllPass test (take (i + 1) (objects_in entries))
 unfolding IsStrictlySortedBy
-front_all name [] i d h rising greater = absurd (omega arith)
-front_all name (e ∷ es) zero d h rising greater = (greater, tt)
-front_all name (e ∷ es) (suc i) d h rising greater =
+front_all test closed [] i d h rising holds = absurd (omega arith)
+front_all test closed (e ∷ es) zero d h rising holds = (holds, tt)
+front_all test closed (e ∷ es) (suc i) d h rising holds =
     let next : suc i + 1 ≡ suc (i + 1) = omega arith in
     rw next (
-      greater_still name (arc_value e).name (arc_value (get_or es i d)).name
-          (all_at (λ n. name_cmp (arc_value e).name n ≡ Less) es i d (omega arith) rising.0) greater,
-      front_all name es i d (omega arith) rising.1 greater,
+      closed (arc_value e).name (arc_value (get_or es i d)).name
+          (all_at (λ n. name_cmp (arc_value e).name n ≡ Less) es i d (omega arith) rising.0) holds,
+      front_all test closed es i d (omega arith) rising.1 holds,
     )
 
-pub behind_all : (name : List Rdn) (entries : List Entry) (i : ℕ) (d : Entry) → i < length entries
-    → IsByName (objects_in entries)
-    → is_gt (name_cmp name (arc_value (get_or entries i d)).name) ≡ false
-    → NoneInFront name (drop i (objects_in entries))
+pub behind_all : (test : List Rdn → Bool) → Closed test → (entries : List Entry) (i : ℕ) (d : Entry)
+    → i < length entries → IsByName (objects_in entries) → test (arc_value (get_or entries i d)).name ≡ false
+    → NonePass test (drop i (objects_in entries))
 unfolding IsStrictlySortedBy
-behind_all name [] i d h rising greater = absurd (omega arith)
-behind_all name (e ∷ es) zero d h rising greater =
-    (greater, none_from name (arc_value e).name (objects_in es) greater rising.0)
-behind_all name (e ∷ es) (suc i) d h rising greater = behind_all name es i d (omega arith) rising.1 greater
+behind_all test closed [] i d h rising not = absurd (omega arith)
+behind_all test closed (e ∷ es) zero d h rising not =
+    (not, none_from test closed (arc_value e).name (objects_in es) not rising.0)
+behind_all test closed (e ∷ es) (suc i) d h rising not = behind_all test closed es i d (omega arith) rising.1 not
 
-pub none_past : (name : List Rdn) (entries : List Entry) → NoneInFront name (drop (length entries) (objects_in entries))
-none_past name [] = tt
-none_past name (e ∷ es) = none_past name es
+pub none_past : (test : List Rdn → Bool) (entries : List Entry)
+    → NonePass test (drop (length entries) (objects_in entries))
+none_past test [] = tt
+none_past test (e ∷ es) = none_past test es
 
 -- ---- halves
 
@@ -101,23 +103,23 @@ halved n m (suc j) some half within =
     (omega arith, rw back (omega (arith, rw (pow-suc 2 j) at within)))
 
 -- how far the search has come: visits before it and now, and the two ends between which the place lies
-pub record IsSearched (entries : List Entry) (name : List Rdn) (before low high now : ℕ) : Type 0 where
+pub record IsSearched (test : List Rdn → Bool) (entries : List Entry) (before low high now : ℕ) : Type 0 where
   pub ordered : low ≤ high
   pub within : high ≤ length entries
-  pub front : AllInFront name (take low (objects_in entries))
-  pub behind : NoneInFront name (drop high (objects_in entries))
+  pub front : AllPass test (take low (objects_in entries))
+  pub behind : NonePass test (drop high (objects_in entries))
   pub rises : before ≤ now
   pub unmoved : now ≤ before → (low ≡ 0) × (high ≡ length entries)
   pub few : (digits : ℕ) → length entries < 2 ^ digits → (now ≤ before + digits)
       × (high - low < 2 ^ (before + digits - now))
 
-pub search_begins : (entries : List Entry) (name : List Rdn) (before : ℕ)
-    → IsSearched entries name before 0 (length entries) before
-search_begins entries name before = record {
+pub search_begins : (test : List Rdn → Bool) (entries : List Entry) (before : ℕ)
+    → IsSearched test entries before 0 (length entries) before
+search_begins test entries before = record {
   ordered = omega arith;
   within = omega arith;
   front = tt;
-  behind = none_past name entries;
+  behind = none_past test entries;
   rises = omega arith;
   unmoved = λ h. (refl, refl);
   few = λ digits small.
@@ -134,16 +136,17 @@ fewer length width half before now digits some halves h =
     let left : before + digits - (now + 1) ≡ before + digits - now - 1 = omega arith in
     (omega (arith, next.0), rw left next.1)
 
--- the name is greater than that of the entry in the middle
-pub searched_behind : (entries : List Entry) (name : List Rdn) (before low high now middle : ℕ) (d : Entry)
+-- the test holds of the entry in the middle
+pub searched_behind : (test : List Rdn → Bool) → Closed test → (entries : List Entry)
+    (before low high now middle : ℕ) (d : Entry)
     → IsByName (objects_in entries)
-    → IsSearched entries name before low high now → low < high → middle ≡ low + (high - low) / 2
-    → is_gt (name_cmp name (arc_value (get_or entries middle d)).name) ≡ true
-    → IsSearched entries name before (middle + 1) high (now + 1)
-searched_behind entries name before low high now middle d rising so some half greater = record {
+    → IsSearched test entries before low high now → low < high → middle ≡ low + (high - low) / 2
+    → test (arc_value (get_or entries middle d)).name ≡ true
+    → IsSearched test entries before (middle + 1) high (now + 1)
+searched_behind test closed entries before low high now middle d rising so some half holds = record {
   ordered = omega (arith, half);
   within = so.within;
-  front = front_all name entries middle d (omega (arith, half, so.within)) rising greater;
+  front = front_all test closed entries middle d (omega (arith, half, so.within)) rising holds;
   behind = so.behind;
   rises = omega (arith, so.rises);
   unmoved = λ h. absurd (omega (arith, so.rises));
@@ -151,17 +154,18 @@ searched_behind entries name before low high now middle d rising so some half gr
       (omega (arith, half)) (so.few digits small);
 }
 
--- or it isn't
-pub searched_in_front : (entries : List Entry) (name : List Rdn) (before low high now middle : ℕ) (d : Entry)
+-- or it doesn't
+pub searched_in_front : (test : List Rdn → Bool) → Closed test → (entries : List Entry)
+    (before low high now middle : ℕ) (d : Entry)
     → IsByName (objects_in entries)
-    → IsSearched entries name before low high now → low < high → middle ≡ low + (high - low) / 2
-    → is_gt (name_cmp name (arc_value (get_or entries middle d)).name) ≡ false
-    → IsSearched entries name before low middle (now + 1)
-searched_in_front entries name before low high now middle d rising so some half greater = record {
+    → IsSearched test entries before low high now → low < high → middle ≡ low + (high - low) / 2
+    → test (arc_value (get_or entries middle d)).name ≡ false
+    → IsSearched test entries before low middle (now + 1)
+searched_in_front test closed entries before low high now middle d rising so some half not = record {
   ordered = omega (arith, half);
   within = omega (arith, half, so.within);
   front = so.front;
-  behind = behind_all name entries middle d (omega (arith, half, so.within)) rising greater;
+  behind = behind_all test closed entries middle d (omega (arith, half, so.within)) rising not;
   rises = omega (arith, so.rises);
   unmoved = λ h. absurd (omega (arith, so.rises));
   few = λ digits small. fewer (length entries) (high - low) (middle - low) before now digits (omega arith)
@@ -172,10 +176,10 @@ pub length_objects : (entries : List Entry) → length (objects_in entries) ≡ 
 length_objects [] = refl
 length_objects (e ∷ es) = ap suc (length_objects es)
 
-pub search_ends : (entries : List Entry) (name : List Rdn) (before low high now : ℕ)
-    → IsSearched entries name before low high now → high ≤ low
-    → IsPlace (objects_in entries) name low
-search_ends entries name before low high now so past =
+pub search_ends : (test : List Rdn → Bool) (entries : List Entry) (before low high now : ℕ)
+    → IsSearched test entries before low high now → high ≤ low
+    → IsCut test (objects_in entries) low
+search_ends test entries before low high now so past =
     let met : high ≡ low = omega (arith, so.ordered) in
     record {
       within = omega (arith, so.within, length_objects entries);

@@ -6,7 +6,8 @@ ghost use Rattle.term_model.specs.StepCounts.{IsOneCall};
 ghost use Rattle.mo_list.specs.Entries.{objects_in, objects_of};
 
 use crate::changes::{add_entry, drop_entry};
-use crate::places::{has_name_at, place_of};
+use crate::places::{has_name_at, place_of, subtree_in};
+use scope_select::Subtrees;
 use std::alloc::{AllocError, Global};
 use std::marker::{Model, PhantomData};
 use std::sync::Arc;
@@ -163,5 +164,25 @@ impl<L: StepLedger> Ranged<L> for ListMib<L> {
             return Some((&entry.name, &entry.object));
         }
         None
+    }
+}
+
+impl<L: StepLedger> Subtrees<L> for ListMib<L> {
+    fn entry(&self, name: &Name, steps: &mut Steps<L>) -> Option<&NamedObject> {
+        let entries = entries_of(&self.entries);
+        let at = place_of(entries, name, steps);
+        if has_name_at(entries, at, name, steps) {
+            return Some(&entries[at]);
+        }
+        None
+    }
+
+    fn subtree(
+        &self,
+        alloc: Global,
+        base: &Name,
+        steps: &mut Steps<L>,
+    ) -> Result<Vec<&NamedObject>, AllocError> {
+        subtree_in(alloc, entries_of(&self.entries), base, steps)
     }
 }

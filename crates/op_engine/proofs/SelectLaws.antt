@@ -1,5 +1,8 @@
 -- The names that are selected are those in scope whose objects pass the filter, and they rise.
-use Rattle.std.proofs.Common.{◌≡◌, Bool, true, false, List, [], ◌∷◌, Some, refl, ap, ◌∙◌, filter}
+use Rattle.std.proofs.Common.{◌≡◌, ℕ, zero, suc, ◌+◌, ◌<◌, ◌++◌, Bool, Bor, true, false, List, [], ◌∷◌, arith, get_or, length}
+use Rattle.std.proofs.Common.{if◌then◌else◌, refl, subst, sym, ap, take, ◌∙◌, filter}
+use Rattle.std.proofs.lemmas.List.{map-append, take_more}
+use Rattle.std.proofs.lemmas.List.Elements.{filter-append}
 use Rattle.std.specs.List.{AllByRecursion}
 use Rattle.std.specs.List.Sorted.{IsStrictlySortedBy}
 use Rattle.std.specs.declared.cmp.Ordering.TheVariants.{Less}
@@ -12,16 +15,13 @@ use Rattle.term_model.specs.declared.scope.Scope.{Scope}
 use Rattle.term_model.specs.FilterTests.{is_true_of}
 use Rattle.term_model.specs.FilterTrees.{FilterTree}
 use Rattle.term_model.specs.NameOrder.{name_cmp}
-use Rattle.term_model.specs.NamedObjects.{IsByName, names, object_at}
-use Rattle.term_model.specs.Scope.{is_within, names_in_scope}
+use Rattle.term_model.specs.NamedObjects.{IsByName, names}
+use Rattle.term_model.specs.Scope.{is_within}
 use Rattle.term_model.specs.Selection.{is_selected, selected}
 use Rattle.term_model.proofs.MapLaws.{here, later, not_same, same_itself}
 use Rattle.operation_model.specs.OperationChecks.{selected_by}
-use Rattle.op_engine.specs.Selecting.{passes, passing_by}
-
--- each entry stands under its name
-abbrev IsThere : List NamedObject → NamedObject → Type 0
-IsThere objects entry = object_at objects entry.name ≡ Some entry.object
+use Rattle.op_engine.specs.Selecting.{IsThere, passes, passing_by}
+use Rattle.scope_select.specs.Subtrees.{entries_in_scope, referred}
 
 behind_first : (first : NamedObject) (others entries : List NamedObject)
     → AllByRecursion (λ n. name_cmp first.name n ≡ Less) (names entries) → AllByRecursion (IsThere others) entries
@@ -32,7 +32,7 @@ behind_first first others (entry ∷ entries) greater all = (
   behind_first first others entries greater.1 all.1,
 )
 
-all_there : (objects : List NamedObject) → IsByName objects → AllByRecursion (IsThere objects) objects
+pub all_there : (objects : List NamedObject) → IsByName objects → AllByRecursion (IsThere objects) objects
 unfolding IsStrictlySortedBy
 all_there [] rising = tt
 all_there (first ∷ others) rising = (
@@ -40,38 +40,82 @@ all_there (first ∷ others) rising = (
   behind_first first others others rising.0 (all_there others rising.1),
 )
 
-passes_there : (schema : Set) (objects : List NamedObject) (passed : FilterTree) (entry : NamedObject)
-    → IsThere objects entry
-    → passes schema objects passed entry.name ≡ is_true_of schema.attributes entry.object.attrs passed
-passes_there schema objects passed entry there = rw there refl
+-- ---- those that pass
+
+pub passed_more : (schema : Set) (passed : FilterTree) (entries : List (Bor NamedObject)) (i : ℕ) (x d : Bor NamedObject)
+    → i < length entries → x ≡ get_or entries i d
+    → filter (passes schema passed) (referred (take (i + 1) entries))
+    ≡ filter (passes schema passed) (referred (take i entries))
+    ++ (if passes schema passed x.now then x.now ∷ [] else [])
+passed_more schema passed entries i x d within is =
+    ap (λ es. filter (passes schema passed) (referred es)) (take_more entries i d within)
+    ∙ ap (filter (passes schema passed))
+    (map-append (λ (entry : Bor NamedObject). entry.now) (take i entries) (get_or entries i d ∷ []))
+    ∙ filter-append (passes schema passed) (referred (take i entries)) ((get_or entries i d).now ∷ [])
+    ∙ ap (λ (y : Bor NamedObject). filter (passes schema passed) (referred (take i entries))
+    ++ filter (passes schema passed) (y.now ∷ [])) (sym is)
+    ∙ ap (λ ys. filter (passes schema passed) (referred (take i entries)) ++ ys) (one x.now)
+  where
+    one : (y : NamedObject) → filter (passes schema passed) (y ∷ []) ≡ (if passes schema passed y then y ∷ [] else [])
+    one y = by (passes schema passed y) refl
+      where
+        by : (b : Bool) → passes schema passed y ≡ b
+            → filter (passes schema passed) (y ∷ []) ≡ (if passes schema passed y then y ∷ [] else [])
+        by true h = rw h refl
+        by false h = rw h refl
 
 some_passing : (schema : Set) (objects : List NamedObject) (base : List Rdn) (scope : Scope) (passed : FilterTree)
-    (entries : List NamedObject) → AllByRecursion (IsThere objects) entries
-    → filter (passes schema objects passed) (filter (is_within base scope) (names entries))
-    ≡ names (filter (is_selected schema base scope passed) entries)
-some_passing schema objects base scope passed [] all = refl
-some_passing schema objects base scope passed (entry ∷ entries) all =
+    → names (filter (passes schema passed) (entries_in_scope objects base scope))
+    ≡ selected schema objects base scope passed
+some_passing schema [] base scope passed = refl
+some_passing schema (entry ∷ entries) base scope passed =
     by (is_within base scope entry.name) refl (is_true_of schema.attributes entry.object.attrs passed) refl
-    (some_passing schema objects base scope passed entries all.1)
+    (some_passing schema entries base scope passed)
   where
     by : (b : Bool) → is_within base scope entry.name ≡ b → (c : Bool)
         → is_true_of schema.attributes entry.object.attrs passed ≡ c
-        → filter (passes schema objects passed) (filter (is_within base scope) (names entries))
-        ≡ names (filter (is_selected schema base scope passed) entries)
-        → filter (passes schema objects passed) (filter (is_within base scope) (names (entry ∷ entries)))
-        ≡ names (filter (is_selected schema base scope passed) (entry ∷ entries))
+        → names (filter (passes schema passed) (entries_in_scope entries base scope))
+        ≡ selected schema entries base scope passed
+        → names (filter (passes schema passed) (entries_in_scope (entry ∷ entries) base scope))
+        ≡ selected schema (entry ∷ entries) base scope passed
     by false h c g rest = rw h rest
-    by true h true g rest =
-        rw h (rw (passes_there schema objects passed entry all.0) (rw g (ap (λ ns. entry.name ∷ ns) rest)))
-    by true h false g rest = rw h (rw (passes_there schema objects passed entry all.0) (rw g rest))
+    by true h true g rest = rw h (rw g (ap (λ ns. entry.name ∷ ns) rest))
+    by true h false g rest = rw h (rw g rest)
 
--- the names in scope whose objects pass the filter
-pub passing_are_selected : (schema : Set) (objects : List NamedObject) (base : List Rdn) (scope : Scope)
-    (passed : FilterTree) → IsByName objects
-    → filter (passes schema objects passed) (names_in_scope objects base scope)
-    ≡ selected schema objects base scope passed
-passing_are_selected schema objects base scope passed rising =
-    some_passing schema objects base scope passed objects (all_there objects rising)
+-- the names in scope whose objects pass the filter of a request
+pub passing_by_is : (schema : Set) (objects : List NamedObject) (base : List Rdn) (scope : Scope) (asked : Asked)
+    → names (passing_by schema asked (entries_in_scope objects base scope)) ≡ selected_by schema objects base scope asked
+passing_by_is schema objects base scope (filters.Good passed) = some_passing schema objects base scope passed
+passing_by_is schema objects base scope (filters.Bad octets) = refl
+passing_by_is schema objects base scope filters.Large = refl
+
+-- what holds of all objects holds of those that are selected
+kept_all : (P : NamedObject → Type 0) (test : NamedObject → Bool) (entries : List NamedObject)
+    → AllByRecursion P entries → AllByRecursion P (filter test entries)
+kept_all P test [] all = tt
+kept_all P test (entry ∷ entries) all = by (test entry) refl (kept_all P test entries all.1)
+  where
+    by : (b : Bool) → test entry ≡ b → AllByRecursion P (filter test entries)
+        → AllByRecursion P (filter test (entry ∷ entries))
+    by true h rest = rw h (all.0, rest)
+    by false h rest = rw h rest
+
+pub passing_hold : (P : NamedObject → Type 0) (schema : Set) (objects : List NamedObject) (base : List Rdn)
+    (scope : Scope) (asked : Asked) → AllByRecursion P objects
+    → AllByRecursion P (passing_by schema asked (entries_in_scope objects base scope))
+passing_hold P schema objects base scope (filters.Good passed) all =
+    kept_all P (passes schema passed) (entries_in_scope objects base scope)
+    (kept_all P (λ (entry : NamedObject). is_within base scope entry.name) objects all)
+passing_hold P schema objects base scope (filters.Bad octets) all = tt
+passing_hold P schema objects base scope filters.Large all = tt
+
+pub held_of : (P : NamedObject → Type 0) (entries : List (Bor NamedObject)) (i : ℕ) (x d : Bor NamedObject)
+    → i < length entries → x ≡ get_or entries i d → AllByRecursion P (referred entries) → P x.now
+held_of P [] i x d within is all = absurd (omega arith)
+held_of P (e ∷ es) zero x d within is all = subst (λ (y : Bor NamedObject). P y.now) (sym is) all.0
+held_of P (e ∷ es) (suc i) x d within is all = held_of P es i x d (omega arith) is all.1
+
+-- ---- rising names
 
 below_some : (P : List Rdn → Type 0) (test : NamedObject → Bool) (objects : List NamedObject)
     → AllByRecursion P (names objects) → AllByRecursion P (names (filter test objects))
@@ -99,15 +143,6 @@ pub selected_rise : (schema : Set) (objects : List NamedObject) (base : List Rdn
     (passed : FilterTree) → IsByName objects → IsStrictlySortedBy name_cmp (selected schema objects base scope passed)
 selected_rise schema objects base scope passed rising =
     some_rise (is_selected schema base scope passed) objects rising
-
--- the same of the filter of a request
-pub passing_by_is : (schema : Set) (objects : List NamedObject) (base : List Rdn) (scope : Scope) (asked : Asked)
-    → IsByName objects
-    → passing_by schema objects asked (names_in_scope objects base scope) ≡ selected_by schema objects base scope asked
-passing_by_is schema objects base scope (filters.Good passed) rising =
-    passing_are_selected schema objects base scope passed rising
-passing_by_is schema objects base scope (filters.Bad octets) rising = refl
-passing_by_is schema objects base scope filters.Large rising = refl
 
 pub selected_by_rise : (schema : Set) (objects : List NamedObject) (base : List Rdn) (scope : Scope) (asked : Asked)
     → IsByName objects → IsStrictlySortedBy name_cmp (selected_by schema objects base scope asked)

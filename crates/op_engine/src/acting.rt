@@ -5,6 +5,9 @@ ghost use Rattle.term_model.specs.BoundClasses.{object_size};
 ghost use Rattle.term_model.specs.declared.objects.NamedObject.{NamedObject};
 ghost use Rattle.term_model.specs.Effects.{TellsEffect};
 ghost use Rattle.op_engine.specs.Acting.{act_of, noted_at, noted_of, nothing_done, settled, with_effect, with_failure};
+ghost use Rattle.op_engine.specs.Selecting.{AreThere, IsThere};
+ghost use Rattle.scope_select.specs.Subtrees.{referred};
+ghost use Rattle.term_model.specs.NamedObjects.{names};
 ghost use Rattle.operation_model.specs.OperationConditions.{AreSmall};
 ghost use Rattle.operation_model.specs.WholeOperation.{is_atomic};
 
@@ -13,11 +16,10 @@ use object_modifications::set_one;
 use op_object::get_one;
 use result_contents::errors::mistyped_operation;
 use std::alloc::{AllocError, Global};
-use term_model::ranged::Ranged;
 use term_model::request::ATOMIC;
 use term_model::{
-    CmisError, Effect, Head, Name, Object, OneRefusal, Patch, Reply, Request, Set, Sources,
-    StepLedger, Steps,
+    CmisError, Effect, Head, Name, NamedObject, Object, OneRefusal, Patch, Reply, Request, Set,
+    Sources,
 };
 
 /// What an operation did so far: what it changes, what it answers, and, where it is atomic, the errors of the objects
@@ -113,60 +115,43 @@ fn note_failure(so_far: &mut Acting, atomic: bool, error: CmisError) -> Result<(
     Ok(())
 }
 
-/// The operation on one selected object, where it is there.
-fn act_on<L: StepLedger, M: Ranged<L>>(
+/// The operation on one selected object.
+fn act_on(
     alloc: Global,
     schema: &Set,
-    mib: &M,
     request: &Request,
     time: u64,
     atomic: bool,
-    name: &Name,
+    entry: &NamedObject,
     so_far: &mut Acting,
-    steps: &mut Steps<L>,
 ) -> Result<(), AllocError>
-    requires small { AreSmall schema.now (M.objects mib.now) }
-    ensures { OnOk result (so_far.new
-        ≡ noted_at atomic (act_of schema.now request.now time) (M.objects mib.now) so_far.old name.now) }
+    requires small { object_size schema.now entry.now.object ≤ 16384 }
+    ensures { OnOk result ((objects : List NamedObject) → IsThere objects entry.now → so_far.new
+        ≡ noted_at atomic (act_of schema.now request.now time) objects so_far.old entry.now.name) }
 {
-    let Some(object) = mib.at(name, steps) else {
-        return Ok(());
-    };
-    match effect_on(alloc, schema, request, time, name, object) {
+    match effect_on(alloc, schema, request, time, &entry.name, &entry.object) {
         Ok(effect) => note_effect(so_far, effect),
         Err(OneRefusal::Cmis(error)) => note_failure(so_far, atomic, error),
         Err(OneRefusal::Memory) => Err(AllocError),
     }
 }
 
-/// The operation on all selected objects, in the order of their names.
-pub(crate) fn act_on_all<L: StepLedger, M: Ranged<L>>(
+/// The operation on all selected objects, which stand in the map, in the order of their names.
+pub(crate) fn act_on_all(
     alloc: Global,
     schema: &Set,
-    mib: &M,
     request: &Request,
     time: u64,
     atomic: bool,
-    names: &[Name],
-    steps: &mut Steps<L>,
+    entries: &[&NamedObject],
 ) -> Result<Acting, AllocError>
-    requires small { AreSmall schema.now (M.objects mib.now) }
-    ensures { IfOk result (λ made. made
-        ≡ noted_of atomic (act_of schema.now request.now time) (M.objects mib.now) nothing_done names.now) }
+    requires small { AreSmall schema.now (referred entries.now) }
+    ensures { IfOk result (λ made. (objects : List NamedObject) → AreThere objects (referred entries.now) → made
+        ≡ noted_of atomic (act_of schema.now request.now time) objects nothing_done (names (referred entries.now))) }
 {
     let mut so_far = nothing_done(alloc);
-    for name in names {
-        act_on(
-            alloc,
-            schema,
-            mib,
-            request,
-            time,
-            atomic,
-            name,
-            &mut so_far,
-            steps,
-        )?;
+    for entry in entries {
+        act_on(alloc, schema, request, time, atomic, *entry, &mut so_far)?;
     }
     Ok(so_far)
 }

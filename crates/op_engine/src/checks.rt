@@ -10,19 +10,23 @@ ghost use Rattle.operation_model.specs.OperationChecks.{is_of_class, is_scope, i
 ghost use Rattle.operation_model.specs.OperationChecks.{size_fault, sync_fault};
 ghost use Rattle.operation_model.specs.OperationConditions.{has_valid_filter};
 ghost use Rattle.op_engine.specs.Plans.{IsBase, TellsAbsent, TellsChecked, TellsFault};
+ghost use Rattle.op_engine.specs.Selecting.{AreThere};
+ghost use Rattle.scope_select.specs.Subtrees.{referred};
+ghost use Rattle.term_model.specs.NamedObjects.{names};
 
-use crate::selecting::selected_names;
+use crate::selecting::selected_entries;
 use result_contents::errors::{
     class_instance_conflict, complexity_limitation, invalid_filter, invalid_instance,
     invalid_scope, no_such_instance, no_such_object_class, sync_not_supported,
 };
+use scope_select::Subtrees;
 use std::alloc::Global;
 use term_model::ranged::Ranged;
 use term_model::request::{ATOMIC, BEST_EFFORT};
 use term_model::scope::{BASE_OBJECT, WHOLE_SUBTREE};
 use term_model::{
-    Asked, ClassRec, Head, IdRef, Name, Named, Names, Object, OneRefusal, Scope, Set, StepLedger,
-    Steps,
+    Asked, ClassRec, Head, IdRef, Name, Named, NamedObject, Object, OneRefusal, Scope, Set,
+    StepLedger, Steps,
 };
 
 /// The most identifiers or modifications that a list may have.
@@ -213,28 +217,29 @@ fn check_filter(alloc: Global, filter: &Asked) -> Result<(), OneRefusal>
     }
 }
 
-/// The names of the objects on which an operation acts, by the order of names, or the error of the first check that
+/// The objects on which an operation acts with their names, by the order of names, or the error of the first check that
 /// fails: noSuchObjectClass; invalidObjectInstance; noSuchObjectInstance; classInstanceConflict; syncNotSupported;
 /// invalidScope; complexityLimitation, where the filter or the list of identifiers or modifications is past its
 /// limits; invalidFilter; complexityLimitation, where more than 50,000 names are in scope. `listed` is the length of
 /// the list. Each look into the map is counted on `steps`.
 ///
 /// The filter must be valid under the schema, as each is that was read under it ([`crate::filters::has_valid_filter`]).
-pub fn checked<L: StepLedger, M: Ranged<L>>(
+pub fn checked<'a, L: StepLedger, M: Subtrees<L>>(
     alloc: Global,
     schema: &Set,
-    mib: &M,
+    mib: &'a M,
     head: &Head,
     listed: usize,
     steps: &mut Steps<L>,
-) -> Result<Names, OneRefusal>
+) -> Result<Vec<&'a NamedObject>, OneRefusal>
     requires valid { has_valid_filter schema.now head.now.filter ≡ true }
 
-    // the names, or the error of the first check that fails
+    // the objects, or the error of the first check that fails
     ensures told { TellsChecked (checked schema.now (M.objects mib.now) head.now listed) result }
 
-    // by the order of names, each once
-    ensures rising { IfOk result (λ names. IsStrictlySortedBy name_cmp names) }
+    // by the order of names, each once, as they stand in the map
+    ensures rising { IfOk result (λ entries. IsStrictlySortedBy name_cmp (names (referred entries.items))) }
+    ensures there { IfOk result (λ entries. AreThere (M.objects mib.now) (referred entries.items)) }
 {
     check_class(alloc, schema, head)?;
     check_form(alloc, head)?;
@@ -244,5 +249,5 @@ pub fn checked<L: StepLedger, M: Ranged<L>>(
     check_scope(alloc, head)?;
     check_size(head, listed)?;
     check_filter(alloc, &head.filter)?;
-    selected_names(alloc, schema, mib, base, head, steps)
+    selected_entries(alloc, schema, mib, base, head, steps)
 }

@@ -6,8 +6,7 @@ ghost use Rattle.operation_model.specs.OperationConditions.{has_valid_filter};
 ghost use Rattle.op_engine.specs.Selecting.{passes};
 
 use cmis_filter::{holds, is_valid};
-use term_model::ranged::Ranged;
-use term_model::{Asked, Filter, Name, Set, StepLedger, Steps};
+use term_model::{Asked, Filter, NamedObject, Set};
 
 /// Whether the filter of a request, where it is within the limits and has no invalid item by itself, is valid under a
 /// schema, as each filter is that was read under it.
@@ -21,22 +20,13 @@ pub fn has_valid_filter(schema: &Set, filter: &Asked) -> bool
     }
 }
 
-/// Whether the object of a name is there and passes the filter, which is valid.
-pub(crate) fn passes<L: StepLedger, M: Ranged<L>>(
-    schema: &Set,
-    mib: &M,
-    filter: &Filter,
-    name: &Name,
-    steps: &mut Steps<L>,
-) -> bool
+/// Whether an object passes the filter, which is valid.
+pub(crate) fn passes(schema: &Set, filter: &Filter, entry: &NamedObject) -> bool
     requires valid { is_valid schema.now.attributes filter.now ≡ true }
-    ensures { result ≡ passes schema.now (M.objects mib.now) filter.now name.now }
+    ensures { result ≡ passes schema.now filter.now entry.now }
 {
-    match mib.at(name, steps) {
-        None => false,
-        Some(object) => match holds(schema, object, filter) {
-            Ok(holds) => holds,
-            Err(_) => false,
-        },
+    match holds(schema, &entry.object, filter) {
+        Ok(holds) => holds,
+        Err(_) => false,
     }
 }

@@ -16,8 +16,8 @@ use crate::checks::checked;
 use crate::linking::{linked_reply, replies_size};
 use crate::outcome::{Plan, Replies};
 use result_contents::errors::complexity_limitation;
+use scope_select::Subtrees;
 use std::alloc::{AllocError, Global};
-use term_model::ranged::Ranged;
 use term_model::scope::BASE_OBJECT;
 use term_model::{
     CmisError, Head, Ids, OneRefusal, Patch, Reply, Request, Scope, Set, Sources, StepLedger, Steps,
@@ -145,7 +145,7 @@ fn listed(ids: &Option<Ids>) -> usize
 
 /// The plan of an operation on objects that its scope and filter select. `count` is the length of its list of
 /// identifiers or modifications, and `number` that of its results in LinkedReply.
-fn plan_scoped<L: StepLedger, M: Ranged<L>>(
+fn plan_scoped<L: StepLedger, M: Subtrees<L>>(
     alloc: Global,
     schema: &Set,
     mib: &M,
@@ -162,16 +162,14 @@ fn plan_scoped<L: StepLedger, M: Ranged<L>>(
         (act_of schema.now request.now time) (checked schema.now (M.objects mib.now) head.now count))) }
 {
     match checked(alloc, schema, mib, head, count, steps) {
-        Ok(names) => {
+        Ok(entries) => {
             let made = act_on_all(
                 alloc,
                 schema,
-                mib,
                 request,
                 time,
                 is_atomic(head),
-                names.items.as_slice(),
-                steps,
+                entries.as_slice(),
             )?;
             plan_of(alloc, &head.scope, number, settled(alloc, made))
         }
@@ -190,7 +188,7 @@ fn plan_scoped<L: StepLedger, M: Ranged<L>>(
 /// have more than 4 MiB, complexityLimitation is answered and nothing is changed.
 ///
 /// Each object must be at most 16,384 octets long, and the filter valid under the schema, as those of an agent are.
-pub fn plan_request<L: StepLedger, M: Ranged<L>>(
+pub fn plan_request<L: StepLedger, M: Subtrees<L>>(
     alloc: Global,
     schema: &Set,
     mib: &M,

@@ -5,110 +5,93 @@ ghost use Rattle.std.specs.Prelude.{filter as filter_by};
 ghost use Rattle.std.specs.List.Sorted.{IsStrictlySortedBy};
 ghost use Rattle.term_model.specs.FilterTruth.{is_valid};
 ghost use Rattle.term_model.specs.NameOrder.{name_cmp};
-ghost use Rattle.term_model.specs.NamedObjects.{IsByName};
+ghost use Rattle.term_model.specs.NamedObjects.{names};
 ghost use Rattle.operation_model.specs.OperationChecks.{checked_by, names_fault, selected_by};
 ghost use Rattle.operation_model.specs.OperationConditions.{has_valid_filter};
 ghost use Rattle.op_engine.specs.Plans.{TellsChecked};
-ghost use Rattle.op_engine.specs.Selecting.{passes, passing_by};
+ghost use Rattle.op_engine.specs.Selecting.{AreThere, passes, passing_by};
+ghost use Rattle.scope_select.specs.Subtrees.{referred};
 
 use crate::filters::passes;
 use result_contents::errors::complexity_limitation;
-use scope_select::{ScopeRefusal, in_scope};
+use scope_select::{ScopeRefusal, Subtrees, entries_in_scope};
 use std::alloc::{AllocError, Global};
-use term_model::ranged::Ranged;
-use term_model::{Asked, Filter, Head, Name, Names, OneRefusal, Set, StepLedger, Steps};
+use term_model::{Asked, Filter, Head, Name, NamedObject, OneRefusal, Set, StepLedger, Steps};
 
 /// The most names that a scope may have.
 pub const MOST_NAMES: u64 = 50_000;
 
-/// Adds a name whose object passes the filter.
-fn add_passing<L: StepLedger, M: Ranged<L>>(
+/// Adds an object that passes the filter.
+fn add_passing<'a>(
     schema: &Set,
-    mib: &M,
     filter: &Filter,
-    name: Name,
-    names: &mut Names,
-    steps: &mut Steps<L>,
+    entry: &'a NamedObject,
+    found: &mut Vec<&'a NamedObject>,
 ) -> Result<(), AllocError>
     requires valid { is_valid schema.now.attributes filter.now ≡ true }
-    ensures { OnOk result (names.new ≡ names.old
-        ++ (if passes schema.now (M.objects mib.now) filter.now name then name ∷ [] else [])) }
+    ensures { OnOk result (referred found.new.items ≡ referred found.old.items
+        ++ (if passes schema.now filter.now entry.now then entry.now ∷ [] else [])) }
 {
-    if passes(schema, mib, filter, &name, steps) {
-        names.items.push(name)?;
+    if passes(schema, filter, entry) {
+        found.push(entry)?;
     }
     Ok(())
 }
 
-/// Those of these names whose objects pass the filter, in their order.
-fn passing<L: StepLedger, M: Ranged<L>>(
+/// Those of these objects that pass the filter, in their order.
+fn passing<'a>(
     alloc: Global,
     schema: &Set,
-    mib: &M,
     filter: &Filter,
-    names: Names,
-    steps: &mut Steps<L>,
-) -> Result<Names, AllocError>
+    entries: &[&'a NamedObject],
+) -> Result<Vec<&'a NamedObject>, AllocError>
     requires valid { is_valid schema.now.attributes filter.now ≡ true }
-    ensures { IfOk result (λ found. found
-        ≡ filter_by (passes schema.now (M.objects mib.now) filter.now) names) }
+    ensures { IfOk result (λ found. referred found.items
+        ≡ filter_by (passes schema.now filter.now) (referred entries.now)) }
 {
-    let mut found = Names {
-        items: Vec::new(alloc),
-    };
-    for name in names.items {
-        add_passing(schema, mib, filter, name, &mut found, steps)?;
+    let mut found = Vec::new(alloc);
+    for entry in entries {
+        add_passing(schema, filter, *entry, &mut found)?;
     }
     Ok(found)
 }
 
-/// Those of the names in scope whose objects pass the filter, which is past no limit and has no invalid item.
-fn passing_names<L: StepLedger, M: Ranged<L>>(
+/// Those of the objects in scope that pass the filter, which is past no limit and has no invalid item.
+fn passing_entries<'a>(
     alloc: Global,
     schema: &Set,
-    mib: &M,
     filter: &Asked,
-    names: Names,
-    steps: &mut Steps<L>,
-) -> Result<Names, AllocError>
+    entries: &[&'a NamedObject],
+) -> Result<Vec<&'a NamedObject>, AllocError>
     requires valid { has_valid_filter schema.now filter.now ≡ true }
-    ensures { IfOk result (λ found. found ≡ passing_by schema.now (M.objects mib.now) filter.now names) }
+    ensures { IfOk result (λ found. referred found.items ≡ passing_by schema.now filter.now (referred entries.now)) }
 {
     match filter {
-        Asked::Good(filter) => passing(alloc, schema, mib, filter, names, steps),
-        Asked::Bad(_) => Ok(no_names(alloc)),
-        Asked::Large => Ok(no_names(alloc)),
+        Asked::Good(filter) => passing(alloc, schema, filter, entries),
+        Asked::Bad(_) => Ok(Vec::new(alloc)),
+        Asked::Large => Ok(Vec::new(alloc)),
     }
 }
 
-/// No names.
-fn no_names(alloc: Global) -> Names
-    ensures { result ≡ [] }
-{
-    Names {
-        items: Vec::new(alloc),
-    }
-}
-
-/// The names of the objects in scope that pass the filter, by the order of names, of a base object by its name;
+/// The objects in scope that pass the filter with their names, by the order of names, of a base object by its name;
 /// complexityLimitation where more than 50,000 names are in scope.
-pub(crate) fn selected_names<L: StepLedger, M: Ranged<L>>(
+pub(crate) fn selected_entries<'a, L: StepLedger, M: Subtrees<L>>(
     alloc: Global,
     schema: &Set,
-    mib: &M,
+    mib: &'a M,
     base: &Name,
     head: &Head,
     steps: &mut Steps<L>,
-) -> Result<Names, OneRefusal>
+) -> Result<Vec<&'a NamedObject>, OneRefusal>
     requires valid { has_valid_filter schema.now head.now.filter ≡ true }
-    requires rising { IsByName (M.objects mib.now) }
     ensures told { TellsChecked (checked_by (names_fault (M.objects mib.now) base.now head.now.scope)
         (selected_by schema.now (M.objects mib.now) base.now head.now.scope head.now.filter)) result }
-    ensures rising { IfOk result (λ names. IsStrictlySortedBy name_cmp names) }
+    ensures rising { IfOk result (λ entries. IsStrictlySortedBy name_cmp (names (referred entries.items))) }
+    ensures there { IfOk result (λ entries. AreThere (M.objects mib.now) (referred entries.items)) }
 {
-    match in_scope(alloc, mib, base, &head.scope, MOST_NAMES, steps) {
-        Ok(names) => {
-            let found = passing_names(alloc, schema, mib, &head.filter, names, steps)?;
+    match entries_in_scope(alloc, mib, base, &head.scope, MOST_NAMES, steps) {
+        Ok(entries) => {
+            let found = passing_entries(alloc, schema, &head.filter, entries.as_slice())?;
             Ok(found)
         }
         Err(ScopeRefusal::TooMany) => Err(OneRefusal::Cmis(complexity_limitation())),

@@ -26,7 +26,7 @@ not_itself base name same low =
     equal_less : Equal ≡ Less → ⊥
     equal_less e = absurd (cc)
 
-none_at : (base : List Rdn) (scope : Scope) (name : List Rdn) → EndsAtBase scope → name_cmp base name ≡ Less
+pub none_at : (base : List Rdn) (scope : Scope) (name : List Rdn) → EndsAtBase scope → name_cmp base name ≡ Less
     → is_within base scope name ≡ false
 none_at base scope name ends low = by (level_below base name) refl
   where

@@ -5,3 +5,4 @@ pub mod ListLaws
 pub mod PrefixLaws
 pub mod RangeLaws
 pub mod WalkLaws
+pub mod SubtreeLaws

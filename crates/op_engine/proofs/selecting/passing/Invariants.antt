@@ -1,9 +1,9 @@
--- The names so far whose objects pass the filter.
-use Rattle.std.proofs.Common.{◌≡◌, ◌++◌, filter}
+-- The objects so far that pass the filter.
+use Rattle.std.proofs.Common.{◌≡◌, filter, take}
+use Rattle.scope_select.specs.Subtrees.{referred}
 use Rattle.op_engine.specs.Selecting.{passes}
 use Rattle.op_engine.proofs.selecting.passing.Given as goal
 
-abbrev pub invariant-loop-name : goal.invariant-loop-name
-invariant-loop-name g l =
-    (l.yielded ++ l.name-iterator.rest.items ≡ l.initial.name-iterator.rest.items)
-    × (l.found ≡ filter (passes l.schema (g.M.Ranged.objects l.mib) l.filter) l.yielded)
+abbrev pub invariant-loop-entry : goal.invariant-loop-entry
+invariant-loop-entry l =
+    referred l.found.items ≡ filter (passes l.schema l.filter) (referred (take l.entry-index l.entries))
