@@ -4,3 +4,4 @@ pub mod SettlingLaws
 pub mod StartLaws
 pub mod StatusLaws
 pub mod TryingLaws
+pub mod WeighingLaws

@@ -2,7 +2,7 @@
 use Rattle.std.proofs.Common.{◌≡◌, ℕ, ℤ, ◌+◌, Bool, true, false, ◌&&◌, ◌||◌, List, [], ◌∷◌, ◌++◌, Ok}
 use Rattle.std.proofs.Common.{refl, sym, ap, ◌∙◌}
 use Rattle.std.proofs.Common.{subst}
-use Rattle.std.specs.Prelude.{Result, codes, if◌then◌else◌, map}
+use Rattle.std.specs.Prelude.{Err, OnOk, Result, codes, if◌then◌else◌, map}
 use Rattle.term_values.specs.Typed.{TypedValue}
 use Rattle.term_model.specs.declared.object.Attribute.{Attribute}
 use Rattle.term_model.specs.declared.object.Object.{Object}
@@ -15,7 +15,8 @@ use Rattle.object_modifications.specs.declared.settling.Modified.{Modified as Ke
 use Rattle.object_modifications.specs.Settling.{ends_full_by, given_by, made_of}
 use Rattle.object_modifications.specs.declared.seen_once.Seen.{Seen}
 use Rattle.object_modifications.specs.StatusPlaces.{status_places}
-use Rattle.object_modifications.specs.Trying.{IsSeen, IsWeighed}
+use Rattle.object_modifications.specs.Trying.{AreFitting, IsFitting, IsSeen, IsWeighed}
+use Rattle.std.proofs.lemmas.Bool.{false≢true}
 use Rattle.object_modifications.proofs.StatusLaws.{mapped_places}
 use Rattle.attribute_rules.proofs.PlaceLaws.{mapped_rising}
 use Rattle.attribute_rules.specs.Places.{are_rising}
@@ -99,6 +100,31 @@ given_rising records bound id value attributes =
     by_test true = mapped_rising (without_full records) (full_id records) left
     by_test false = refl
 
+full_fitting : (records : List AttrRec) (xs : List Attribute) → AreFitting records xs
+    → AreFitting records (map (without_full records) xs)
+full_fitting records [] all = tt
+full_fitting records (x ∷ xs) all =
+    (by (is_labelled records (codes "availabilityStatus") x.id) refl, full_fitting records xs all.1)
+  where
+    by : (b : Bool) → is_labelled records (codes "availabilityStatus") x.id ≡ b
+        → IsFitting records (without_full records x)
+    by true e = λ syntax named other.
+        absurd (false≢true (sym other ∙ ap (is_labelled records (codes "availabilityStatus")) (full_id records x) ∙ e))
+    by false e =
+        let same : without_full records x ≡ x = rw e refl in
+        subst (IsFitting records) (sym same) all.0
+
+given_fitting : (records : List AttrRec) (bound : Bool) (id : List ℕ) (value : TypedValue) (attributes : List Attribute)
+    → AreFitting records (replaced id value attributes) → AreFitting records (given_by records bound id value attributes)
+given_fitting records bound id value attributes all = by_test (ends_full_by records bound id)
+  where
+    left : List Attribute
+    left = replaced id value attributes
+
+    by_test : (b : Bool) → AreFitting records (if b then map (without_full records) left else left)
+    by_test true = full_fitting records left all
+    by_test false = all
+
 -- what was seen is so of the object that is left
 given_seen : (schema : Set) (seen : Seen) (id : List ℕ) (value : TypedValue) (object : Object)
     → IsSeen schema (record object { attrs = replaced id value object.attrs }) seen
@@ -106,6 +132,7 @@ given_seen : (schema : Set) (seen : Seen) (id : List ℕ) (value : TypedValue) (
 given_seen schema seen id value object is = record {
   class = is.class;
   order = λ rise. given_rising schema.attributes seen.bound id value object.attrs ∙ is.order rise;
+  fitting = λ known. given_fitting schema.attributes seen.bound id value object.attrs (is.fitting known);
   properties = is.properties;
   statuses = is.statuses ∙ sym (given_places schema.attributes seen.bound id value object.attrs);
 }
@@ -139,3 +166,7 @@ settled_gives schema seen before after change id value size told weighed (is, in
             small = inner.small;
           }),
     )
+
+pub on_ok : {T E : Type 0} {P Q : Type 0} (r : Result T E) → (P → Q) → OnOk r P → OnOk r Q
+on_ok (Ok x) f h = f h
+on_ok (Err e) f h = tt

@@ -27,17 +27,19 @@ weighed schema object seen size is sum small =
     let within : is_within size ≡ true = sym (counted_within octets size sum) ∙ whole in
     record { is_seen = is; sum = counted_small octets size sum within; small = within }
 
--- from there the modifications are made
-pub made_all : {X : Type 0} (schema : Set) (name given : List Rdn) (object : Object) (seen : Seen)
-    (size : ℕ) (made : Kept) (changes : List Change) (after : Modified) → given ≡ name
-    → (made_of made ≡ unmodified object) × (made.size ≡ size)
-    → IsWeighed schema seen object size
-    → (IsWeighed schema seen made.object made.size → (after ≡ modified schema given (made_of made) changes) × X)
-    → after ≡ modified schema name (unmodified object) changes
-made_all schema name given object seen size made changes after same begun start makes =
+-- so is the object from which they are made
+pub begun_weighed : (schema : Set) (object : Object) (seen : Seen) (size : ℕ) (made : Kept)
+    → (made_of made ≡ unmodified object) × (made.size ≡ size) → IsWeighed schema seen object size
+    → IsWeighed schema seen made.object made.size
+begun_weighed schema object seen size made begun start =
     let here : made.object ≡ object = ap (λ (m : Modified). m.object) begun.0 in
-    let small : IsWeighed schema seen made.object made.size =
     subst (λ (o : Object). IsWeighed schema seen o made.size) (sym here)
-    (subst (λ (n : ℕ). IsWeighed schema seen object n) (sym begun.1) start) in
-    (makes small).0 ∙ ap (λ (m : Modified). modified schema given m changes) begun.0
+    (subst (λ (n : ℕ). IsWeighed schema seen object n) (sym begun.1) start)
+
+-- from there the modifications are made
+pub made_all : (schema : Set) (name given : List Rdn) (object : Object) (made : Kept) (changes : List Change)
+    (after : Modified) → given ≡ name → made_of made ≡ unmodified object
+    → after ≡ modified schema given (made_of made) changes → after ≡ modified schema name (unmodified object) changes
+made_all schema name given object made changes after same begun makes =
+    makes ∙ ap (λ (m : Modified). modified schema given m changes) begun
     ∙ ap (λ n. modified schema n (unmodified object) changes) same

@@ -9,5 +9,6 @@ pub(crate) mod modifying;
 pub mod object_set;
 pub(crate) mod seen_once;
 pub(crate) mod settling;
+pub(crate) mod weighing;
 
 pub use object_set::set_one;

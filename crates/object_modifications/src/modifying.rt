@@ -1,6 +1,8 @@
 //! One modification of an attribute: X.711, section 7.4, m-Set, and section 7.5, type ModifyOperator.
 
-ghost use Rattle.std.specs.Prelude.{◌≡◌, ℕ, List, Some, IfOk};
+ghost use Rattle.std.specs.Prelude.{◌≡◌, ℕ, List, Some, IfOk, codes, false, true};
+ghost use Rattle.term_values.specs.FitTest.{value_fits};
+ghost use Rattle.term_model.specs.ClassAttributes.{is_labelled, syntax_of};
 ghost use Rattle.term_model.specs.declared.object.Attribute.{Attribute};
 ghost use Rattle.term_model.specs.declared.object.Object.{Object};
 ghost use Rattle.term_model.specs.declared.schema.Set.{Set};
@@ -8,15 +10,17 @@ ghost use Rattle.term_model.specs.BoundClasses.{is_bound_log};
 ghost use Rattle.term_model.specs.Modifications.{attribute_of, replaced, tried, tried_value};
 ghost use Rattle.object_modifications.specs.Trying.{IsWeighed, TellsTried};
 
-use crate::modified_values::{may_stand, modified_value};
+use crate::modified_values::{may_stand, told_value};
 use crate::seen_once::Seen;
+use crate::weighing::{named_length, weight_by};
+use attribute_rules::labels::is_labelled;
 use attribute_rules::lookups::{is_operator, modifiable, syntax_of};
 use attribute_rules::places::attribute_of;
-use attribute_rules::sizes::{is_within, weight};
+use attribute_rules::sizes::is_within;
 use std::alloc::{AllocError, Global};
 use term_model::{AttrRecs, Attribute, Change, Object, Property, Rdn, Set};
 use term_values::leaf_lengths::plus;
-use term_values::{Oid, Syntax, Value};
+use term_values::{Oid, Syntax, Value, der_len};
 
 /// noSuchAttribute: X.711, section 7.5.
 pub(crate) const NO_SUCH_ATTRIBUTE: i64 = 5;
@@ -49,28 +53,49 @@ fn tried_value(
     property: &Property,
     syntax: &Syntax,
     change: &Change,
+    known: bool,
 ) -> Result<Trial, AllocError>
+    requires { known ≡ true → value_fits syntax.now held.now.value ≡ true }
     ensures { IfOk result (λ came. (schema : Set) → (object : Object) → (id : List ℕ)
         → schema.attributes ≡ records.now → attribute_of object.attrs id ≡ Some held.now
-        → IsWeighed schema seen.now object total → TellsTried schema seen.now object id
+        → syntax_of records.now id ≡ Some syntax.now → IsWeighed schema seen.now object total → TellsTried schema seen.now object id
         (tried_value schema object change.now id held.now property.now syntax.now) came) }
 {
-    let value = match modified_value(alloc, syntax, property, &held.value, change)? {
-        Some(value) => value,
+    let told = match told_value(alloc, syntax, property, &held.value, change, known)? {
+        Some(told) => told,
         None => return Ok(Trial::Fails(INVALID_ATTRIBUTE_VALUE)),
     };
-    if !may_stand(alloc, syntax, property, &value)? {
+    if !may_stand(alloc, syntax, property, &told)? {
         return Ok(Trial::Fails(INVALID_ATTRIBUTE_VALUE));
     }
-    let id = held.id.copy(alloc)?;
-    let changed = Attribute { id, value };
-    let before = weight(alloc, records, seen.bound, held)?;
-    let now = weight(alloc, records, seen.bound, &changed)?;
+    let named = named_length(alloc, &held.id)?;
+    let before = weight_by(
+        records,
+        seen.bound,
+        &held.id,
+        named,
+        der_len(syntax, &held.value),
+    );
+    let now = weight_by(
+        records,
+        seen.bound,
+        &held.id,
+        named,
+        der_len(syntax, &told.value),
+    );
     let size = plus(total.saturating_sub(before), now);
     if !is_within(size) {
         return Ok(Trial::Fails(INVALID_ATTRIBUTE_VALUE));
     }
-    Ok(Trial::Gives(changed.value, size))
+    Ok(Trial::Gives(told.value, size))
+}
+
+/// Whether it is known that the value that an attribute holds fits.
+fn is_known(records: &AttrRecs, seen: &Seen, id: &Oid) -> bool
+    ensures { result ≡ true → (seen.now.fitting ≡ true)
+        × (is_labelled records.now (codes "availabilityStatus") id.now ≡ false) }
+{
+    seen.fitting && !is_labelled(records, b"availabilityStatus", id)
 }
 
 /// The value that a modification gives the attribute with this identifier, or the error by which it fails.
@@ -84,9 +109,9 @@ pub(crate) fn tried(
     change: &Change,
     id: &Oid,
 ) -> Result<Trial, AllocError>
-    ensures { IfOk result (λ came. IsWeighed schema.now seen.now object.now total
-        → TellsTried schema.now seen.now object.now id.now
-        (tried schema.now name.now object.now change.now id.now) came) }
+    requires { IsWeighed schema.now seen.now object.now total }
+    ensures { IfOk result (TellsTried schema.now seen.now object.now id.now
+        (tried schema.now name.now object.now change.now id.now)) }
 {
     let held = match attribute_of(object.attrs.items.as_slice(), seen.rising, id) {
         Some(held) => held,
@@ -102,7 +127,12 @@ pub(crate) fn tried(
     };
     let records = &schema.attributes;
     match syntax_of(records, id) {
-        Some(syntax) => tried_value(alloc, records, seen, total, held, property, syntax, change),
+        Some(syntax) => {
+            let known = is_known(records, seen, id);
+            tried_value(
+                alloc, records, seen, total, held, property, syntax, change, known,
+            )
+        }
         None => Ok(Trial::Fails(INVALID_ATTRIBUTE_VALUE)),
     }
 }

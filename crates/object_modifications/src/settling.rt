@@ -192,9 +192,10 @@ fn modify(
     change: &Change,
     made: &mut Modified,
 ) -> Result<(), AllocError>
-    ensures { OnOk result (IsWeighed schema.now seen.now made.old.object made.old.size
-        → (made_of made.new ≡ modified_by schema.now name.now (made_of made.old) change.now change.now.id)
-        × IsWeighed schema.now seen.now made.new.object made.new.size) }
+    requires { IsWeighed schema.now seen.now made.old.object made.old.size }
+    ensures made { OnOk result
+        (made_of made.new ≡ modified_by schema.now name.now (made_of made.old) change.now change.now.id) }
+    ensures weighed { OnOk result (IsWeighed schema.now seen.now made.new.object made.new.size) }
 {
     match &change.id {
         IdRef::Global(id) => {
@@ -223,9 +224,9 @@ pub(crate) fn modify_all(
     changes: &[Change],
     made: &mut Modified,
 ) -> Result<(), AllocError>
-    ensures { OnOk result (IsWeighed schema.now seen.now made.old.object made.old.size
-        → (made_of made.new ≡ modified schema.now name.now (made_of made.old) changes.now)
-        × IsWeighed schema.now seen.now made.new.object made.new.size) }
+    requires { IsWeighed schema.now seen.now made.old.object made.old.size }
+    ensures made { OnOk result (made_of made.new ≡ modified schema.now name.now (made_of made.old) changes.now) }
+    ensures weighed { OnOk result (IsWeighed schema.now seen.now made.new.object made.new.size) }
 {
     for change in changes {
         modify(alloc, schema, name, seen, change, made)?;

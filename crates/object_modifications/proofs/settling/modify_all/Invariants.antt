@@ -7,7 +7,6 @@ use Rattle.object_modifications.proofs.settling.modify_all.Given as goal
 
 abbrev pub invariant-loop-change : goal.invariant-loop-change
 invariant-loop-change l =
-    IsWeighed l.schema l.seen l.fn.made.object l.fn.made.size
-    → (modified l.schema l.name (made_of l.made) (drop l.change-index l.changes)
+    (modified l.schema l.name (made_of l.made) (drop l.change-index l.changes)
     ≡ modified l.schema l.name (made_of l.fn.made) l.changes)
     × IsWeighed l.schema l.seen l.made.object l.made.size

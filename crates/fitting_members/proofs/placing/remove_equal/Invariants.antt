@@ -1,0 +1,17 @@
+-- The members without those of this encoding stay the same.
+use Rattle.std.proofs.Common.{◌≡◌, [], ◌∷◌, length}
+use Rattle.term_values.specs.SetMembers.{other_members}
+use Rattle.term_values.specs.Typed.{listed}
+use Rattle.term_values.specs.Written.{der}
+use Rattle.fitting_members.specs.MemberPlaces.{AreRising, IsPlace, has_at}
+use Rattle.fitting_members.proofs.placing.remove_equal.Given as goal
+
+abbrev pub invariant-equal : goal.invariant-equal
+invariant-equal l =
+    (other_members (der l.member) (l.encoding ∷ []) (listed l.fn.items.items)
+    ≡ other_members (der l.member) (l.encoding ∷ []) (listed l.items.items))
+    × (l.had ≡ has_at (der l.member) l.encoding l.items.items l.at)
+    × AreRising (der l.member) l.items.items × IsPlace (der l.member) l.encoding l.items.items l.at
+
+abbrev pub decreases-equal : goal.decreases-equal
+decreases-equal l = length l.items.items
