@@ -1,7 +1,7 @@
 -- Examples of docs/PROFILE.md, section 12, computed: a name that a module assigns twice, a value for a type, a first
 -- name that is that of a type, a word behind REPLY, an attribute by which a ROOT is named, and types that differ in
 -- DEFAULT.
-use Rattle.std.specs.Prelude.{◌≡◌, ℕ, zero, suc, List, [], ◌∷◌, true, false, None, Some, codes, refl}
+use Rattle.std.specs.Prelude.{Contains, ◌≡◌, ℕ, zero, suc, List, [], ◌∷◌, true, false, None, Some, codes, refl}
 use Rattle.std.proofs.Common.{arith, inl, subst, sym, ◌∙◌}
 use Rattle.std.proofs.lemmas.Option.{none-some}
 use Rattle.token_grammar.specs.declared.qualified_name.QualifiedName.{QualifiedName}
@@ -216,6 +216,10 @@ load_means : label_meaning rooted (codes "load") ≡ Some (placed 1 load)
 unfolding label_meaning first_called templates
 load_means = refl
 
+class_a_stands : Contains (templates rooted) (placed 1 class_a)
+unfolding templates
+class_a_stands = (0, omega arith, refl)
+
 root_fault : WrongKindAt rooted 1 520
 unfolding target
 root_fault = naming_attribute {rule = setting} {label = word 520 (codes "load")} (record {
@@ -230,6 +234,7 @@ root_fault = naming_attribute {rule = setting} {label = word 520 (codes "load")}
   of_class = record { is_target = a_means; of_kind = refl };
   naming = record {
     below = placed 1 class_a;
+    stands = class_a_stands;
     derives = inl refl;
     named = as_root {instance = root_a} {pair = load_pair} (0, omega arith, refl) refl refl
         (record { is_target = a_means; of_kind = refl }) (record { is_target = load_means; of_kind = refl });

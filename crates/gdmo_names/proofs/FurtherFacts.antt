@@ -246,9 +246,14 @@ binding_by = record {
   means = record { is_target = base_id_means; of_kind = refl };
 }
 
+base_stands : Contains (templates ruled) (placed 1 base)
+unfolding templates
+base_stands = (1, omega arith, refl)
+
 base_is_named : CanBeNamedBy ruled (placed 1 base) (placed 1 base_id)
 base_is_named = record {
   below = placed 1 base;
+  stands = base_stands;
   derives = inl refl;
   named = by_binding binding_stands (subclass binding_of_top refl (directly base_derives)) binding_by;
 }

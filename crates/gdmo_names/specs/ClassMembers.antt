@@ -66,8 +66,9 @@ pub data IsNamedBy (parts : PartTerms) (class attribute : Placed) : Type 0 where
       Means parts instance.document NameAttribute (ByLabel pair.attribute) attribute →
       IsNamedBy parts class attribute
 
--- the attribute can name objects of the class, or of one that derives from it
+-- the attribute can name objects of the class, or of one of the documents that derives from it
 pub record CanBeNamedBy (parts : PartTerms) (class attribute : Placed) : Type 0 where
   pub below : Placed
+  pub stands : Contains (templates parts) below
   pub derives : IsOrDerives parts below class
   pub named : IsNamedBy parts below attribute
