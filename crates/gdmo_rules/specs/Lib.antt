@@ -2,3 +2,6 @@
 pub mod TakenViews
 pub mod AttributeLabels
 pub mod TypeFaults
+pub mod StepFaults
+pub mod NamingFaults
+pub mod FaultsOfSteps

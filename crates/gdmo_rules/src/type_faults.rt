@@ -87,7 +87,7 @@ fn types_of_text(
 }
 
 /// Notes that something is wrong where it is.
-fn note_where(is_wrong: bool, document: u32, word: &Token, faults: &mut Faults)
+pub(crate) fn note_where(is_wrong: bool, document: u32, word: &Token, faults: &mut Faults)
     ensures { Notes (OneFault (is_wrong ≡ true) KindWrong document word.now.at) faults.old.first faults.new.first }
 {
     if is_wrong {

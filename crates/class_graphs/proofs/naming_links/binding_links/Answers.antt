@@ -1,0 +1,33 @@
+-- One more template, and all of them.
+use Rattle.std.proofs.Common.{◌≤◌, arith, length, sym}
+use Rattle.std.proofs.lemmas.List.{length-map}
+use Rattle.link_graphs.specs.Leading.{target_lists}
+use Rattle.gdmo_names.specs.FoundViews.{found_view, found_views}
+use Rattle.gdmo_types.proofs.StepLaws.{there}
+use Rattle.class_graphs.specs.ClassLinks.{NamesBy}
+use Rattle.class_graphs.specs.NamedLinks.{ByBefore}
+use Rattle.class_graphs.proofs.NamedLaws.{before_none, links_all, links_none, links_step}
+use Rattle.class_graphs.proofs.naming_links.binding_links.Goals as goal
+
+pub loop-number-init : goal.loop-number-init
+loop-number-init c = λ parts is.
+    let xs = c.args.linkage.now.templates.now in
+    let views = found_views xs in
+    let names = NamesBy parts c.args.with_subclasses in
+    links_none views (target_lists c.in_ok-graph.graph) (length xs) (ByBefore views names 0) c.in_ok-graph.ensures
+    (sym (length-map xs found_view)) (before_none views names)
+
+pub loop-number-preserved : goal.loop-number-preserved
+loop-number-preserved c = λ parts is.
+    let xs = c.args.linkage.now.templates.now in
+    let n = c.loop-number.number in
+    let by = there (found_views xs) n
+    (let l = length-map xs found_view in let t = c.loop-number-test.true in omega arith) in
+    links_step n by.0 by.1 (c.loop-number.invariant parts is) (c.in_ok-add_binding.ensures parts by.0 is by.1)
+
+pub returns : goal.returns
+returns c = λ parts is.
+    let xs = c.args.linkage.now.templates.now in
+    let past : length (found_views xs) ≤ c.loop-number.number =
+    (let l = length-map xs found_view in let t = c.loop-number-test.false in omega arith) in
+    links_all c.loop-number.number past (c.loop-number.invariant parts is)
