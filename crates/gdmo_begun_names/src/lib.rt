@@ -4,6 +4,4 @@
 pub mod begun_names;
 pub mod filter_names;
 pub mod identifier_names;
-pub mod module_values;
 pub mod value_names;
-pub mod values_of_sections;

@@ -1,0 +1,10 @@
+-- The names behind DEFAULT in the types of the assignments so far are marked.
+use Rattle.std.proofs.Common.{List}
+use Rattle.asn1_names.specs.ModuleTerms.{ModuleTerm}
+use Rattle.gdmo_begun_names.specs.BegunMarks.{Marks}
+use Rattle.begun_values.specs.ModuleValues.{AreResolved, BelowFirsts, DefaultFirstsAt}
+use Rattle.begun_values.proofs.module_values.mark_all_defaults.Given as goal
+
+abbrev pub invariant-loop-number : goal.invariant-loop-number
+invariant-loop-number l = (ms : List ModuleTerm) → AreResolved ms l.modules →
+    Marks (BelowFirsts (DefaultFirstsAt ms) l.number) l.initial.names l.names

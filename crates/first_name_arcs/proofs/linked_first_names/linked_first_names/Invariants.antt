@@ -1,0 +1,12 @@
+-- The names of the definers so far.
+use Rattle.std.proofs.Common.{take}
+use Rattle.gdmo_first_names.specs.ReadModules.{AreWhole, HasModules}
+use Rattle.gdmo_names.specs.PartTerms.{PartTerms}
+use Rattle.identifier_arcs.specs.KnownArcs.{AreKnown}
+use Rattle.first_name_arcs.specs.BegunFirst.{AreBegun}
+use Rattle.first_name_arcs.specs.ToldNames.{TellNames}
+use Rattle.first_name_arcs.proofs.linked_first_names.linked_first_names.Given as goal
+
+abbrev pub invariant-loop-number : goal.invariant-loop-number
+invariant-loop-number l = (parts : PartTerms) → HasModules parts l.tables → AreKnown parts l.known → AreWhole parts →
+    AreBegun parts l.begun → TellNames parts (take l.number-index l.definers) l.names.items

@@ -1,0 +1,5 @@
+-- The definitions that the contracts of this crate cite.
+pub mod BegunFirst
+pub mod GivenArcs
+pub mod ToldNames
+pub mod UnequalNames
