@@ -2,9 +2,10 @@
 //! one (X.722, section 8; docs/PROFILE.md, section 12).
 #![tactic(auto)]
 
+mod known_parts;
 pub mod resolving;
-pub mod resolving_names;
-pub mod unequal_names;
+mod resolving_names;
+mod resolving_types;
 
 pub use gdmo_names::{LabelRefusal, Parsed};
 pub use linked_parts::Linked;

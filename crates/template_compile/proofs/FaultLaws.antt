@@ -11,15 +11,16 @@ use Rattle.document_parts.specs.ReadDocuments.{AreLexed, IsFirstFault, IsFirstSy
 use Rattle.asn1_names.specs.declared.refusal.ModuleRefusal.{ModuleRefusal}
 use Rattle.asn1_names.specs.FirstModuleFault.{TellsFirstFault}
 use Rattle.asn1_names.specs.TermViews.{module_terms}
-use Rattle.asn1_resolve.specs.ModuleOrder.{AreInOrder}
-use Rattle.asn1_resolve.specs.ToldFaults.{TellsFault}
+use Rattle.gdmo_names.specs.FirstLabelFault.{TellsFirstFault as TellsFirstLabelFault}
+use Rattle.gdmo_names.specs.PartViews.{part_terms}
 use Rattle.gdmo_names.specs.declared.parsed.Parsed.{Parsed}
+use Rattle.gdmo_names.specs.declared.refusal.LabelRefusal.{LabelRefusal}
 use Rattle.template_compile.specs.declared.refusal.CompileRefusal.{CompileRefusal}
 use Rattle.template_compile.specs.declared.refusal.CompileRefusal.TheVariants.{BadDocument}
 use Rattle.template_compile.specs.declared.refusal.Kind.{Kind}
 use Rattle.template_compile.specs.declared.refusal.Kind.TheVariants as K
-use Rattle.template_compile.specs.Acceptance.{AreResolved, SayParts}
-use Rattle.template_compile.specs.DocumentFaults.{HasCause, IsClassKind, IsLabelKind, IsModuleFault, IsTold, lexing_kind}
+use Rattle.template_compile.specs.Acceptance.{AreReferenced, AreResolved, SayParts}
+use Rattle.template_compile.specs.DocumentFaults.{HasCause, IsClassKind, IsLabelFault, IsModuleFault, IsTold, lexing_kind}
 use Rattle.template_compile.specs.DocumentFaults.IsTold.{of_lexing, of_syntax, of_modules, of_labels, of_classes}
 use Rattle.template_compile.specs.Lines.{line_at, line_at_token}
 
@@ -39,22 +40,24 @@ lexing_told docs document place is is_kind same first =
 pub module_told : (docs : List Doc) (parts : Parsed) (document place : ℕ) {kind : Kind}
     {refusal told : ModuleRefusal} {r : CompileRefusal} → refusal ≡ told → IsModuleFault document place told kind →
     r ≡ BadDocument document (line_at docs document place) kind → SayParts docs parts →
-    TellsFault (module_terms parts.modules.items) refusal →
-    (AreInOrder (module_terms parts.modules.items) → TellsFirstFault (module_terms parts.modules.items) refusal) →
-    HasCause docs r
-module_told docs parts document place {kind = kind} is fault same said there first =
-    at_place docs document place same (λ line e. of_modules said there first
+    TellsFirstFault (module_terms parts.modules.items) refusal → HasCause docs r
+module_told docs parts document place {kind = kind} is fault same said first =
+    at_place docs document place same (λ line e. of_modules said first
     (subst (λ (x : ModuleRefusal). IsModuleFault document place x kind) (sym is) fault) e)
 
-pub label_told : (docs : List Doc) (document place : ℕ) {kind : Kind} {r : CompileRefusal} →
-    IsLabelKind kind → r ≡ BadDocument document (line_at docs document place) kind → (parts : Parsed) →
-    AreResolved docs parts → HasCause docs r
-label_told docs document place of_kind same parts resolved = at_place docs document place same (λ line e. of_labels resolved of_kind)
+pub label_told : (docs : List Doc) (parts : Parsed) (document place : ℕ) {kind : Kind}
+    {refusal told : LabelRefusal} {r : CompileRefusal} → refusal ≡ told → IsLabelFault document place told kind →
+    r ≡ BadDocument document (line_at docs document place) kind → AreResolved docs parts →
+    TellsFirstLabelFault (part_terms parts) refusal → HasCause docs r
+label_told docs parts document place {kind = kind} is fault same resolved first =
+    at_place docs document place same (λ line e. of_labels resolved first
+    (subst (λ (x : LabelRefusal). IsLabelFault document place x kind) (sym is) fault) e)
 
 pub class_told : (docs : List Doc) (document place : ℕ) {kind : Kind} {r : CompileRefusal} →
     IsClassKind kind → r ≡ BadDocument document (line_at docs document place) kind → (parts : Parsed) →
-    AreResolved docs parts → HasCause docs r
-class_told docs document place of_kind same parts resolved = at_place docs document place same (λ line e. of_classes resolved of_kind)
+    AreReferenced docs parts → HasCause docs r
+class_told docs document place of_kind same parts referenced =
+    at_place docs document place same (λ line e. of_classes referenced of_kind)
 
 pub syntax_told : (docs : List Doc) (lists : List (Vec Token)) (document token line : ℕ) {kind : Kind}
     {refusal : DocumentRefusal} → refusal ≡ D.Syntax document token → kind ≡ K.Syntax →

@@ -3,7 +3,7 @@
 ghost use Rattle.std.specs.Prelude.{◌≡◌, ◌≤◌, length, IfErr, IfOk, OnOk};
 ghost use Rattle.std.specs.List.{list_any};
 ghost use Rattle.document_parts.specs.ReadDocuments.{AreLexed};
-ghost use Rattle.template_compile.specs.Acceptance.{AreResolved, SayParts, SomeResolved};
+ghost use Rattle.template_compile.specs.Acceptance.{AreReferenced, AreResolved, SayParts, SomeReferenced};
 ghost use Rattle.template_compile.specs.Counting.{IsCompiled, is_instances};
 ghost use Rattle.template_compile.specs.DocumentFaults.{HasCause};
 
@@ -91,6 +91,8 @@ fn closed(
     types: &Types,
 ) -> Result<Set, CompileRefusal>
     requires resolved { AreResolved documents.now parts.now }
+    requires modules { types.now ≡ parts.now.modules.items }
+    ensures referenced { OnOk result (AreReferenced documents.now parts.now) }
     ensures cause { IfErr result (HasCause documents.now) }
 {
     let linked = match resolve_labels(alloc, parts, types) {
@@ -106,7 +108,7 @@ fn closed(
 /// The schema of parts, or the fault of the third phase or of a later one.
 fn resolved(alloc: Global, documents: &[Doc], parts: &Parsed) -> Result<Set, CompileRefusal>
     requires said { SayParts documents.now parts.now }
-    ensures resolved { OnOk result (AreResolved documents.now parts.now) }
+    ensures referenced { OnOk result (AreReferenced documents.now parts.now) }
     ensures cause { IfErr result (HasCause documents.now) }
 {
     match resolve_modules(alloc, parts.modules.as_slice()) {
@@ -134,7 +136,7 @@ fn has_instances(sections: &[Section]) -> bool
 pub fn compile_documents(alloc: Global, documents: &[Doc]) -> Result<Compiled, CompileRefusal>
     requires few { length documents.now ≤ 64 }
 
-    // the documents say some parts, of which nothing is wrong in the modules, and these are counted
+    // the documents say some parts, of which nothing is wrong in the modules nor with the references, and these are counted
     ensures compiled { IfOk result (λ x. IsCompiled documents.now x.counts x.has_instances) }
 
     // the fault that is told is the one by which the documents are refused
@@ -157,7 +159,7 @@ pub fn compile_documents(alloc: Global, documents: &[Doc]) -> Result<Compiled, C
 /// comes where there is no memory for the records.
 pub fn compile(alloc: Global, documents: &[Doc]) -> Result<Set, CompileRefusal>
     requires few { length documents.now ≤ 64 }
-    ensures resolved { OnOk result (SomeResolved documents.now) }
+    ensures referenced { OnOk result (SomeReferenced documents.now) }
     ensures cause { IfErr result (HasCause documents.now) }
 {
     let compiled = compile_documents(alloc, documents)?;

@@ -3,11 +3,11 @@
 ghost use Rattle.std.specs.Prelude.{◌≡◌, slice_get};
 ghost use Rattle.asn1_names.specs.FirstModuleFault.{TellsFirstFault};
 ghost use Rattle.asn1_names.specs.TermViews.{module_terms};
-ghost use Rattle.asn1_resolve.specs.ModuleOrder.{AreInOrder};
-ghost use Rattle.asn1_resolve.specs.ToldFaults.{TellsFault};
 ghost use Rattle.document_parts.specs.ReadDocuments.{AreLexed, IsFirstFault, IsFirstSyntaxFault};
+ghost use Rattle.gdmo_names.specs.FirstLabelFault.{TellsFirstFault as TellsFirstLabelFault};
+ghost use Rattle.gdmo_names.specs.PartViews.{part_terms};
 ghost use Rattle.gdmo_names.specs.declared.parsed.Parsed.{Parsed};
-ghost use Rattle.template_compile.specs.Acceptance.{AreResolved, SayParts};
+ghost use Rattle.template_compile.specs.Acceptance.{AreReferenced, AreResolved, SayParts};
 ghost use Rattle.template_compile.specs.DocumentFaults.{HasCause, lexing_kind};
 ghost use Rattle.template_compile.specs.Lines.{line_at, line_at_token, line_of_token, told_line};
 ghost use Rattle.template_compile.specs.declared.refusal.CompileRefusal.TheVariants.{BadDocument};
@@ -132,9 +132,8 @@ pub(crate) fn refusal_of_modules(
     parts: &Parsed,
     refusal: &ModuleRefusal,
 ) -> CompileRefusal
-    ensures { SayParts documents.now parts.now → TellsFault (module_terms parts.now.modules.items) refusal.now →
-        (AreInOrder (module_terms parts.now.modules.items) →
-        TellsFirstFault (module_terms parts.now.modules.items) refusal.now) → HasCause documents.now result }
+    ensures { SayParts documents.now parts.now → TellsFirstFault (module_terms parts.now.modules.items) refusal.now →
+        HasCause documents.now result }
 {
     match refusal {
         ModuleRefusal::UnknownType { document, token } => {
@@ -160,7 +159,8 @@ pub(crate) fn refusal_of_modules(
 
 /// The refusal for a fault of the references of documents.
 pub(crate) fn refusal_of_labels(documents: &[Doc], refusal: &LabelRefusal) -> CompileRefusal
-    ensures { (parts : Parsed) → AreResolved documents.now parts → HasCause documents.now result }
+    ensures { (parts : Parsed) → AreResolved documents.now parts →
+        TellsFirstLabelFault (part_terms parts) refusal.now → HasCause documents.now result }
 {
     match refusal {
         LabelRefusal::UnknownLabel { document, token } => {
@@ -181,7 +181,7 @@ pub(crate) fn refusal_of_labels(documents: &[Doc], refusal: &LabelRefusal) -> Co
 
 /// The refusal for a fault of the classes of documents.
 pub(crate) fn refusal_of_classes(documents: &[Doc], refusal: &ClassRefusal) -> CompileRefusal
-    ensures { (parts : Parsed) → AreResolved documents.now parts → HasCause documents.now result }
+    ensures { (parts : Parsed) → AreReferenced documents.now parts → HasCause documents.now result }
 {
     match refusal {
         ClassRefusal::CyclicClass { document, token } => {

@@ -36,11 +36,11 @@ fn kind_count(templates: &[Found], kind: TemplateKind) -> u64
 }
 
 /// How many types a module assigns.
-fn types_of(module: &Module) -> u64
-    ensures { result ≡ types_of module.now }
+fn types_of(text: &Module) -> u64
+    ensures { result ≡ types_of text.now }
 {
     let mut count = 0u64;
-    for assignment in module.assignments.iter() {
+    for assignment in text.assignments.iter() {
         if let Assigned::OfType(_) = assignment.assigned {
             count += 1;
         }

@@ -17,7 +17,7 @@ parsed-requires c = record {
 pub returns-clause-compiled : goal.returns-clause-compiled
 returns-clause-compiled c = record {
   parts = c.in_ok-parts.parts;
-  resolved = c.in_ok-schema.ensures.resolved;
+  referenced = c.in_ok-schema.ensures.referenced;
   counts_are = c.in_ok-counts.ensures;
   instances_are = c.has_instances.ensures ∙ ap (λ xs. list_any is_instances xs) c.as_slice-2.ensures.value;
 }

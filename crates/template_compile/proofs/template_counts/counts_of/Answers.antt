@@ -1,7 +1,5 @@
-use Rattle.std.proofs.Common.{◌≡◌, length, ap, sym, ◌∙◌}
-use Rattle.gdmo_names.specs.DocumentTemplates.{templates}
+use Rattle.std.proofs.Common.{length, ap, ◌∙◌}
 use Rattle.gdmo_names.specs.FoundViews.{found_views}
-use Rattle.gdmo_names.specs.PartViews.{part_terms}
 use Rattle.gdmo_names.specs.TemplateTerms.{TemplateKind}
 use Rattle.gdmo_names.specs.TemplateTerms.TemplateKind.{ClassKind, PackageKind, ParameterKind, BindingKind}
 use Rattle.gdmo_names.specs.TemplateTerms.TemplateKind.{AttributeKind, GroupKind, BehaviourKind, ActionKind}

@@ -1,0 +1,3 @@
+-- The definitions that the contracts of the crates above cite.
+pub mod AllFaults
+pub mod ReadTexts
