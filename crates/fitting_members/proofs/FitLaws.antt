@@ -1,22 +1,20 @@
 -- Whether rising members fit a SET OF, by their number and each of them.
-use Rattle.std.proofs.Common.{◌≡◌, ◌&&◌, ℕ, Bool, true, false, cond, List, [], ◌∷◌, length, map, refl, sym, ap, ◌∙◌}
+use Rattle.std.proofs.Common.{◌≡◌, ◌&&◌, ℕ, Bool, true, false, List, [], ◌∷◌, length, map, refl, sym, ap, ◌∙◌}
 use Rattle.std.proofs.lemmas.Bool.{false≢true}
 use Rattle.term_values.specs.Bounded.{allowed_size}
 use Rattle.term_values.specs.FitTest.{all_fit, list_fits, rise_from, set_fits, value_fits}
 use Rattle.term_values.specs.Rearranged.{IsRising, may_precede}
-use Rattle.term_values.specs.SetMembers.{is_among, other_members}
 use Rattle.term_values.specs.Syntaxes.{Bounds, TypeSyntax}
 use Rattle.term_values.specs.Syntaxes.TypeSyntax.{SetOf}
-use Rattle.term_values.specs.Typed.{TypedValue, TypedValues, listed}
+use Rattle.term_values.specs.Typed.{TypedValue, listed}
 use Rattle.term_values.specs.Typed.TypedValue.{Many}
-use Rattle.term_values.specs.Typed.TypedValues.{Nothing, Then}
 use Rattle.term_values.specs.ValueContents.{member_encodings}
 use Rattle.term_values.specs.Written.{der}
 use Rattle.ber_values.proofs.DecodingLaws.{count_listed}
 use Rattle.fitting_members.specs.MemberPlaces.{AreRising}
-use Rattle.fitting_members.proofs.PlaceLaws.{Encoding, encodings_listed}
+use Rattle.fitting_members.proofs.PlaceLaws.{encodings_listed}
 
-both_true : (a b : Bool) → (a && b) ≡ true → (a ≡ true) × (b ≡ true)
+pub both_true : (a b : Bool) → (a && b) ≡ true → (a ≡ true) × (b ≡ true)
 both_true true b h = (refl, h)
 both_true false b h = absurd (false≢true h)
 
@@ -30,15 +28,15 @@ from_rises x (y ∷ ys) h =
     let both = both_true (may_precede x y) (rise_from y ys) h in
     (both.0, from_rises y ys both.1)
 
-none_first : (x : List ℕ) → may_precede [] x ≡ true
+pub none_first : (x : List ℕ) → may_precede [] x ≡ true
 none_first [] = refl
 none_first (n ∷ ns) = refl
 
-all_rise : (xs : List (List ℕ)) → IsRising xs → rise_from [] xs ≡ true
+pub all_rise : (xs : List (List ℕ)) → IsRising xs → rise_from [] xs ≡ true
 all_rise [] r = refl
 all_rise (x ∷ xs) r = ap (λ b. b && rise_from x xs) (none_first x) ∙ rises_from x xs r
 
-rise_all : (xs : List (List ℕ)) → rise_from [] xs ≡ true → IsRising xs
+pub rise_all : (xs : List (List ℕ)) → rise_from [] xs ≡ true → IsRising xs
 rise_all [] h = tt
 rise_all (x ∷ xs) h = from_rises x xs (both_true (may_precede [] x) (rise_from x xs) h).1
 
@@ -73,16 +71,3 @@ pub fit_of : (member : TypeSyntax) (sizes : Bounds) (items : List TypedValue)
 fit_of member sizes items h =
     (both_true (allowed_size sizes (length items)) (all_fit (value_fits member) (listed items))
     (sym (set_told member sizes items (rising_of member sizes items h)) ∙ h)).1
-
--- members that are left of those that fit
-pub left_fit : (fits : TypedValue → Bool) (e : Encoding) (taken : List (List ℕ)) (vs : TypedValues)
-    → all_fit fits vs ≡ true → all_fit fits (other_members e taken vs) ≡ true
-left_fit fits e taken Nothing h = refl
-left_fit fits e taken (Then v vs) h =
-    let both = both_true (fits v) (all_fit fits vs) h in
-    by (is_among (e v) taken) both.0 (left_fit fits e taken vs both.1)
-  where
-    by : (b : Bool) → fits v ≡ true → all_fit fits (other_members e taken vs) ≡ true
-        → all_fit fits (cond b (other_members e taken vs) (Then v (other_members e taken vs))) ≡ true
-    by true one rest = rest
-    by false one rest = ap (λ b. b && all_fit fits (other_members e taken vs)) one ∙ rest

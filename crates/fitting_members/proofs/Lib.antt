@@ -1,4 +1,7 @@
 -- Lemmas of this crate.
+pub mod ChangeLaws
 pub mod FitLaws
 pub mod MemberLaws
 pub mod PlaceLaws
+mod StandardFacts
+pub mod UndoLaws

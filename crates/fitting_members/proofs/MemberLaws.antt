@@ -6,7 +6,6 @@ use Rattle.std.proofs.lemmas.Bool.{false≢true}
 use Rattle.std.proofs.lemmas.Slice.Eq.{bytes_eq-Decides}
 use Rattle.term_values.proofs.RisingLaws.{may_precede_back, may_precede_both, may_precede_through}
 use Rattle.term_values.specs.Decoding.{inserted_by, rising_by}
-use Rattle.term_values.specs.FitTest.{all_fit}
 use Rattle.term_values.specs.Rearranged.{may_precede}
 use Rattle.term_values.specs.SameValue.{same_octets}
 use Rattle.term_values.specs.SetMembers.{added, followed_by, is_among, new_members, other_members, removed}
@@ -241,21 +240,10 @@ there_within e x (v ∷ vs) (suc at) there = let rest = there_within e x vs at t
 
 -- ---- members that fit
 
-and_swap : (a b c : Bool) → (a && (b && c)) ≡ (b && (a && c))
+pub and_swap : (a b c : Bool) → (a && (b && c)) ≡ (b && (a && c))
 and_swap true b c = refl
 and_swap false true c = refl
 and_swap false false c = refl
-
-pub inserted_fit : (fits : TypedValue → Bool) (e : Encoding) (g : TypedValue) (vs : TypedValues)
-    → all_fit fits (inserted_by e g vs) ≡ (fits g && all_fit fits vs)
-inserted_fit fits e g Nothing = refl
-inserted_fit fits e g (Then v vs) = by (may_precede (e g) (e v)) (inserted_fit fits e g vs)
-  where
-    by : (b : Bool) → all_fit fits (inserted_by e g vs) ≡ (fits g && all_fit fits vs)
-        → all_fit fits (cond b (Then g (Then v vs)) (Then v (inserted_by e g vs)))
-        ≡ (fits g && (fits v && all_fit fits vs))
-    by true again = refl
-    by false again = ap (λ b. fits v && b) again ∙ and_swap (fits v) (fits g) (all_fit fits vs)
 
 -- ---- a member at its place
 
@@ -300,12 +288,6 @@ inserted_rises e g (v ∷ vs) (suc at) r place =
 pub placed_rises : (e : Encoding) (g : TypedValue) (items : List TypedValue) (at : ℕ) → AreRising e items
     → IsPlace e (e g) items at → AreRising e (insert items at g)
 placed_rises = inserted_rises
-
-pub fit_with : (fits : TypedValue → Bool) (e : Encoding) (g : TypedValue) (items : List TypedValue) (at : ℕ)
-    → IsPlace e (e g) items at
-    → all_fit fits (listed (insert items at g)) ≡ (fits g && all_fit fits (listed items))
-fit_with fits e g items at place =
-    ap (all_fit fits) (inserted_at e g items at place) ∙ inserted_fit fits e g (listed items)
 
 pub none_removed : (e : Encoding) (vs : TypedValues) → removed e vs Nothing ≡ vs
 none_removed e Nothing = refl

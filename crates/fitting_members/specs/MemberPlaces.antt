@@ -1,5 +1,6 @@
 -- The place of an encoding among members that stand by the rising order of their encodings: X.690, section 11.6.
-use Rattle.std.specs.Prelude.{◌≡◌, ℕ, ◌≤◌, false, if◌then◌else◌, List, drop, length, map, slice_get, take, true, Bool}
+use Rattle.std.specs.Prelude.{◌≡◌, ℕ, zero, suc, ◌≤◌, false, if◌then◌else◌, List, drop, length, map, slice_get, take, true}
+use Rattle.std.specs.Prelude.{Bool}
 use Rattle.std.specs.List.{AllByRecursion}
 use Rattle.std.specs.Option.{option_map_or}
 use Rattle.term_values.specs.Rearranged.{IsRising, may_precede}
@@ -27,3 +28,13 @@ has_at encoding x items at = option_map_or (λ value. same_octets x (encoding va
 abbrev pub with_one : (TypedValue → List ℕ) → TypedValue → TypedValues → TypedValues
 with_one encoding value held =
     if is_among (encoding value) (member_encodings encoding held) then held else inserted_by encoding value held
+
+-- the encoding may stand behind that of the member in front of a place, where there is one
+abbrev pub may_follow : (TypedValue → List ℕ) → List ℕ → List TypedValue → ℕ → Bool
+may_follow encoding x items zero = true
+may_follow encoding x items (suc at) =
+    option_map_or (λ value. may_precede (encoding value) x) (slice_get items at) true
+
+-- the encoding may stand in front of that of the member at a place, where there is one
+abbrev pub may_lead : (TypedValue → List ℕ) → List ℕ → List TypedValue → ℕ → Bool
+may_lead encoding x items at = option_map_or (λ value. may_precede x (encoding value)) (slice_get items at) true

@@ -1,4 +1,5 @@
 -- The lemmas of this crate.
+pub mod KnowingLaws
 pub mod ListEnds
 pub mod SettlingLaws
 pub mod StartLaws

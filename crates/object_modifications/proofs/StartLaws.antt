@@ -1,5 +1,5 @@
 -- Before the first modification: the object is weighed.
-use Rattle.std.proofs.Common.{◌≡◌, ◌≤◌, ℕ, true, List, sym, ap, subst, ◌∙◌}
+use Rattle.std.proofs.Common.{◌≡◌, ◌≤◌, ℕ, true, List, length, replicate, sym, ap, subst, ◌∙◌}
 use Rattle.std.proofs.lemmas.Bool.{le-leb}
 use Rattle.term_values.specs.Lengths.{counted}
 use Rattle.term_model.specs.declared.object.Object.{Object}
@@ -13,7 +13,10 @@ use Rattle.term_model.specs.Modifications.{Modified, modified, unmodified}
 use Rattle.object_modifications.specs.declared.settling.Modified.{Modified as Kept}
 use Rattle.object_modifications.specs.Settling.{made_of}
 use Rattle.object_modifications.specs.declared.seen_once.Seen.{Seen}
-use Rattle.object_modifications.specs.Trying.{IsSeen, IsWeighed}
+use Rattle.object_modifications.specs.declared.knowing.Knowledge.TheVariants.{Untried}
+use Rattle.object_modifications.specs.Knowing.{AreKnown}
+use Rattle.object_modifications.specs.Trying.{IsMade, IsSeen, IsWeighed}
+use Rattle.object_modifications.proofs.KnowingLaws.{known_untried}
 
 pub weighed : (schema : Set) (object : Object) (seen : Seen) (size : ℕ) → IsSeen schema object seen
     → size ≡ counted (weights schema.attributes seen.bound object.attrs) → object_size schema object ≤ 16384
@@ -27,14 +30,18 @@ weighed schema object seen size is sum small =
     let within : is_within size ≡ true = sym (counted_within octets size sum) ∙ whole in
     record { is_seen = is; sum = counted_small octets size sum within; small = within }
 
--- so is the object from which they are made
-pub begun_weighed : (schema : Set) (object : Object) (seen : Seen) (size : ℕ) (made : Kept)
-    → (made_of made ≡ unmodified object) × (made.size ≡ size) → IsWeighed schema seen object size
-    → IsWeighed schema seen made.object made.size
-begun_weighed schema object seen size made begun start =
-    let here : made.object ≡ object = ap (λ (m : Modified). m.object) begun.0 in
-    subst (λ (o : Object). IsWeighed schema seen o made.size) (sym here)
-    (subst (λ (n : ℕ). IsWeighed schema seen object n) (sym begun.1) start)
+-- so is the object from which they are made, of which nothing is known yet
+pub begun_made : (schema : Set) (object : Object) (seen : Seen) (size : ℕ) (made : Kept)
+    → made_of made ≡ unmodified object → made.size ≡ size
+    → made.knowledge.items ≡ replicate (length object.attrs) Untried → IsWeighed schema seen object size
+    → IsMade schema seen made.object made.size made.knowledge.items
+begun_made schema object seen size made begun same none start =
+    let here : made.object ≡ object = ap (λ (m : Modified). m.object) begun in (
+      subst (λ (o : Object). IsWeighed schema seen o made.size) (sym here)
+          (subst (λ (n : ℕ). IsWeighed schema seen object n) (sym same) start),
+      subst (AreKnown schema made.object.class made.object.attrs) (sym none)
+          (known_untried schema made.object.class made.object.attrs (length object.attrs)),
+    )
 
 -- from there the modifications are made
 pub made_all : (schema : Set) (name given : List Rdn) (object : Object) (made : Kept) (changes : List Change)

@@ -9,7 +9,7 @@ use Rattle.term_model.specs.ClassAttributes.{is_labelled}
 use Rattle.term_model.specs.Comparing.{is_same_oid}
 use Rattle.term_model.specs.Modifications.{replaced, without_full}
 use Rattle.attribute_rules.proofs.PlaceLaws.{behind_replaced, first_replaced}
-use Rattle.object_modifications.specs.Settling.{ends_full_by, given_by}
+use Rattle.object_modifications.specs.Settling.{ends_full_by, freed_by}
 use Rattle.object_modifications.specs.StatusPlaces.{full_taken, full_taken_at, status_places}
 
 abbrev is_status : List AttrRec → List ℕ → Bool
@@ -41,7 +41,7 @@ pub first_other : (records : List AttrRec) (n : ℕ) (x : Attribute) (xs : List 
 first_other records n x xs e = rw e refl
 
 -- places that are counted from one more
-places_on : (records : List AttrRec) (n : ℕ) (xs : List Attribute)
+pub places_on : (records : List AttrRec) (n : ℕ) (xs : List Attribute)
     → status_places records (suc n) xs ≡ map suc (status_places records n xs)
 places_on records n [] = refl
 places_on records n (x ∷ xs) = by (is_status records x.id) (places_on records (suc n) xs)
@@ -57,7 +57,7 @@ behind_taken : (records : List AttrRec) (places : List ℕ) (x : Attribute) (xs 
 behind_taken records [] x xs = refl
 behind_taken records (place ∷ places) x xs = behind_taken records places x (full_taken_at records place xs)
 
-stays : (records : List AttrRec) (x : Attribute) → is_status records x.id ≡ false → without_full records x ≡ x
+pub stays : (records : List AttrRec) (x : Attribute) → is_status records x.id ≡ false → without_full records x ≡ x
 stays records x e = rw e refl
 
 pub all_taken : (records : List AttrRec) (xs : List Attribute)
@@ -108,20 +108,18 @@ mapped_places records f same n (x ∷ xs) =
     (same x)
     ∙ ap (λ places. if is_status records x.id then n ∷ places else places) (mapped_places records f same (suc n) xs)
 
--- ---- another value
+-- ---- where it is taken away
 
-pub given_full : (records : List AttrRec) (bound : Bool) (id : List ℕ) (value : TypedValue) (places : List ℕ)
-    (xs : List Attribute) → ends_full_by records bound id ≡ true → places ≡ status_places records 0 xs
-    → full_taken records places (replaced id value xs) ≡ given_by records bound id value xs
-given_full records bound id value places xs ends is =
-    ap (λ ps. full_taken records ps (replaced id value xs)) (is ∙ sym (replaced_places records 0 id value xs))
-    ∙ all_taken records (replaced id value xs) ∙ sym (given records bound id value xs ends)
+pub freed_full : (records : List AttrRec) (bound : Bool) (id places : List ℕ) (xs : List Attribute)
+    → ends_full_by records bound id ≡ true → places ≡ status_places records 0 xs
+    → full_taken records places xs ≡ freed_by records bound id xs
+freed_full records bound id places xs ends is =
+    ap (λ ps. full_taken records ps xs) is ∙ all_taken records xs ∙ sym (freed records bound id xs ends)
   where
-    given : (records : List AttrRec) (bound : Bool) (id : List ℕ) (value : TypedValue) (xs : List Attribute)
-        → ends_full_by records bound id ≡ true
-        → given_by records bound id value xs ≡ map (without_full records) (replaced id value xs)
-    given records bound id value xs e = rw e refl
+    freed : (records : List AttrRec) (bound : Bool) (id : List ℕ) (xs : List Attribute)
+        → ends_full_by records bound id ≡ true → freed_by records bound id xs ≡ map (without_full records) xs
+    freed records bound id xs e = rw e refl
 
-pub given_other : (records : List AttrRec) (bound : Bool) (id : List ℕ) (value : TypedValue) (xs : List Attribute)
-    → ends_full_by records bound id ≡ false → replaced id value xs ≡ given_by records bound id value xs
-given_other records bound id value xs e = rw e refl
+pub freed_other : (records : List AttrRec) (bound : Bool) (id : List ℕ) (xs : List Attribute)
+    → ends_full_by records bound id ≡ false → xs ≡ freed_by records bound id xs
+freed_other records bound id xs e = rw e refl

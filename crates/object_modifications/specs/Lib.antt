@@ -1,3 +1,4 @@
+pub mod Knowing
 pub mod Settling
 pub mod StatusPlaces
 pub mod Trying

@@ -3,6 +3,7 @@
 
 pub(crate) mod held_values;
 pub(crate) mod id_sets;
+pub(crate) mod knowing;
 pub(crate) mod log_status;
 pub(crate) mod modified_values;
 pub(crate) mod modifying;

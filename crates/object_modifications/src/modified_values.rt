@@ -1,16 +1,20 @@
 //! The values that modifications give to attributes: X.711, section 7.5, type ModifyOperator.
 
-ghost use Rattle.std.specs.Prelude.{◌≡◌, ◌&&◌, IfOk, length, nat_le, true};
-ghost use Rattle.std.specs.Option.{option_copied, option_map};
+ghost use Rattle.std.specs.Prelude.{◌≡◌, ◌&&◌, IfOk, IfSome, OnOk, Some, length, nat_le, true};
+ghost use Rattle.std.specs.Option.{option_copied};
 ghost use Rattle.term_values.specs.FitTest.{value_fits};
+ghost use Rattle.term_values.specs.Lengths.{counted};
 ghost use Rattle.term_values.specs.Written.{der};
+ghost use Rattle.fitting_members.specs.MemberLengths.{members_length};
+ghost use Rattle.fitting_members.specs.TakingBack.{TakesBack};
 ghost use Rattle.term_model.specs.ClassAttributes.{is_permitted};
 ghost use Rattle.term_model.specs.Modifications.{given_value, modified_value};
-ghost use Rattle.term_values.specs.SetMembers.{with_members, without_members};
-ghost use Rattle.object_modifications.specs.Trying.{IsTold};
+ghost use Rattle.object_modifications.specs.declared.knowing.Knowledge.TheVariants as known;
+ghost use Rattle.object_modifications.specs.Knowing.{Knows};
+ghost use Rattle.object_modifications.specs.Trying.{changes_members};
 
 use attribute_rules::permitted::is_permitted;
-use fitting_members::{Changed, fitting_with_members, fitting_without_members};
+use fitting_members::{MemberChange, add_members, remove_members};
 use set_values::{with_members, without_members};
 use std::alloc::{AllocError, Global};
 use term_model::request::{ADD_VALUES, REMOVE_VALUES, REPLACE};
@@ -19,7 +23,7 @@ use term_values::{Syntax, Value, der_len};
 use value_fits::fits;
 
 /// The most octets of a value. This is the project's own limit.
-const MOST_VALUE: u64 = 8_192;
+pub(crate) const MOST_VALUE: u64 = 8_192;
 
 /// The value that came with a modification, where it is one of the attribute's syntax.
 fn given_value(change: &Change) -> Option<&Value>
@@ -45,7 +49,7 @@ fn copied(alloc: Global, value: Option<&Value>) -> Result<Option<Value>, AllocEr
 }
 
 /// The value that an attribute is to have by a modification, where one is told.
-fn modified_value(
+pub(crate) fn modified_value(
     alloc: Global,
     syntax: &Syntax,
     property: &Property,
@@ -75,96 +79,64 @@ fn modified_value(
     }
 }
 
-/// A value that is told, and whether it fits.
-fn tried_value(
-    alloc: Global,
-    syntax: &Syntax,
-    value: Option<Value>,
-) -> Result<Option<Changed>, AllocError>
-    ensures { IfOk result (IsTold syntax.now value) }
-{
-    match value {
-        Some(value) => {
-            let fits = fits(alloc, syntax, &value)?;
-            Ok(Some(Changed { value, fits }))
-        }
-        None => Ok(None),
-    }
-}
-
-/// The held value, which fits, with the members that came with a modification.
-fn with_given(
-    alloc: Global,
-    syntax: &Syntax,
-    held: &Value,
-    change: &Change,
-) -> Result<Option<Changed>, AllocError>
-    requires { value_fits syntax.now held.now ≡ true }
-    ensures { IfOk result (IsTold syntax.now
-        (option_map (with_members syntax.now held.now) (given_value change.now))) }
-{
-    match given_value(change) {
-        Some(given) => Ok(Some(fitting_with_members(alloc, syntax, held, given)?)),
-        None => Ok(None),
-    }
-}
-
-/// The held value, which fits, without the members that came with a modification.
-fn without_given(
-    alloc: Global,
-    syntax: &Syntax,
-    held: &Value,
-    change: &Change,
-) -> Result<Option<Changed>, AllocError>
-    requires { value_fits syntax.now held.now ≡ true }
-    ensures { IfOk result (IsTold syntax.now
-        (option_map (without_members syntax.now held.now) (given_value change.now))) }
-{
-    match given_value(change) {
-        Some(given) => Ok(Some(fitting_without_members(alloc, syntax, held, given)?)),
-        None => Ok(None),
-    }
-}
-
-/// The value that an attribute is to have by a modification, where one is told, and whether it fits. Where it is known
-/// that the held value does, only the members that a modification adds or removes are written.
-pub(crate) fn told_value(
+/// The value fits and is permitted.
+pub(crate) fn may_be(
     alloc: Global,
     syntax: &Syntax,
     property: &Property,
-    held: &Value,
-    change: &Change,
-    known: bool,
-) -> Result<Option<Changed>, AllocError>
-    requires { known ≡ true → value_fits syntax.now held.now ≡ true }
-    ensures { IfOk result (IsTold syntax.now (modified_value syntax.now property.now held.now change.now)) }
-{
-    if known && change.operator == ADD_VALUES {
-        return with_given(alloc, syntax, held, change);
-    }
-    if known && change.operator == REMOVE_VALUES {
-        return without_given(alloc, syntax, held, change);
-    }
-    let value = modified_value(alloc, syntax, property, held, change)?;
-    tried_value(alloc, syntax, value)
-}
-
-/// The value fits, is permitted and is not too long.
-pub(crate) fn may_stand(
-    alloc: Global,
-    syntax: &Syntax,
-    property: &Property,
-    changed: &Changed,
+    value: &Value,
 ) -> Result<bool, AllocError>
-    ensures { IfOk result (λ found. found ≡ (changed.now.fits
-        && is_permitted property.now.permitted changed.now.value
-        && nat_le (length (der syntax.now changed.now.value)) 8192)) }
+    ensures { IfOk result (λ found. found
+        ≡ (value_fits syntax.now value.now && is_permitted property.now.permitted value.now)) }
 {
-    if !changed.fits {
+    if !fits(alloc, syntax, value)? {
         return Ok(false);
     }
-    if !is_permitted(alloc, &property.permitted, &changed.value)? {
-        return Ok(false);
+    is_permitted(alloc, &property.permitted, value)
+}
+
+/// The modification adds members to a value, or removes them.
+fn changes_members(change: &Change) -> bool
+    ensures { result ≡ changes_members change.now.operator }
+{
+    change.operator == ADD_VALUES || change.operator == REMOVE_VALUES
+}
+
+/// The members that a modification adds or removes, where it is one that does.
+pub(crate) fn given_members(change: &Change) -> Option<&Value>
+    ensures given { IfSome result (λ given. given_value change.now ≡ Some given.now) }
+    ensures operator { IfSome result (λ given. changes_members change.now.operator ≡ true) }
+{
+    if changes_members(change) {
+        given_value(change)
+    } else {
+        None
     }
-    Ok(der_len(syntax, &changed.value) <= MOST_VALUE)
+}
+
+/// Adds the given members to a value, or removes them, as the modification says.
+pub(crate) fn change_members(
+    alloc: Global,
+    syntax: &Syntax,
+    property: &Property,
+    change: &Change,
+    octets: u64,
+    given: &Value,
+    value: &mut Value,
+) -> Result<MemberChange, AllocError>
+    requires given { given_value change.now ≡ Some given.now }
+    requires operator { changes_members change.now.operator ≡ true }
+    requires known { Knows syntax.now property.now.permitted value.old (known.Fits octets) }
+    ensures value { OnOk result (modified_value syntax.now property.now value.old change.now ≡ Some value.new) }
+    ensures allowed { IfOk result (λ came. came.allowed
+        ≡ (value_fits syntax.now value.new && is_permitted property.now.permitted value.new)) }
+    ensures octets { IfOk result (λ came. came.octets ≡ counted (members_length syntax.now value.new)) }
+    ensures undo { IfOk result (λ came. TakesBack came.undo value.new value.old) }
+{
+    let permitted = property.permitted.items.as_slice();
+    if change.operator == ADD_VALUES {
+        add_members(alloc, syntax, permitted, value, octets, given)
+    } else {
+        remove_members(alloc, syntax, permitted, value, octets, given)
+    }
 }

@@ -296,7 +296,7 @@ fn make_all(
     ensures { IfOk result (λ made. made_of made ≡ modified schema.now name.now (unmodified object.now) changes.now) }
 {
     let records = &schema.attributes;
-    let seen = seen_of(alloc, schema, object, changes)?;
+    let seen = seen_of(alloc, schema, object)?;
     let size = weights(alloc, records, seen.bound, object.attrs.items.as_slice())?;
     let mut made = unmodified(alloc, object, size)?;
     modify_all(
