@@ -2,9 +2,11 @@
 //! section 8.4; docs/PROFILE.md, section 18).
 
 use class_faults::{FaultKind, Faults};
-use joined_properties::{Held, Joined, JoinedAttributes, Permitted};
+use joined_statements::{Held, Joined, JoinedAttributes};
 use linked_types::ClosingParts;
+use permitted_bounds::Permitted;
 use std::alloc::AllocError;
+use std::collections::BTreeSet;
 
 /// Whether two defaults, or two initial values, are unequal.
 fn is_unequal(joined: &Joined) -> bool {
@@ -15,10 +17,10 @@ fn is_unequal(joined: &Joined) -> bool {
 fn narrowed(
     parts: &ClosingParts,
     permitted: Permitted,
-    places: &[usize],
+    places: &BTreeSet<usize>,
 ) -> Result<Permitted, AllocError> {
     let mut left = permitted;
-    for place in places {
+    for place in places.iter() {
         if let Some(further) = parts.table.syntax(Some(*place)) {
             left = left.narrowed(parts.alloc, further)?;
         }
@@ -37,7 +39,7 @@ fn is_nothing_permitted(
     };
     match Permitted::of(parts.alloc, syntax)? {
         Some(permitted) => {
-            let left = narrowed(parts, permitted, joined.permitted.as_slice())?;
+            let left = narrowed(parts, permitted, &joined.permitted)?;
             Ok(left.is_empty())
         }
         None => Ok(false),

@@ -4,10 +4,13 @@
 use asn1_names::Meaning;
 use class_faults::{FaultKind, Faults};
 use filled_syntaxes::{BadTexts, NamedThings};
-use joined_properties::{AssignedValues, Held, Joined, Statement, is_set_valued};
+use joined_properties::Statement;
+use joined_statements::{AssignedValues, Held, Joined};
 use linked_parts::linked::{LinkedName, LinkedPackage, LinkedUse};
 use linked_types::{ClosingParts, TypeTable};
+use permitted_bounds::is_set_valued;
 use std::alloc::AllocError;
+use std::collections::BTreeSet;
 use term_values::{Syntax, Value};
 use token_grammar::Token;
 use value_fits::fits;
@@ -34,16 +37,16 @@ fn held_by(things: &NamedThings, values: &[Option<Value>], name: &Option<LinkedN
     }
 }
 
-/// The place of a type that is named, as a list.
-fn place_list(
+/// The place of a type that is named, where one is.
+fn type_places(
     things: &NamedThings,
     table: &mut TypeTable,
     name: &Option<LinkedName>,
     bad: &mut BadTexts,
-) -> Result<Vec<usize>, AllocError> {
-    let mut places = Vec::new(things.alloc);
+) -> Result<BTreeSet<usize>, AllocError> {
+    let mut places = BTreeSet::new(things.alloc);
     if let Some(name) = name {
-        places.push(table.place(things, name, bad)?)?;
+        places.insert(table.place(things, name, bad)?)?;
     }
     Ok(places)
 }
@@ -56,8 +59,8 @@ fn statement_of(
     stated: &LinkedUse,
     bad: &mut BadTexts,
 ) -> Result<Statement, AllocError> {
-    let permitted = place_list(things, table, &stated.permitted, bad)?;
-    let required = place_list(things, table, &stated.required, bad)?;
+    let permitted = type_places(things, table, &stated.permitted, bad)?;
+    let required = type_places(things, table, &stated.required, bad)?;
     Ok(Statement {
         attribute: stated.attribute,
         joined: Joined {

@@ -6,8 +6,10 @@ ghost use Rattle.class_faults.specs.CyclicFaults.{CyclicClassFaults};
 ghost use Rattle.class_faults.specs.FaultSets.{Notes};
 
 use crate::cyclic_classes::note_cyclic;
-use crate::joined::{AssignedValues, Joined, JoinedAttributes, Joining, join_many, join_one};
 use class_faults::Faults;
+use joined_statements::{
+    AssignedValues, Held, Joined, JoinedAttributes, Joining, join_many, join_one,
+};
 use link_graphs::Cycles;
 use linked_parts::linked::LinkedClass;
 use std::alloc::{AllocError, Global};
@@ -58,14 +60,7 @@ impl Inheriting<'_> {
             for statement in statements.iter() {
                 let joined = &statement.joined;
                 let attribute = statement.attribute;
-                join_one(
-                    self.alloc,
-                    &self.values,
-                    Joining::Beside,
-                    own,
-                    attribute,
-                    joined,
-                )?;
+                join_one(&self.values, Joining::Beside, own, attribute, joined)?;
             }
         }
         Ok(())
@@ -88,17 +83,11 @@ impl Inheriting<'_> {
         let mut joined: JoinedAttributes = BTreeMap::new(self.alloc);
         for superclass in class.superclasses.iter() {
             if let Some(others) = known.get(*superclass) {
-                join_many(
-                    self.alloc,
-                    &self.values,
-                    Joining::Inherited,
-                    &mut joined,
-                    others,
-                )?;
+                join_many(&self.values, Joining::Inherited, &mut joined, others)?;
             }
         }
         let own = self.own(class)?;
-        join_many(self.alloc, &self.values, Joining::Own, &mut joined, &own)?;
+        join_many(&self.values, Joining::Own, &mut joined, &own)?;
         Ok(joined)
     }
 
@@ -183,12 +172,11 @@ fn joined_weight(joined: &Joined) -> usize {
         }
     }
     sum.saturating_add(held_weight(joined))
-        .saturating_add(joined.permitted.as_slice().len())
-        .saturating_add(joined.required.as_slice().len())
+        .saturating_add(joined.permitted.len())
+        .saturating_add(joined.required.len())
 }
 
 fn held_weight(joined: &Joined) -> usize {
-    use crate::joined::Held;
     let mut sum = 0usize;
     for held in [joined.default, joined.initial].iter() {
         let weight = match held {

@@ -1,10 +1,12 @@
 //! The records of classes and of their packages (X.722, sections 8.3 and 8.4).
 
-use joined_properties::{AssignedValues, Held, Joined, JoinedAttributes, Statement};
+use joined_properties::Statement;
+use joined_statements::{AssignedValues, Held, Joined, JoinedAttributes};
 use linked_parts::linked::{LinkedClass, LinkedGroupUse, LinkedPackage};
 use linked_types::ClosingParts;
 use linked_types::closing_parts::{copied, push_id};
 use std::alloc::{AllocError, Global};
+use std::collections::BTreeSet;
 use term_model::{
     ClassRec, ClassRecs, GroupUse, GroupUses, Oids, PackageRec, PackageRecs, Properties, Property,
     Syntaxes, TypeNames,
@@ -37,9 +39,9 @@ fn held_value(parts: &ClosingParts, held: Held) -> Result<Option<Value>, AllocEr
 }
 
 /// The syntaxes of types, by their places.
-fn syntaxes_at(parts: &ClosingParts, places: &[usize]) -> Result<Syntaxes, AllocError> {
+fn syntaxes_at(parts: &ClosingParts, places: &BTreeSet<usize>) -> Result<Syntaxes, AllocError> {
     let mut items = Vec::new(parts.alloc);
-    for place in places {
+    for place in places.iter() {
         if let Some(syntax) = parts.table.syntax(Some(*place)) {
             items.push(syntax.copy(parts.alloc)?)?;
         }
@@ -48,9 +50,9 @@ fn syntaxes_at(parts: &ClosingParts, places: &[usize]) -> Result<Syntaxes, Alloc
 }
 
 /// The names of types, by their places.
-fn names_at(parts: &ClosingParts, places: &[usize]) -> Result<TypeNames, AllocError> {
+fn names_at(parts: &ClosingParts, places: &BTreeSet<usize>) -> Result<TypeNames, AllocError> {
     let mut items = Vec::new(parts.alloc);
-    for place in places {
+    for place in places.iter() {
         if let Some(named) = parts.table.named(*place) {
             items.push(named.name.copy(parts.alloc)?)?;
         }
@@ -63,8 +65,8 @@ fn joined_types(
     parts: &ClosingParts,
     joined: &Joined,
 ) -> Result<(Syntaxes, TypeNames), AllocError> {
-    let permitted = syntaxes_at(parts, joined.permitted.as_slice())?;
-    let required = names_at(parts, joined.required.as_slice())?;
+    let permitted = syntaxes_at(parts, &joined.permitted)?;
+    let required = names_at(parts, &joined.required)?;
     Ok((permitted, required))
 }
 
