@@ -23,15 +23,12 @@ use Rattle.linked_parts.specs.declared.linked.LinkedRule.{LinkedRule}
 use Rattle.linked_parts.specs.declared.linked.LinkedStep.{LinkedStep}
 use Rattle.linked_parts.specs.declared.linked.LinkedStep.TheVariants.{SetValue, Emit, ReplyValue}
 use Rattle.linked_parts.specs.declared.linked.LinkedUse.{LinkedUse}
+use Rattle.filled_syntaxes.specs.BadDefaults.{IsOfDocument}
 use Rattle.filled_syntaxes.specs.FilledSyntaxes.{HasFilled}
 use Rattle.filled_syntaxes.specs.LinkedMeanings.{AssignsNone, assignment_meaning, linked_arcs}
 use Rattle.filled_syntaxes.specs.SaidTexts.{DenotesNone}
 use Rattle.class_faults.specs.AttributeSyntaxes.{AttributeHas}
 use Rattle.class_faults.specs.StatedProperties.{HasValue, TypeHas}
-
--- the module at a place is of this document
-abbrev pub IsOfDocument : List ModuleTerm → ℕ → ℕ → Type 0
-IsOfDocument ms m document = (x : ModuleTerm) × (slice_get ms m ≡ Some x) × (x.document ≡ document)
 
 -- the text of an assigned value denotes no value of its type
 pub record BadAssignedAt (ms : List ModuleTerm) (linked : Linked) (document at : ℕ) : Type 0 where

@@ -1,15 +1,14 @@
 -- Examples, computed: a DEFAULT has its value, one that denotes none leaves its component as OPTIONAL, and what the names
 -- of linked parts mean; docs/PROFILE.md, sections 11 and 12.
-use Rattle.std.proofs.Common.{◌≡◌, ℕ, true, false, List, [], ◌∷◌, None, Some, refl}
+use Rattle.std.proofs.Common.{◌≡◌, true, false, [], ◌∷◌, None, Some, refl}
 use Rattle.std.specs.Prelude.{codes, pos}
 use Rattle.token_grammar.specs.Form.{Tree}
-use Rattle.token_grammar.specs.declared.token.Token.{Token}
 use Rattle.asn1_values_syntax.specs.ValueTrees.{value_tree}
 use Rattle.asn1_values_syntax.specs.declared.value.ValueText.{ValueText}
 use Rattle.asn1_values_syntax.specs.declared.value.ValueText.TheVariants.{Number as TNumber, Literal as TLiteral}
 use Rattle.term_values.specs.Syntaxes.{TypeSyntax}
 use Rattle.term_values.specs.Syntaxes.TypeParts.{NoParts, Part}
-use Rattle.term_values.specs.Syntaxes.TypeSyntax.{Boolean, Integer, Sequence, SequenceOf}
+use Rattle.term_values.specs.Syntaxes.TypeSyntax.{Boolean, Integer, Sequence}
 use Rattle.term_values.specs.Typed.TypedValue.{Int}
 use Rattle.asn1_leaf_values.specs.Arcs.{no_names}
 use Rattle.filled_syntaxes.specs.FilledSyntaxes.{IsFilled, TextsAt}

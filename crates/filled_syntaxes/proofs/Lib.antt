@@ -1,2 +1,9 @@
 mod FilledFacts
 pub mod NotingTexts
+pub mod SaidLaws
+pub mod NamedLaws
+pub mod BadLaws
+pub mod CountLaws
+pub mod FilledLaws
+pub mod WalkLaws
+pub mod ThingsLaws

@@ -1,6 +1,6 @@
 -- NotedTexts: texts that denote no value, by document and token, and that of those noted before and those of a set the
 -- first is kept (docs/PROFILE.md, section 18).
-use Rattle.std.specs.Prelude.{◌≡◌, ◌⊎◌, ◌<◌, ◌≤◌, ℕ, Option, Some}
+use Rattle.std.specs.Prelude.{◌≡◌, ◌⊎◌, ◌<◌, ◌≤◌, ℕ, List, Option, Some, slice_get}
 use Rattle.filled_syntaxes.specs.declared.bad_texts.TextPlace.{TextPlace}
 
 -- one text stands no later than another
@@ -14,6 +14,14 @@ TextSet = TextPlace → Type 0
 -- one text
 abbrev pub ThisText : ℕ → ℕ → TextSet
 ThisText document token place = (document ≡ place.document) × (token ≡ place.token)
+
+-- the texts of two sets
+abbrev pub EitherText : TextSet → TextSet → TextSet
+EitherText One Other place = One place ⊎ Other place
+
+-- those of the elements of a list, each told by its place and the element
+abbrev pub EachText : {X : Type 0} → (ℕ → X → TextSet) → List X → TextSet
+EachText {X} Texts items place = (k : ℕ) × ((x : X) × (slice_get items k ≡ Some x) × Texts k x place)
 
 -- this text is kept, or one before it
 abbrev pub KeepsText : Option TextPlace → TextPlace → Type 0

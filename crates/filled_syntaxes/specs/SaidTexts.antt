@@ -8,6 +8,7 @@ use Rattle.term_values.specs.Typed.{TypedValue}
 use Rattle.asn1_leaf_values.specs.Arcs.{NamedArcs}
 use Rattle.asn1_values.specs.Filters.{value_named}
 use Rattle.asn1_leaf_values.specs.TextValues.{first_place, said}
+use Rattle.filled_syntaxes.specs.NotedTexts.{TextSet}
 
 -- the text of a value that is told by this tree denotes this value of a syntax, where modules give names these arcs
 pub record DenotesValue (names : NamedArcs) (syntax : TypeSyntax) (tree : Tree) (value : TypedValue) : Type 0 where
@@ -21,3 +22,12 @@ pub record DenotesNone (names : NamedArcs) (syntax : TypeSyntax) (tree : Tree) (
   pub told : value_tree text ≡ tree
   pub denotes : value_named names syntax (said text) ≡ None
   pub begins : first_place text ≡ at
+
+-- the value that a text denotes, or that it denotes none
+abbrev pub TellsValue : NamedArcs → TypeSyntax → Tree → Option TypedValue → Type 0
+TellsValue names syntax tree None = (at : ℕ) × DenotesNone names syntax tree at
+TellsValue names syntax tree (Some value) = DenotesValue names syntax tree value
+
+-- a text of a document, where it denotes no value
+abbrev pub BadText : NamedArcs → TypeSyntax → Tree → ℕ → TextSet
+BadText names syntax tree document place = (document ≡ place.document) × DenotesNone names syntax tree place.token

@@ -2,6 +2,7 @@
 //! section 11).
 #![tactic(auto)]
 
+pub mod assigned_values;
 pub mod bad_texts;
 pub mod default_words;
 pub mod filling;
