@@ -1,6 +1,7 @@
 //! Laws of journals, each as the contract of a function that does nothing; docs/PROFILE.md, section 7.
 
-ghost use Rattle.agent_model.specs.JournalLaws.{LegalGoesOn, PlacedStays, ReplayGoesOn, ScriptFrames, ScriptReplays};
+ghost use Rattle.agent_model.specs.JournalLaws.{FilledOnce, LegalGoesOn, PlacedStays, ReplayGoesOn, ScriptFrames};
+ghost use Rattle.agent_model.specs.JournalLaws.{ScriptReplays};
 
 /// A journal that follows another is replayed from the state that the other one came to.
 pub fn replay_goes_on()
@@ -28,4 +29,10 @@ pub fn script_replays()
 /// no association before.
 pub fn script_frames()
     ensures { ScriptFrames }
+{}
+
+/// At most one part of a journal is the one up to the first entry for which there is no room, and there is none where
+/// it has room for all.
+pub fn filled_once()
+    ensures { FilledOnce }
 {}

@@ -1,45 +1,55 @@
--- What the table of associations knows of those that are not closed, as associations change.
+-- What the table of associations knows of those that are not closed, and of those that are live, as associations
+-- change.
 use Rattle.std.proofs.Common.{◌≡◌, ℕ, zero, suc, ◌+◌, ◌-◌, ◌<◌, ◌≤◌, Bool, true, false, List, [], ◌∷◌, ◌++◌, length}
 use Rattle.std.proofs.Common.{Option, Some, None, refl, sym, ap, ◌∙◌, ⊎_elim, arith, subst}
-use Rattle.std.specs.Prelude.{◌==◌, ◌&&◌, ◌||◌, not, is_some, slice_get, slice_set, if◌then◌else◌}
+use Rattle.std.specs.Prelude.{◌==◌, ◌&&◌, ◌||◌, not, count_by, is_some, slice_get, slice_set, if◌then◌else◌}
 use Rattle.std.specs.List.{filter, list_any}
 use Rattle.std.specs.Option.{option_map_or}
 use Rattle.std.proofs.Math.Bool.{and-false, and-true, or-false, or-true}
-use Rattle.std.proofs.lemmas.Bool.{and_parts, cases_Bool, eqb-true, eqb-false, ne_eqb}
+use Rattle.std.proofs.lemmas.Bool.{and_parts, cases_Bool, eqb-true, eqb-false, false≢true, ne_eqb}
 use Rattle.std.proofs.lemmas.List.Folds.{list_any-append}
 use Rattle.std.proofs.lemmas.List.Sums.{sum_by-append, sum_by-cons}
 use Rattle.std.proofs.lemmas.Map.Views.{any-filter_same}
 use Rattle.std.proofs.lemmas.Option.{none-some, same_Some, slice_get_past}
 use Rattle.term_model.specs.declared.agent_state.Association.{Association}
 use Rattle.term_model.specs.declared.agent_state.AssociationState.{AssociationState}
-use Rattle.term_model.specs.declared.agent_state.AssociationState.TheVariants.{Overrun}
-use Rattle.term_model.specs.AgentState.{is_closed_state, numbered}
+use Rattle.term_model.specs.declared.agent_state.AssociationState.TheVariants as standing
+use Rattle.term_model.specs.declared.agent_state.AssociationState.TheVariants.{Finished, Overrun}
+use Rattle.term_model.specs.AgentState.{is_closed_state, is_live_state, numbered}
 use Rattle.term_model.specs.Step.{changed_association, with_state}
 use Rattle.term_model.specs.Comparing.{is_same_oid}
 use Rattle.term_model.proofs.StepLaws.{StandsAt, changed_association_at, numbered_last, numbered_set, stands_from_some}
 use Rattle.agent_model.specs.Binding.{count_open, has_title, is_open}
-use Rattle.agent_steps.specs.Admitting.{AreCounted, is_admitted}
+use Rattle.agent_model.specs.JournalRoom.{reserved_by_association, reserved_by_associations}
+use Rattle.agent_steps.specs.Admitting.{AreCounted, count_live, is_admitted, is_live}
 
--- how many are not closed, where one is put in the place of another
-abbrev weight : Bool → ℕ
+-- how many pass a test, where one is put in the place of another
+abbrev pub weight : Bool → ℕ
 weight b = if b then 1 else 0
 
-count_cons : (x : Association) (xs : List Association) → count_open (x ∷ xs) ≡ weight (is_open x) + count_open xs
-count_cons x xs = sum_by-cons (λ a. weight (is_open a)) x xs
+module _ (test : Association → Bool) where
+  count_cons : (x : Association) (xs : List Association) → count_by test (x ∷ xs) ≡ weight (test x) + count_by test xs
+  count_cons x xs = sum_by-cons (λ a. weight (test a)) x xs
 
-count_set : (xs : List Association) (i : ℕ) (a b : Association) → slice_get xs i ≡ Some a
-    → count_open (slice_set xs i b) + weight (is_open a) ≡ count_open xs + weight (is_open b)
-count_set [] i a b h = absurd (none-some a h)
-count_set (x ∷ xs) zero a b h =
-    let same = ap (λ y. weight (is_open y)) (same_Some x a h) in
-    let one = count_cons b xs in
-    let other = count_cons x xs in
-    omega arith
-count_set (x ∷ xs) (suc i) a b h =
-    let rest = count_set xs i a b h in
-    let one = count_cons x (slice_set xs i b) in
-    let other = count_cons x xs in
-    omega arith
+  count_set : (xs : List Association) (i : ℕ) (a b : Association) → slice_get xs i ≡ Some a
+      → count_by test (slice_set xs i b) + weight (test a) ≡ count_by test xs + weight (test b)
+  count_set [] i a b h = absurd (none-some a h)
+  count_set (x ∷ xs) zero a b h =
+      let same = ap (λ y. weight (test y)) (same_Some x a h) in
+      let one = count_cons b xs in
+      let other = count_cons x xs in
+      omega arith
+  count_set (x ∷ xs) (suc i) a b h =
+      let rest = count_set xs i a b h in
+      let one = count_cons x (slice_set xs i b) in
+      let other = count_cons x xs in
+      omega arith
+
+  count_push : (xs : List Association) (a : Association) → count_by test (xs ++ a ∷ []) ≡ count_by test xs + weight (test a)
+  count_push xs a =
+      let all = sum_by-append (λ b. weight (test b)) xs (a ∷ []) in
+      let last = count_cons a [] in
+      omega arith
 
 -- what stands under the other numbers stays
 get_set_other : (xs : List Association) (i j : ℕ) (b : Association) → (j ≡ i → ⊥)
@@ -78,15 +88,21 @@ admitted_alike xs number a b n s same =
     ap (λ o. option_map_or is_admitted o false) (numbered_other xs number n b s.positive (eqb-false n number e)))
     (cases_Bool (n == number))
 
-pub counted_kept : (xs : List Association) (count : ℕ) (admitted : List ℕ) (number : ℕ) (a b : Association)
-    → StandsAt xs number a → is_open b ≡ is_open a → is_admitted b ≡ is_admitted a → AreCounted xs count admitted
-    → AreCounted (slice_set xs (number - 1) b) count admitted
-counted_kept xs count admitted number a b s open_alike same r =
-    let changed = count_set xs (number - 1) a b s.there in
+-- so many are live, where another association stands in the place of one
+living_then : (xs : List Association) (live : ℕ) (i : ℕ) (a b : Association) → slice_get xs i ≡ Some a
+    → live ≡ count_live xs → (live + weight (is_live b)) - weight (is_live a) ≡ count_live (slice_set xs i b)
+living_then xs live i a b there is = let changed = count_set is_live xs i a b there in omega arith
+
+pub counted_kept : (xs : List Association) (count live : ℕ) (admitted : List ℕ) (number : ℕ) (a b : Association)
+    → StandsAt xs number a → is_open b ≡ is_open a → is_admitted b ≡ is_admitted a → AreCounted xs count live admitted
+    → AreCounted (slice_set xs (number - 1) b) count ((live + weight (is_live b)) - weight (is_live a)) admitted
+counted_kept xs count live admitted number a b s open_alike same r =
+    let changed = count_set is_open xs (number - 1) a b s.there in
     let alike = ap weight open_alike in
     let before = r.counted in
     record {
       counted = omega arith;
+      living = living_then xs live (number - 1) a b s.there r.living;
       told = λ n. r.told n ∙ sym (admitted_alike xs number a b n s same);
     }
 
@@ -105,29 +121,37 @@ closed_at xs admitted number a b n s none told =
     (numbered_other xs number n b s.positive (eqb-false n number e)))))
     (cases_Bool (n == number))
 
-pub counted_closed : (xs : List Association) (count : ℕ) (admitted : List ℕ) (number : ℕ) (a b : Association)
-    → StandsAt xs number a → is_open a ≡ true → is_open b ≡ false → AreCounted xs count admitted
-    → AreCounted (slice_set xs (number - 1) b) (count - 1) (filter (λ n. not (n == number)) admitted)
-counted_closed xs count admitted number a b s was is r =
-    let changed = count_set xs (number - 1) a b s.there in
+pub counted_closed : (xs : List Association) (count live : ℕ) (admitted : List ℕ) (number : ℕ) (a b : Association)
+    → StandsAt xs number a → is_open a ≡ true → is_open b ≡ false → AreCounted xs count live admitted
+    → AreCounted (slice_set xs (number - 1) b) (count - 1) ((live + weight (is_live b)) - weight (is_live a))
+    (filter (λ n. not (n == number)) admitted)
+counted_closed xs count live admitted number a b s was is r =
+    let changed = count_set is_open xs (number - 1) a b s.there in
     let one = ap weight was in
     let other = ap weight is in
     let before = r.counted in
     record {
       counted = omega arith;
+      living = living_then xs live (number - 1) a b s.there r.living;
       told = λ n.
           any-filter_same (λ k. k == n) (λ k. not (k == number)) (not (n == number))
           (λ k e. ap (λ m. not (m == number)) (eqb-true k n e)) admitted
           ∙ closed_at xs admitted number a b n s (ap (λ t. t && is_some b.title) is) (r.told n);
     }
 
-pub one_open : (xs : List Association) (count : ℕ) (admitted : List ℕ) (number : ℕ) (a : Association)
-    → StandsAt xs number a → is_open a ≡ true → AreCounted xs count admitted → 1 ≤ count
-one_open xs count admitted number a s was r =
-    let changed = count_set xs (number - 1) a a s.there in
-    let gone = count_set xs (number - 1) a (record a { state = Overrun }) s.there in
+pub one_open : (xs : List Association) (count live : ℕ) (admitted : List ℕ) (number : ℕ) (a : Association)
+    → StandsAt xs number a → is_open a ≡ true → AreCounted xs count live admitted → 1 ≤ count
+one_open xs count live admitted number a s was r =
+    let gone = count_set is_open xs (number - 1) a (record a { state = Overrun }) s.there in
     let one = ap weight was in
     let before = r.counted in
+    omega arith
+
+one_live : (xs : List Association) (count live : ℕ) (admitted : List ℕ) (number : ℕ) (a : Association)
+    → StandsAt xs number a → AreCounted xs count live admitted → weight (is_live a) ≤ live
+one_live xs count live admitted number a s r =
+    let gone = count_set is_live xs (number - 1) a (record a { state = Overrun }) s.there in
+    let before = r.living in
     omega arith
 
 -- one that is not closed is added
@@ -178,31 +202,37 @@ added_at xs a admitted n told =
     (sym (numbered_before xs a n (λ h. eqb-false (length xs + 1) n e (sym h))))))))
     (cases_Bool ((length xs + 1) == n))
 
-pub counted_more : (xs : List Association) (count : ℕ) (admitted : List ℕ) (a : Association) → is_open a ≡ true
-    → AreCounted xs count admitted
-    → AreCounted (xs ++ a ∷ []) (count + 1) (admitted_more (is_admitted a) admitted (length xs + 1))
-counted_more xs count admitted a is r =
-    let all = sum_by-append (λ b. weight (is_open b)) xs (a ∷ []) in
-    let last = count_cons a [] in
+pub counted_more : (xs : List Association) (count live : ℕ) (admitted : List ℕ) (a : Association) → is_open a ≡ true
+    → AreCounted xs count live admitted
+    → AreCounted (xs ++ a ∷ []) (count + 1) (live + weight (is_live a))
+    (admitted_more (is_admitted a) admitted (length xs + 1))
+counted_more xs count live admitted a is r =
+    let all = count_push is_open xs a in
+    let lives = count_push is_live xs a in
     let one = ap weight is in
     let before = r.counted in
+    let was = r.living in
     record {
       counted = omega arith;
+      living = omega arith;
       told = λ n. any_more (is_admitted a) admitted (length xs + 1) n ∙ added_at xs a admitted n (r.told n);
     }
 
-pub counted_admitted : (xs : List Association) (count : ℕ) (admitted : List ℕ) (a : Association) → is_open a ≡ true
-    → is_admitted a ≡ true → AreCounted xs count admitted
-    → AreCounted (xs ++ a ∷ []) (count + 1) (admitted ++ (length xs + 1) ∷ [])
-counted_admitted xs count admitted a is admits r =
-    subst (λ t. AreCounted (xs ++ a ∷ []) (count + 1) (admitted_more t admitted (length xs + 1))) admits
-    (counted_more xs count admitted a is r)
+pub counted_admitted : (xs : List Association) (count live : ℕ) (admitted : List ℕ) (a : Association)
+    → is_open a ≡ true → is_admitted a ≡ true → AreCounted xs count live admitted
+    → AreCounted (xs ++ a ∷ []) (count + 1) (live + weight (is_live a)) (admitted ++ (length xs + 1) ∷ [])
+counted_admitted xs count live admitted a is admits r =
+    subst (λ t. AreCounted (xs ++ a ∷ []) (count + 1) (live + weight (is_live a))
+    (admitted_more t admitted (length xs + 1))) admits
+    (counted_more xs count live admitted a is r)
 
-pub counted_turned : (xs : List Association) (count : ℕ) (admitted : List ℕ) (a : Association) → is_open a ≡ true
-    → is_admitted a ≡ false → AreCounted xs count admitted → AreCounted (xs ++ a ∷ []) (count + 1) admitted
-counted_turned xs count admitted a is turned r =
-    subst (λ t. AreCounted (xs ++ a ∷ []) (count + 1) (admitted_more t admitted (length xs + 1))) turned
-    (counted_more xs count admitted a is r)
+pub counted_turned : (xs : List Association) (count live : ℕ) (admitted : List ℕ) (a : Association) → is_open a ≡ true
+    → is_admitted a ≡ false → AreCounted xs count live admitted
+    → AreCounted (xs ++ a ∷ []) (count + 1) (live + weight (is_live a)) admitted
+counted_turned xs count live admitted a is turned r =
+    subst (λ t. AreCounted (xs ++ a ∷ []) (count + 1) (live + weight (is_live a))
+    (admitted_more t admitted (length xs + 1))) turned
+    (counted_more xs count live admitted a is r)
 
 -- a title is had by one that is not closed exactly where one of those that were admitted has it
 found : {T : Type 0} (test : T → Bool) (xs : List T) → list_any test xs ≡ true
@@ -262,9 +292,9 @@ titled_under title xs n h =
     let s = stands_from_some xs n p.0 p.1 in
     any_where (has_title title) xs (n - 1) p.0 s.there p.2
 
-titled_number : (title : List ℕ) (xs : List Association) (count : ℕ) (admitted : List ℕ) → AreCounted xs count admitted
-    → list_any (has_title title) xs ≡ true → list_any (titled_at title xs) admitted ≡ true
-titled_number title xs count admitted r h =
+titled_number : (title : List ℕ) (xs : List Association) (count live : ℕ) (admitted : List ℕ)
+    → AreCounted xs count live admitted → list_any (has_title title) xs ≡ true → list_any (titled_at title xs) admitted ≡ true
+titled_number title xs count live admitted r h =
     let p = found (has_title title) xs h in
     let there : numbered xs (suc p.0) ≡ Some p.1 = numbered_at xs p.0 p.1 p.2 in
     let has : list_any (λ k. k == suc p.0) admitted ≡ true =
@@ -274,15 +304,15 @@ titled_number title xs count admitted r h =
     (ap (titled_at title xs) (eqb-true q.1 (suc p.0) q.3)
     ∙ (ap (λ o. option_map_or (has_title title) o false) there ∙ p.3))
 
-pub titled_alike : (title : List ℕ) (xs : List Association) (count : ℕ) (admitted : List ℕ)
-    → AreCounted xs count admitted → list_any (titled_at title xs) admitted ≡ list_any (has_title title) xs
-titled_alike title xs count admitted r =
+pub titled_alike : (title : List ℕ) (xs : List Association) (count live : ℕ) (admitted : List ℕ)
+    → AreCounted xs count live admitted → list_any (titled_at title xs) admitted ≡ list_any (has_title title) xs
+titled_alike title xs count live admitted r =
     same_tests (list_any (titled_at title xs) admitted) (list_any (has_title title) xs)
     (λ h. let q = found (titled_at title xs) admitted h in titled_under title xs q.1 q.3)
-    (titled_number title xs count admitted r)
+    (titled_number title xs count live admitted r)
 
-pub none_counted : AreCounted [] 0 []
-none_counted = record { counted = refl; told = none_told }
+pub none_counted : AreCounted [] 0 0 []
+none_counted = record { counted = refl; living = refl; told = none_told }
 
 -- an association stands under each number within
 get_within : (xs : List Association) (i : ℕ) → i < length xs → (a : Association) × (slice_get xs i ≡ Some a)
@@ -303,42 +333,127 @@ stands_within xs number positive within =
       },
     )
 
--- one is changed, and is as open and as admitted
-pub counted_changed : (xs : List Association) (count : ℕ) (admitted : List ℕ) (number : ℕ)
+-- one is changed, and is as open, as live and as admitted
+same_live : (live : ℕ) (one other : Bool) → other ≡ one → (live + weight other) - weight one ≡ live
+same_live live one other e = let same = ap weight e in omega arith
+
+pub counted_changed : (xs : List Association) (count live : ℕ) (admitted : List ℕ) (number : ℕ)
     (change : Association → Association) → (1 ≤ number) × (number ≤ length xs)
     → ((a : Association) → numbered xs number ≡ Some a → is_open (change a) ≡ is_open a)
+    → ((a : Association) → numbered xs number ≡ Some a → is_live (change a) ≡ is_live a)
     → ((a : Association) → numbered xs number ≡ Some a → is_admitted (change a) ≡ is_admitted a)
-    → AreCounted xs count admitted → AreCounted (changed_association xs number change) count admitted
-counted_changed xs count admitted number change within open_alike same r =
+    → AreCounted xs count live admitted → AreCounted (changed_association xs number change) count live admitted
+counted_changed xs count live admitted number change within open_alike live_alike same r =
     let s = stands_within xs number within.0 within.1 in
-    subst (λ ys. AreCounted ys count admitted) (sym (changed_association_at xs number change s.0 s.1.there))
-    (counted_kept xs count admitted number s.0 (change s.0) s.1 (open_alike s.0 s.1.is) (same s.0 s.1.is) r)
+    let b = change s.0 in
+    subst (λ ys. AreCounted ys count live admitted) (sym (changed_association_at xs number change s.0 s.1.there))
+    (subst (λ n. AreCounted (slice_set xs (number - 1) b) count n admitted)
+    (same_live live (is_live s.0) (is_live b) (live_alike s.0 s.1.is))
+    (counted_kept xs count live admitted number s.0 b s.1 (open_alike s.0 s.1.is) (same s.0 s.1.is) r))
+
+-- no more comes from one that isn't closed: it is live no longer
+pub counted_finished : (xs : List Association) (count live was : ℕ) (admitted : List ℕ) (number : ℕ)
+    → (1 ≤ number) × (number ≤ length xs)
+    → ((a : Association) → numbered xs number ≡ Some a → true ≡ is_open a)
+    → ((a : Association) → numbered xs number ≡ Some a → was ≡ weight (is_live a)) → AreCounted xs count live admitted
+    → (was ≤ live) × AreCounted (changed_association xs number (with_state Finished)) count (live - was) admitted
+counted_finished xs count live was admitted number within opened lives r =
+    let s = stands_within xs number within.0 within.1 in
+    let is = lives s.0 s.1.is in
+    let b = with_state Finished s.0 in
+    let one = one_live xs count live admitted number s.0 s.1 r in
+    let less : (live + weight (is_live b)) - weight (is_live s.0) ≡ live - was = omega arith in (
+      omega arith,
+      subst (λ ys. AreCounted ys count (live - was) admitted)
+          (sym (changed_association_at xs number (with_state Finished) s.0 s.1.there))
+          (subst (λ n. AreCounted (slice_set xs (number - 1) b) count n admitted) less
+          (counted_kept xs count live admitted number s.0 b s.1 (opened s.0 s.1.is)
+          (ap (λ t. t && is_some s.0.title) (opened s.0 s.1.is)) r)),
+    )
 
 -- one is closed, where it wasn't, and where it was
+pub counted_less : (xs : List Association) (count live was : ℕ) (admitted : List ℕ) (number : ℕ)
+    → (1 ≤ number) × (number ≤ length xs)
+    → ((a : Association) → numbered xs number ≡ Some a → was ≡ weight (is_live a)) → AreCounted xs count live admitted
+    → was ≤ live
+counted_less xs count live was admitted number within lives r =
+    let s = stands_within xs number within.0 within.1 in
+    let is = lives s.0 s.1.is in
+    let one = one_live xs count live admitted number s.0 s.1 r in
+    omega arith
+
 open_unless : (a : Association) (closed : Bool) → closed ≡ is_closed_state a.state → is_open a ≡ not closed
 open_unless a closed e = ap (λ t. not t) (sym e)
 
-pub counted_shut : (xs : List Association) (count : ℕ) (admitted : List ℕ) (number : ℕ) (state : AssociationState)
+closed_dead : (state : AssociationState) → is_closed_state state ≡ true → is_live_state state ≡ false
+closed_dead standing.Live h = absurd (false≢true h)
+closed_dead standing.Finished h = refl
+closed_dead (standing.Closed cause) h = refl
+closed_dead standing.Overrun h = refl
+
+pub counted_shut : (xs : List Association) (count live was : ℕ) (admitted : List ℕ) (number : ℕ)
+    (state : AssociationState)
     → (1 ≤ number) × (number ≤ length xs) → is_closed_state state ≡ true
     → ((a : Association) → numbered xs number ≡ Some a → false ≡ is_closed_state a.state)
-    → AreCounted xs count admitted
-    → (1 ≤ count) × AreCounted (changed_association xs number (with_state state)) (count - 1)
+    → ((a : Association) → numbered xs number ≡ Some a → was ≡ weight (is_live a))
+    → AreCounted xs count live admitted
+    → (1 ≤ count) × AreCounted (changed_association xs number (with_state state)) (count - 1) (live - was)
     (filter (λ n. not (n == number)) admitted)
-counted_shut xs count admitted number state within shuts was r =
+counted_shut xs count live was admitted number state within shuts opened lives r =
     let s = stands_within xs number within.0 within.1 in
-    let is = open_unless s.0 false (was s.0 s.1.is) in (
-      one_open xs count admitted number s.0 s.1 is r,
-      subst (λ ys. AreCounted ys (count - 1) (filter (λ n. not (n == number)) admitted))
+    let is = open_unless s.0 false (opened s.0 s.1.is) in
+    let b = with_state state s.0 in
+    let lived = lives s.0 s.1.is in
+    let dead = ap weight (closed_dead state shuts) in
+    let one = one_live xs count live admitted number s.0 s.1 r in
+    let less : (live + weight (is_live b)) - weight (is_live s.0) ≡ live - was = omega arith in (
+      one_open xs count live admitted number s.0 s.1 is r,
+      subst (λ ys. AreCounted ys (count - 1) (live - was) (filter (λ n. not (n == number)) admitted))
           (sym (changed_association_at xs number (with_state state) s.0 s.1.there))
-          (counted_closed xs count admitted number s.0 (with_state state s.0) s.1 is (ap (λ t. not t) shuts) r),
+          (subst (λ n. AreCounted (slice_set xs (number - 1) b) (count - 1) n (filter (λ n. not (n == number)) admitted))
+          less (counted_closed xs count live admitted number s.0 b s.1 is (ap (λ t. not t) shuts) r)),
     )
 
-pub counted_anew : (xs : List Association) (count : ℕ) (admitted : List ℕ) (number : ℕ) (state : AssociationState)
+pub counted_anew : (xs : List Association) (count live was : ℕ) (admitted : List ℕ) (number : ℕ)
+    (state : AssociationState)
     → (1 ≤ number) × (number ≤ length xs) → is_closed_state state ≡ true
     → ((a : Association) → numbered xs number ≡ Some a → true ≡ is_closed_state a.state)
-    → AreCounted xs count admitted → AreCounted (changed_association xs number (with_state state)) count admitted
-counted_anew xs count admitted number state within shuts was r =
+    → ((a : Association) → numbered xs number ≡ Some a → was ≡ weight (is_live a))
+    → AreCounted xs count live admitted
+    → AreCounted (changed_association xs number (with_state state)) count (live - was) admitted
+counted_anew xs count live was admitted number state within shuts shut lives r =
+    let s = stands_within xs number within.0 within.1 in
+    let none : was ≡ 0 = lives s.0 s.1.is ∙ ap weight (closed_dead s.0.state (sym (shut s.0 s.1.is))) in
     let alike : (a : Association) → numbered xs number ≡ Some a → is_open (with_state state a) ≡ is_open a =
-    λ a h. ap (λ t. not t) (shuts ∙ was a h) in
-    counted_changed xs count admitted number (with_state state) within alike
-    (λ a h. ap (λ t. t && is_some a.title) (alike a h)) r
+    λ a h. ap (λ t. not t) (shuts ∙ shut a h) in
+    let dead : (a : Association) → numbered xs number ≡ Some a → is_live (with_state state a) ≡ is_live a =
+    λ a h. closed_dead state shuts ∙ sym (closed_dead a.state (sym (shut a h))) in
+    subst (λ n. AreCounted (changed_association xs number (with_state state)) count n admitted) (omega arith)
+    (counted_changed xs count live admitted number (with_state state) within alike dead
+    (λ a h. ap (λ t. t && is_some a.title) (alike a h)) r)
+
+-- what is reserved for associations: a place for each that isn't closed, and one more for each that is live
+state_places : (state : AssociationState)
+    → reserved_by_association state ≡ weight (not (is_closed_state state)) + weight (is_live_state state)
+state_places standing.Live = refl
+state_places standing.Finished = refl
+state_places (standing.Closed cause) = refl
+state_places standing.Overrun = refl
+
+all_places : (xs : List Association) → reserved_by_associations xs ≡ count_open xs + count_live xs
+all_places [] = refl
+all_places (a ∷ xs) =
+    let own = sum_by-cons (λ (b : Association). reserved_by_association b.state) a xs in
+    let one = state_places a.state in
+    let opens = count_cons is_open a xs in
+    let lives = count_cons is_live a xs in
+    let rest = all_places xs in
+    omega arith
+
+pub counted_places : (xs : List Association) (count live : ℕ) (admitted : List ℕ) → AreCounted xs count live admitted
+    → reserved_by_associations xs ≡ count + live
+counted_places xs count live admitted r =
+    let all = all_places xs in
+    let opens = r.counted in
+    let lives = r.living in
+    omega arith

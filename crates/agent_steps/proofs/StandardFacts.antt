@@ -20,7 +20,7 @@ use Rattle.term_model.specs.declared.scope.Scope.TheVariants.{Plain}
 use Rattle.term_model.specs.AgentLimits.{shipped}
 use Rattle.term_model.specs.AgentState.{is_closed_state, is_live_state}
 use Rattle.agent_model.specs.Performing.{nothing_sent}
-use Rattle.agent_steps.specs.Admitting.{AreCounted, is_admitted, with_all_taken}
+use Rattle.agent_steps.specs.Admitting.{AreCounted, count_live, is_admitted, is_live, with_all_taken}
 use Rattle.agent_steps.specs.Answering.{answered}
 use Rattle.agent_steps.specs.Asking.{has_unbuilt}
 use Rattle.agent_steps.specs.States.{agent_of, has_state, moment_of_grant, sent_to}
@@ -62,8 +62,14 @@ not_once_closed = refl
 not_where_turned_away : is_admitted turned_away ≡ false
 not_where_turned_away = refl
 
-one_is_counted : AreCounted (manager Live 0 ∷ []) 1 (1 ∷ [])
-one_is_counted = counted_admitted [] 0 [] (manager Live 0) refl refl none_counted
+one_is_counted : AreCounted (manager Live 0 ∷ []) 1 1 (1 ∷ [])
+one_is_counted = counted_admitted [] 0 0 [] (manager Live 0) refl refl none_counted
+
+one_of_three_is_live : count_live (manager Live 0 ∷ turned_away ∷ manager (Closed End) 0 ∷ []) ≡ 1
+one_of_three_is_live = refl
+
+no_more_than_live : (is_live (manager Live 0) ≡ true) × (is_live turned_away ≡ false)
+no_more_than_live = (refl, refl)
 
 all_three_octets_taken : with_all_taken (manager Live 1) ≡ manager Live 3
 all_three_octets_taken = refl

@@ -4,6 +4,7 @@ ghost use Rattle.std.specs.Prelude.{◌≡◌, ◌+◌, ◌^◌, ◌<◌, length
 ghost use Rattle.std.specs.Option.{option_map_or};
 ghost use Rattle.term_model.specs.AgentState.{association_of, is_closed_state, is_live_state, left_to_take};
 ghost use Rattle.term_model.specs.Step.{counted};
+ghost use Rattle.agent_model.specs.JournalRoom.{reserved_by_associations};
 ghost use Rattle.agent_model.specs.Starting.{started};
 ghost use Rattle.agent_steps.specs.Asking.{AreAskable, has_unbuilt};
 ghost use Rattle.agent_steps.specs.States.{has_state};
@@ -111,6 +112,22 @@ impl<L: StepLedger> Agent<L> {
         ensures { result ≡ self.now.entries }
     {
         self.entries
+    }
+
+    /// How many places of the journal are reserved for the associations: for each that is open its finish and its close,
+    /// for each that is finished its close. Looks at no association.
+    pub fn count_reserved(&self) -> u128
+        ensures reserved { result ≡ reserved_by_associations self.now.associations }
+        ensures few { result < 2 ^ 65 }
+    {
+        self.associations.count_reserved()
+    }
+
+    /// How much it holds at the most.
+    pub fn limits(&self) -> Limits
+        ensures { result ≡ self.now.limits }
+    {
+        self.limits
     }
 
     /// The filter of each operation is valid under the agent's records. Does nothing.

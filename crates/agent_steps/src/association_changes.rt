@@ -1,6 +1,7 @@
 //! Changes of one of the associations of an agent: docs/PROFILE.md, section 7.
 
 ghost use Rattle.std.specs.Prelude.{◌≡◌, ◌+◌, ◌≤◌, ◌++◌, ◌∷◌, [], length, IfOk, OnErr, OnOk, Some};
+ghost use Rattle.std.specs.Prelude.{if◌then◌else◌};
 ghost use Rattle.term_model.specs.declared.agent_state.Association.{Association};
 ghost use Rattle.term_model.specs.AgentState.{is_closed_state, is_live_state, left_to_take, numbered};
 ghost use Rattle.term_model.specs.Step.{changed_association, with_placed, with_state};
@@ -31,6 +32,13 @@ pub fn is_closed(state: AssociationState) -> bool
     }
 }
 
+/// How many places of the journal are reserved for an association because its manager may send: for its finish.
+pub fn places_of_live(state: AssociationState) -> u64
+    ensures { result ≡ (if is_live_state state then 1 else 0) }
+{
+    is_live(state) as u64
+}
+
 /// How many bytes of an association are placed and not taken; none of a closed one.
 pub fn count_left(association: &Association) -> u64
     ensures { result ≡ left_to_take association.now }
@@ -47,6 +55,15 @@ pub fn is_closed_at(associations: &Associations, number: u64) -> bool
     ensures { (a : Association) → numbered associations.now number ≡ Some a → result ≡ is_closed_state a.state }
 {
     is_closed(associations.items[(number - 1) as usize].state)
+}
+
+/// How many places of the journal are reserved for the finish of the association under this number.
+pub fn places_of_live_at(associations: &Associations, number: u64) -> u64
+    requires { (1 ≤ number) × (number ≤ length associations.now) }
+    ensures { (a : Association) → numbered associations.now number ≡ Some a
+        → result ≡ (if is_live_state a.state then 1 else 0) }
+{
+    places_of_live(associations.items[(number - 1) as usize].state)
 }
 
 /// Adds an association, and answers its number.

@@ -1,6 +1,7 @@
-//! The associations by number, with what a BIND asks of all of them: docs/PROFILE.md, section 7.
+//! The associations by number, with what a BIND asks of all of them, and the places of the journal that are reserved for
+//! them: docs/PROFILE.md, section 7.
 
-ghost use Rattle.std.specs.Prelude.{◌≡◌, ◌+◌, ◌<◌, ◌≤◌, ◌==◌, ◌++◌, ◌∷◌, [], false, length, not};
+ghost use Rattle.std.specs.Prelude.{◌≡◌, ◌+◌, ◌^◌, ◌<◌, ◌≤◌, ◌==◌, ◌++◌, ◌∷◌, [], false, length, not};
 ghost use Rattle.std.specs.Prelude.{ℕ, OnOk, Some, true, vec_capacity, vec_len};
 ghost use Rattle.std.specs.List.{filter, list_any};
 ghost use Rattle.std.specs.Option.{option_copied, option_map_or};
@@ -8,11 +9,13 @@ ghost use Rattle.term_model.specs.declared.agent_state.Association.{Association}
 ghost use Rattle.term_model.specs.AgentState.{is_closed_state, numbered};
 ghost use Rattle.term_model.specs.Step.{changed_association, with_placed, with_state};
 ghost use Rattle.agent_model.specs.Binding.{count_open, has_title, is_open};
+ghost use Rattle.agent_model.specs.JournalRoom.{reserved_by_associations};
 ghost use Rattle.agent_model.specs.Performing.{with_own};
 ghost use Rattle.agent_steps.specs.Admitting.{is_admitted, with_all_taken};
 
 use crate::association_changes::{
-    add_association, is_closed, is_closed_at, place, set_association_state, set_own, take_placed,
+    add_association, is_closed, is_closed_at, place, places_of_live, places_of_live_at,
+    set_association_state, set_own, take_placed,
 };
 use std::alloc::{AllocError, Global};
 use std::marker::Model;
@@ -31,13 +34,15 @@ pub const BAD_BIND: u8 = 2;
 /// The result of a BIND while as many associations as may be are not closed.
 pub const TOO_MANY: u8 = 3;
 
-/// The associations by number, the first of which is 1; how many of them are not closed, and which of these were
-/// admitted.
+/// The associations by number, the first of which is 1; how many of them are not closed, how many of these are live, and
+/// which of them were admitted.
 #[derive(Drop)]
 pub struct AssociationTable {
     associations: Associations,
     /// How many are not closed.
     unclosed: u64,
+    /// How many are live.
+    live: u64,
     /// The numbers of those that were admitted and are not closed.
     admitted: Vec<u64>,
 }
@@ -51,7 +56,8 @@ impl Model for AssociationTable {
 
     ghost view = { λ table. table.associations };
 
-    ghost invariant = { λ table. AreCounted table.associations table.unclosed table.admitted.items };
+    ghost invariant = { λ table. AreCounted table.associations table.unclosed table.live
+        table.admitted.items };
 }
 
 /// Whether an association is not closed and has this title.
@@ -134,6 +140,7 @@ impl AssociationTable {
                 items: Vec::new(alloc),
             },
             unclosed: 0,
+            live: 0,
             admitted: Vec::new(alloc),
         }
     }
@@ -159,6 +166,14 @@ impl AssociationTable {
         self.unclosed
     }
 
+    /// How many places of the journal are reserved for associations.
+    pub fn count_reserved(&self) -> u128
+        ensures reserved { result ≡ reserved_by_associations self.now }
+        ensures few { result < 2 ^ 65 }
+    {
+        self.unclosed as u128 + self.live as u128
+    }
+
     /// Whether one that is not closed has this title. Looks at those alone that were admitted and are not closed.
     pub fn has_title(&self, title: &Oid) -> bool
         ensures { result ≡ list_any (has_title title.now) self.now }
@@ -172,9 +187,11 @@ impl AssociationTable {
         ensures { OnOk result (self.new ≡ self.old ++ association ∷ []) }
     {
         let admitted = is_admitted(&association);
+        let live = places_of_live(association.state);
         self.admitted.reserve(1)?;
         let number = add_association(&mut self.associations, association)?;
         self.unclosed += 1;
+        self.live += live;
         if admitted {
             write_down(&mut self.admitted, number);
         }
@@ -212,7 +229,9 @@ impl AssociationTable {
         requires unclosed { (a : Association) → numbered self.old number ≡ Some a → is_open a ≡ true }
         ensures { self.new ≡ changed_association self.old number (with_state AssociationState.Finished) }
     {
+        let was_live = places_of_live_at(&self.associations, number);
         set_association_state(&mut self.associations, number, AssociationState::Finished);
+        self.live -= was_live;
     }
 
     /// Closes one, or says anew for what cause it is closed.
@@ -222,7 +241,9 @@ impl AssociationTable {
         ensures { self.new ≡ changed_association self.old number (with_state state) }
     {
         let was_closed = is_closed_at(&self.associations, number);
+        let was_live = places_of_live_at(&self.associations, number);
         set_association_state(&mut self.associations, number, state);
+        self.live -= was_live;
         if !was_closed {
             self.unclosed -= 1;
             withdraw(&mut self.admitted, number);

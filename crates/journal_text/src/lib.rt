@@ -1,4 +1,5 @@
-//! The texts of a journal and of what it comes to.
+//! The texts of a journal and of what it comes to, and how long the lines of a journal are.
 #![tactic(auto)]
 
+pub mod lengths;
 pub mod texts;

@@ -10,5 +10,5 @@ returns c =
     let title = c.args.title.now in
     c.any_has_title.ensures
     ∙ (ap (λ ns. list_any (titled_at title xs) ns) c.as_slice.ensures.value
-    ∙ (titled_alike title xs c.self.inside.unclosed c.self.inside.admitted.items c.self.invariant
+    ∙ (titled_alike title xs c.self.inside.unclosed c.self.inside.live c.self.inside.admitted.items c.self.invariant
     ∙ ap (λ ys. list_any (has_title title) ys) c.self.view_is))

@@ -9,9 +9,9 @@ use Rattle.agent_steps.proofs.association_table.AssociationTable.set_own.Goals a
 pub invariant_of-self : goal.invariant_of-self
 invariant_of-self c =
     let at = subst (λ xs. (1 ≤ c.args.number) × (c.args.number ≤ length xs)) (sym c.self.view_is) c.requires in
-    subst (λ xs. AreCounted xs c.self.inside.unclosed c.self.inside.admitted.items) (sym c.set_own.ensures)
-    (counted_changed c.self.inside.associations c.self.inside.unclosed c.self.inside.admitted.items c.args.number
-    (with_own (to_z w32 (of_z w32 c.args.own))) at (λ a h. refl) (λ a h. refl) c.self.invariant)
+    subst (λ xs. AreCounted xs c.self.inside.unclosed c.self.inside.live c.self.inside.admitted.items) (sym c.set_own.ensures)
+    (counted_changed c.self.inside.associations c.self.inside.unclosed c.self.inside.live c.self.inside.admitted.items c.args.number
+    (with_own (to_z w32 (of_z w32 c.args.own))) at (λ a h. refl) (λ a h. refl) (λ a h. refl) c.self.invariant)
 
 pub returns : goal.returns
 returns c =
