@@ -1,16 +1,13 @@
 -- BadValues: a value that doesn't fit: one that is assigned, and each DEFAULT, in its type, used or not; one that a package
 -- states, in the syntax of its attribute; and those of rules and instances (X.680, section 17.7; X.722, section 8.4;
 -- docs/PROFILE.md, sections 9, 11 and 18).
-use Rattle.std.specs.Prelude.{◌≡◌, ◌⊎◌, ◌++◌, ℕ, List, Option, None, Some, Contains, slice_get}
-use Rattle.token_grammar.specs.Form.{Tree}
+use Rattle.std.specs.Prelude.{◌≡◌, ◌⊎◌, ℕ, List, Option, None, Some, Contains, slice_get}
 use Rattle.term_values.specs.Fits.{Fits}
 use Rattle.term_values.specs.Syntaxes.{TypeSyntax}
 use Rattle.term_values.specs.Typed.{TypedValue}
 use Rattle.asn1_values_syntax.specs.ValueTrees.{value_tree}
 use Rattle.asn1_values_syntax.specs.declared.value.ValueText.{ValueText}
-use Rattle.asn1_names.specs.DefaultTexts.{part_at}
 use Rattle.asn1_names.specs.ModuleTerms.{ModuleTerm}
-use Rattle.asn1_names.specs.ResolvedTypes.{HasDefaultText}
 use Rattle.asn1_leaf_values.specs.TextValues.{first_place}
 use Rattle.linked_parts.specs.declared.linked.Linked.{Linked}
 use Rattle.linked_parts.specs.declared.linked.LinkedAction.{LinkedAction}
@@ -23,34 +20,11 @@ use Rattle.linked_parts.specs.declared.linked.LinkedRule.{LinkedRule}
 use Rattle.linked_parts.specs.declared.linked.LinkedStep.{LinkedStep}
 use Rattle.linked_parts.specs.declared.linked.LinkedStep.TheVariants.{SetValue, Emit, ReplyValue}
 use Rattle.linked_parts.specs.declared.linked.LinkedUse.{LinkedUse}
-use Rattle.filled_syntaxes.specs.BadDefaults.{IsOfDocument}
-use Rattle.filled_syntaxes.specs.FilledSyntaxes.{HasFilled}
-use Rattle.filled_syntaxes.specs.LinkedMeanings.{AssignsNone, assignment_meaning, linked_arcs}
+use Rattle.filled_syntaxes.specs.BadAssignments.{BadAssignedAt, BadDefaultAt}
+use Rattle.filled_syntaxes.specs.LinkedMeanings.{linked_arcs}
 use Rattle.filled_syntaxes.specs.SaidTexts.{DenotesNone}
 use Rattle.class_faults.specs.AttributeSyntaxes.{AttributeHas}
 use Rattle.class_faults.specs.StatedProperties.{HasValue, TypeHas}
-
--- the text of an assigned value denotes no value of its type
-pub record BadAssignedAt (ms : List ModuleTerm) (linked : Linked) (document at : ℕ) : Type 0 where
-  pub m : ℕ
-  pub i : ℕ
-  pub is_of : IsOfDocument ms m document
-  pub none : AssignsNone ms (linked_arcs linked) (assignment_meaning ms m i) at
-
--- the text of a DEFAULT in the type of an assignment denotes no value of its component's syntax
-pub record BadDefaultAt (ms : List ModuleTerm) (linked : Linked) (document at : ℕ) : Type 0 where
-  pub m : ℕ
-  pub i : ℕ
-  pub syntax : TypeSyntax
-  pub has : HasFilled ms (linked_arcs linked) (assignment_meaning ms m i) syntax
-  pub path : List ℕ
-  pub component : TypeSyntax
-  pub is_part : part_at syntax path ≡ Some component
-  pub v : ℕ
-  pub text : Tree
-  pub stands : HasDefaultText ms (assignment_meaning ms m i) path v text
-  pub is_of : IsOfDocument ms v document
-  pub none : DenotesNone (linked_arcs linked) component text at
 
 -- a value that a package states of an attribute doesn't fit its syntax; the token is the value's name. A name whose text
 -- denotes no value isn't judged again.

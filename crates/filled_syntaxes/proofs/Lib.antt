@@ -7,3 +7,7 @@ pub mod CountLaws
 pub mod FilledLaws
 pub mod WalkLaws
 pub mod ThingsLaws
+pub mod AlikeLaws
+pub mod WrittenLaws
+pub mod AssignedLaws
+pub mod JudgedLaws

@@ -102,7 +102,7 @@ get_none f [] k is = refl
 get_none f (x ∷ xs) zero is = absurd (cc)
 get_none f (x ∷ xs) (suc k) is = get_none f xs k is
 
-module_is : (ms : List ModuleTerm) (modules : List Module) (m : ℕ) (text : Module) → module_terms modules ≡ ms →
+pub module_is : (ms : List ModuleTerm) (modules : List Module) (m : ℕ) (text : Module) → module_terms modules ≡ ms →
     slice_get modules m ≡ Some text → slice_get ms m ≡ Some (module_term text)
 module_is ms modules m text is at = ap (λ xs. slice_get xs m) (sym is) ∙ get_map module_term modules m text at
 
