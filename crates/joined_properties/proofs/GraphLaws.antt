@@ -1,5 +1,6 @@
 -- GraphLaws: the targets of one class more.
-use Rattle.std.proofs.Common.{◌≡◌, ◌<◌, ◌∙◌, ◌+◌, ◌++◌, ℕ, List, [], ◌∷◌, Vec, Global, ap, get_or, length, map, sym, take}
+use Rattle.std.proofs.Common.{◌≡◌, ◌<◌, ◌∙◌, ◌+◌, ◌++◌, ℕ, List, [], ◌∷◌, Vec, Global, ap, get_or, length, map}
+use Rattle.std.proofs.Common.{sym, take}
 use Rattle.std.proofs.lemmas.List.{map_push}
 use Rattle.linked_parts.specs.declared.linked.LinkedClass.{LinkedClass}
 use Rattle.class_faults.specs.CyclicFaults.{superclasses_of}

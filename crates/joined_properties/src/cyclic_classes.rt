@@ -56,6 +56,7 @@ pub fn note_cyclic(
     faults: &mut Faults,
 ) -> Result<Cycles, AllocError>
     ensures noted { OnOk result (Notes (CyclicClassFaults classes.now) faults.old.first faults.new.first) }
+    ensures cyclic { IfOk result (λ cycles. MarkCycles (superclasses_of classes.now) cycles.cyclic.items) }
     ensures order { IfOk result (λ cycles. IsBehindTargets (superclasses_of classes.now) cycles.order.items) }
 {
     let cycles = class_cycles(alloc, classes)?;

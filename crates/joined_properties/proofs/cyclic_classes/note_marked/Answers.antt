@@ -8,7 +8,8 @@ use Rattle.joined_properties.proofs.cyclic_classes.note_marked.Goals as goal
 
 pub loop-place-init : goal.loop-place-init
 loop-place-init c =
-    before_none (λ k (x : LinkedClass). MarkedFault c.args.cyclic.now k x.head) c.args.classes.now c.args.faults.now.first
+    before_none (λ k (x : LinkedClass). MarkedFault c.args.cyclic.now k x.head) c.args.classes.now
+    c.args.faults.now.first
 
 pub loop-place-preserved : goal.loop-place-preserved
 loop-place-preserved c =
