@@ -1,5 +1,6 @@
 -- GraphLaws: the targets of one attribute more.
-use Rattle.std.proofs.Common.{◌≡◌, ◌<◌, ◌∙◌, ◌+◌, ◌++◌, ℕ, List, [], ◌∷◌, Vec, Global, ap, get_or, length, map, sym, take}
+use Rattle.std.proofs.Common.{◌≡◌, ◌<◌, ◌∙◌, ◌+◌, ◌++◌, ℕ, List, [], ◌∷◌, Vec, Global, ap, get_or, length, map, sym}
+use Rattle.std.proofs.Common.{take}
 use Rattle.std.proofs.lemmas.List.{map_push}
 use Rattle.linked_parts.specs.declared.linked.LinkedAttribute.{LinkedAttribute}
 use Rattle.class_faults.specs.AttributeSyntaxes.{bases_of}

@@ -1,1 +1,7 @@
 mod GraphLaws
+mod StandardFacts
+pub mod NotingSome
+pub mod TableLaws
+pub mod AttributeLaws
+pub mod RuleLaws
+pub mod NamingLaws

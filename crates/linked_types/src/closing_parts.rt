@@ -1,10 +1,19 @@
 //! What is known of linked parts while their classes are closed.
 
+ghost use Rattle.std.specs.Prelude.{◌≡◌, ◌++◌, ◌↔◌, List, Some, IfOk, OnOk, option_to_list, slice_get};
+ghost use Rattle.std.specs.Option.{option_copied};
+ghost use Rattle.term_values.specs.Syntaxes.{TypeSyntax};
+ghost use Rattle.asn1_names.specs.ModuleTerms.{ModuleTerm};
+ghost use Rattle.linked_parts.specs.declared.linked.LinkedAction.{LinkedAction};
+ghost use Rattle.linked_parts.specs.declared.linked.LinkedNotification.{LinkedNotification};
+ghost use Rattle.class_faults.specs.AttributeSyntaxes.{AttributeHas};
+ghost use Rattle.linked_types.specs.KnownParts.{AreClosingParts, identifier_at};
+ghost use Rattle.linked_types.specs.PartTypes.{TellsOptionalType};
+
 use crate::member_types::LinkedTypes;
 use crate::type_table::TypeTable;
 use filled_syntaxes::NamedThings;
 use linked_parts::Linked;
-use linked_parts::linked::LinkedHead;
 use std::alloc::{AllocError, Global};
 use term_values::{Oid, Syntax, Value};
 
@@ -25,15 +34,10 @@ pub struct ClosingParts<'a, 't, 'p> {
     pub values: &'p [Option<Value>],
 }
 
-fn identifier(head: Option<&LinkedHead>) -> Option<&Oid> {
-    match head {
-        Some(head) => head.identifier.as_ref(),
-        None => None,
-    }
-}
-
 /// A copy of an identifier that may be missing.
-pub fn copied(alloc: Global, id: Option<&Oid>) -> Result<Option<Oid>, AllocError> {
+pub fn copied(alloc: Global, id: Option<&Oid>) -> Result<Option<Oid>, AllocError>
+    ensures { IfOk result (λ copy. copy ≡ option_copied id.entry) }
+{
     match id {
         Some(id) => Ok(Some(id.copy(alloc)?)),
         None => Ok(None),
@@ -41,16 +45,24 @@ pub fn copied(alloc: Global, id: Option<&Oid>) -> Result<Option<Oid>, AllocError
 }
 
 /// Appends an identifier, where it is there.
-pub fn push_id(alloc: Global, ids: &mut Vec<Oid>, id: Option<&Oid>) -> Result<(), AllocError> {
-    if let Some(id) = id {
-        ids.push(id.copy(alloc)?)?;
+pub fn push_id(alloc: Global, ids: &mut Vec<Oid>, id: Option<&Oid>) -> Result<(), AllocError>
+    ensures { OnOk result (ids.new.items ≡ ids.old.items ++ option_to_list (option_copied id.entry)) }
+{
+    match id {
+        Some(id) => {
+            ids.push(id.copy(alloc)?)?;
+            Ok(())
+        }
+        None => Ok(()),
     }
-    Ok(())
 }
 
 impl<'p> ClosingParts<'_, '_, 'p> {
     /// The syntax of an attribute; none of one that derives from itself.
-    pub fn attribute_syntax(&self, attribute: usize) -> Option<&'p Syntax> {
+    pub fn attribute_syntax(&self, attribute: usize) -> Option<&'p Syntax>
+        ensures { (ms : List ModuleTerm) → AreClosingParts ms self.now → (syntax : TypeSyntax) →
+            (option_copied result ≡ Some syntax) ↔ AttributeHas ms self.now.linked.now attribute syntax }
+    {
         match self.types.attributes.types.get(attribute) {
             Some(place) => self.table.syntax(*place),
             None => None,
@@ -58,7 +70,11 @@ impl<'p> ClosingParts<'_, '_, 'p> {
     }
 
     /// The place of the type of an action's reply.
-    pub fn reply_type(&self, action: usize) -> Option<usize> {
+    pub fn reply_type(&self, action: usize) -> Option<usize>
+        ensures { (ms : List ModuleTerm) (x : LinkedAction) → AreClosingParts ms self.now →
+            slice_get self.now.linked.now.actions.items action ≡ Some x →
+            TellsOptionalType ms self.now.linked.now self.now.table.now x.reply result }
+    {
         match self.types.actions.get(action) {
             Some(types) => types.reply,
             None => None,
@@ -66,7 +82,11 @@ impl<'p> ClosingParts<'_, '_, 'p> {
     }
 
     /// The place of the type of a notification's information.
-    pub fn information_type(&self, notification: usize) -> Option<usize> {
+    pub fn information_type(&self, notification: usize) -> Option<usize>
+        ensures { (ms : List ModuleTerm) (x : LinkedNotification) → AreClosingParts ms self.now →
+            slice_get self.now.linked.now.notifications.items notification ≡ Some x →
+            TellsOptionalType ms self.now.linked.now self.now.table.now x.information result }
+    {
         match self.types.notifications.get(notification) {
             Some(types) => types.information,
             None => None,
@@ -74,41 +94,51 @@ impl<'p> ClosingParts<'_, '_, 'p> {
     }
 
     /// The identifier of a class.
-    pub fn class_id(&self, place: usize) -> Option<&'p Oid> {
+    pub fn class_id(&self, place: usize) -> Option<&'p Oid>
+        ensures { option_copied result ≡ identifier_at (λ x. x.head) self.now.linked.now.classes.items place }
+    {
         match self.linked.classes.get(place) {
-            Some(part) => identifier(Some(&part.head)),
+            Some(part) => part.head.identifier.as_ref(),
             None => None,
         }
     }
 
     /// The identifier of an attribute.
-    pub fn attribute_id(&self, place: usize) -> Option<&'p Oid> {
+    pub fn attribute_id(&self, place: usize) -> Option<&'p Oid>
+        ensures { option_copied result ≡ identifier_at (λ x. x.head) self.now.linked.now.attributes.items place }
+    {
         match self.linked.attributes.get(place) {
-            Some(part) => identifier(Some(&part.head)),
+            Some(part) => part.head.identifier.as_ref(),
             None => None,
         }
     }
 
     /// The identifier of a group.
-    pub fn group_id(&self, place: usize) -> Option<&'p Oid> {
+    pub fn group_id(&self, place: usize) -> Option<&'p Oid>
+        ensures { option_copied result ≡ identifier_at (λ x. x.head) self.now.linked.now.groups.items place }
+    {
         match self.linked.groups.get(place) {
-            Some(part) => identifier(Some(&part.head)),
+            Some(part) => part.head.identifier.as_ref(),
             None => None,
         }
     }
 
     /// The identifier of an action.
-    pub fn action_id(&self, place: usize) -> Option<&'p Oid> {
+    pub fn action_id(&self, place: usize) -> Option<&'p Oid>
+        ensures { option_copied result ≡ identifier_at (λ x. x.head) self.now.linked.now.actions.items place }
+    {
         match self.linked.actions.get(place) {
-            Some(part) => identifier(Some(&part.head)),
+            Some(part) => part.head.identifier.as_ref(),
             None => None,
         }
     }
 
     /// The identifier of a notification.
-    pub fn notification_id(&self, place: usize) -> Option<&'p Oid> {
+    pub fn notification_id(&self, place: usize) -> Option<&'p Oid>
+        ensures { option_copied result ≡ identifier_at (λ x. x.head) self.now.linked.now.notifications.items place }
+    {
         match self.linked.notifications.get(place) {
-            Some(part) => identifier(Some(&part.head)),
+            Some(part) => part.head.identifier.as_ref(),
             None => None,
         }
     }

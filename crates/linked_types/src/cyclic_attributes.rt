@@ -53,8 +53,8 @@ fn note_marked(attributes: &[LinkedAttribute], cyclic: &[bool], faults: &mut Fau
     }
 }
 
-/// Notes the attributes that derive from themselves. The answer is an order in which each of the others stands behind its
-/// base, and which ones they are.
+/// Notes the attributes that derive from themselves. The answer is an order in which each of the others stands behind
+/// its base, and which ones they are.
 pub fn note_cyclic(
     alloc: Global,
     attributes: &[LinkedAttribute],

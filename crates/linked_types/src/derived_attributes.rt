@@ -1,8 +1,20 @@
 //! Which attributes derive from themselves, and the types and the rules of attributes (X.722, section 8.7).
 
-ghost use Rattle.std.specs.Prelude.{OnOk};
-ghost use Rattle.class_faults.specs.CyclicFaults.{CyclicAttributeFaults};
+ghost use Rattle.std.specs.Prelude.{◌≡◌, List, IfOk, OnOk, map, slice_set};
+ghost use Rattle.std.specs.Option.{option_copied};
+ghost use Rattle.asn1_names.specs.ModuleTerms.{ModuleTerm};
+ghost use Rattle.link_graphs.specs.ChainEnds.{AreEnds};
+ghost use Rattle.link_graphs.specs.Cycles.{IsBehindTargets};
+ghost use Rattle.linked_parts.specs.declared.linked.Linked.{Linked as LinkedTerm};
+ghost use Rattle.filled_syntaxes.specs.KnownThings.{AreNamedThings};
+ghost use Rattle.class_faults.specs.CyclicFaults.{CyclicAttributeFaults, bases_of_each};
 ghost use Rattle.class_faults.specs.FaultSets.{Notes};
+ghost use Rattle.linked_types.specs.AttributeRules.{AreAttributeRules, base_rules, either_rules, has_word, rules_at};
+ghost use Rattle.linked_types.specs.AttributeRules.{rules_now, stated_rules, stepped_rules};
+ghost use Rattle.linked_types.specs.AttributeTypes.{AreAttributeTypes, base_link, base_links, name_at, type_name};
+ghost use Rattle.linked_types.specs.NotedDefaults.{BadDefaults};
+ghost use Rattle.linked_types.specs.PartTypes.{AreDerivedAttributes, AreTold, TellsOptionalType};
+ghost use Rattle.linked_types.specs.TypeTables.{IsTypeTable, NamesTypes};
 
 use crate::cyclic_attributes::note_cyclic;
 use crate::type_table::TypeTable;
@@ -16,24 +28,25 @@ use term_values::Rules;
 use token_grammar::Token;
 use token_grammar::token_tests::is_word_of;
 
-fn link_of(attribute: &LinkedAttribute) -> Link {
+fn link_of(attribute: &LinkedAttribute) -> Link
+    ensures { result ≡ base_link attribute.now.syntax }
+{
     match &attribute.syntax {
         LinkedSyntax::OfType(_) => Link::End,
         LinkedSyntax::OfAttribute(base) => Link::Next(*base),
     }
 }
 
-fn has_word(words: &[Token], word: &str) -> bool {
-    for token in words {
-        if is_word_of(token, word) {
-            return true;
-        }
-    }
-    false
+fn has_word(words: &[Token], word: &str) -> bool
+    ensures { result ≡ has_word word.now words.now }
+{
+    words.iter().any(|token| is_word_of(token, word))
 }
 
 /// The rules that an attribute states itself.
-fn own_rules(words: &[Token]) -> Rules {
+fn own_rules(words: &[Token]) -> Rules
+    ensures { result ≡ stated_rules words.now }
+{
     Rules {
         equality: has_word(words, "EQUALITY"),
         ordering: has_word(words, "ORDERING"),
@@ -44,7 +57,9 @@ fn own_rules(words: &[Token]) -> Rules {
 }
 
 /// The rules of both.
-fn both_rules(one: Rules, other: Rules) -> Rules {
+fn both_rules(one: Rules, other: Rules) -> Rules
+    ensures { result ≡ either_rules one other }
+{
     Rules {
         equality: one.equality || other.equality,
         ordering: one.ordering || other.ordering,
@@ -55,14 +70,54 @@ fn both_rules(one: Rules, other: Rules) -> Rules {
 }
 
 /// The rules of an attribute, from those of its base that are known.
-fn rules_of(attribute: &LinkedAttribute, known: &[Rules]) -> Rules {
+fn rules_of(attribute: &LinkedAttribute, known: &[Rules]) -> Rules
+    ensures { result ≡ rules_now known.now attribute.now }
+{
     let own = own_rules(attribute.rules.as_slice());
-    let LinkedSyntax::OfAttribute(base) = &attribute.syntax else {
-        return own;
-    };
-    match known.get(*base) {
-        Some(rules) => both_rules(own, *rules),
-        None => own,
+    match &attribute.syntax {
+        LinkedSyntax::OfType(_) => own,
+        LinkedSyntax::OfAttribute(base) => match known.get(*base) {
+            Some(rules) => both_rules(own, *rules),
+            None => own,
+        },
+    }
+}
+
+/// The rules that each attribute states itself.
+fn first_rules(alloc: Global, attributes: &[LinkedAttribute]) -> Result<Vec<Rules>, AllocError>
+    ensures { IfOk result (λ rules. rules.items ≡ map (λ x. stated_rules x.rules.items) attributes.now) }
+{
+    attributes
+        .iter()
+        .map(|attribute| own_rules(attribute.rules.as_slice()))
+        .collect(alloc)
+}
+
+/// The rules of the attribute at a place, from those of its base that are known.
+fn rules_at(attributes: &[LinkedAttribute], known: &[Rules], place: usize) -> Option<Rules>
+    ensures { result ≡ rules_at attributes.now known.now place }
+{
+    match attributes.get(place) {
+        Some(attribute) => Some(rules_of(attribute, known)),
+        None => None,
+    }
+}
+
+fn set_rules(rules: &mut Vec<Rules>, place: usize, joined: Rules)
+    ensures { rules.new.items ≡ slice_set rules.old.items place joined }
+{
+    if let Some(slot) = rules.get_mut(place) {
+        *slot = joined;
+    }
+}
+
+/// Joins the rules of the attribute at a place with those of its base.
+fn join_base(attributes: &[LinkedAttribute], rules: &mut Vec<Rules>, place: usize)
+    ensures { rules.new.items ≡ stepped_rules attributes.now rules.old.items place }
+{
+    match rules_at(attributes, rules.as_slice(), place) {
+        Some(joined) => set_rules(rules, place, joined),
+        None => {}
     }
 }
 
@@ -71,18 +126,13 @@ fn all_rules(
     alloc: Global,
     attributes: &[LinkedAttribute],
     order: &[usize],
-) -> Result<Vec<Rules>, AllocError> {
-    let mut rules = Vec::new(alloc);
-    for attribute in attributes {
-        rules.push(own_rules(attribute.rules.as_slice()))?;
-    }
+) -> Result<Vec<Rules>, AllocError>
+    ensures { IfOk result (λ rules. (linked : LinkedTerm) → linked.attributes.items ≡ attributes.now →
+        IsBehindTargets (bases_of_each attributes.now) order.now → AreAttributeRules linked rules.items) }
+{
+    let mut rules = first_rules(alloc, attributes)?;
     for place in order {
-        if let Some(attribute) = attributes.get(*place) {
-            let joined = rules_of(attribute, rules.as_slice());
-            if let Some(slot) = rules.get_mut(*place) {
-                *slot = joined;
-            }
-        }
+        join_base(attributes, &mut rules, *place);
     }
     Ok(rules)
 }
@@ -96,32 +146,92 @@ pub struct DerivedAttributes {
     pub rules: Vec<Rules>,
 }
 
-/// The place of the type of the attribute at an end.
+/// The place of the type with whose name a syntax is stated.
 fn type_place(
     things: &NamedThings,
-    attribute: Option<&LinkedAttribute>,
+    syntax: &LinkedSyntax,
     table: &mut TypeTable,
     bad: &mut BadTexts,
-) -> Result<Option<usize>, AllocError> {
-    match attribute {
-        Some(attribute) => match &attribute.syntax {
-            LinkedSyntax::OfType(name) => Ok(Some(table.place(things, name, bad)?)),
-            LinkedSyntax::OfAttribute(_) => Ok(None),
+) -> Result<Option<usize>, AllocError>
+    ensures told { IfOk result (λ place. (ms : List ModuleTerm) (linked : LinkedTerm) →
+        AreNamedThings ms linked things.now → IsTypeTable ms linked table.old →
+        TellsOptionalType ms linked table.new (type_name syntax.now) place) }
+    ensures names { OnOk result ((ms : List ModuleTerm) (linked : LinkedTerm) → AreNamedThings ms linked things.now →
+        IsTypeTable ms linked table.old →
+        NamesTypes ms linked (BadDefaults ms linked) table.old table.new bad.old.first bad.new.first) }
+{
+    match syntax {
+        LinkedSyntax::OfType(name) => Ok(Some(table.place(things, name, bad)?)),
+        LinkedSyntax::OfAttribute(_) => Ok(None),
+    }
+}
+
+/// The place of the type of the attribute at an end.
+fn end_type(
+    things: &NamedThings,
+    attributes: &[LinkedAttribute],
+    end: Option<usize>,
+    table: &mut TypeTable,
+    bad: &mut BadTexts,
+) -> Result<Option<usize>, AllocError>
+    ensures told { IfOk result (λ place. (ms : List ModuleTerm) (linked : LinkedTerm) →
+        AreNamedThings ms linked things.now → IsTypeTable ms linked table.old →
+        TellsOptionalType ms linked table.new (name_at attributes.now end) place) }
+    ensures names { OnOk result ((ms : List ModuleTerm) (linked : LinkedTerm) → AreNamedThings ms linked things.now →
+        IsTypeTable ms linked table.old →
+        NamesTypes ms linked (BadDefaults ms linked) table.old table.new bad.old.first bad.new.first) }
+{
+    match end {
+        Some(place) => match attributes.get(place) {
+            Some(attribute) => type_place(things, &attribute.syntax, table, bad),
+            None => Ok(None),
         },
         None => Ok(None),
     }
+}
+
+/// Where the syntax of each attribute leads.
+fn all_links(alloc: Global, attributes: &[LinkedAttribute]) -> Result<Vec<Link>, AllocError>
+    ensures { IfOk result (λ links. links.items ≡ base_links attributes.now) }
+{
+    attributes
+        .iter()
+        .map(|attribute| link_of(attribute))
+        .collect(alloc)
 }
 
 /// The attribute at which the bases of each end.
 fn base_ends(
     alloc: Global,
     attributes: &[LinkedAttribute],
-) -> Result<Vec<Option<usize>>, AllocError> {
-    let mut links = Vec::new(alloc);
-    for attribute in attributes {
-        links.push(link_of(attribute))?;
-    }
+) -> Result<Vec<Option<usize>>, AllocError>
+    ensures { IfOk result (λ ends. AreEnds (base_links attributes.now) ends.items) }
+{
+    let links = all_links(alloc, attributes)?;
     chain_ends(alloc, links.as_slice())
+}
+
+/// The place of the type of each attribute at an end.
+fn end_types(
+    things: &NamedThings,
+    attributes: &[LinkedAttribute],
+    ends: &[Option<usize>],
+    table: &mut TypeTable,
+    bad: &mut BadTexts,
+) -> Result<Vec<Option<usize>>, AllocError>
+    ensures told { IfOk result (λ types. (ms : List ModuleTerm) (linked : LinkedTerm) →
+        AreNamedThings ms linked things.now → IsTypeTable ms linked table.old →
+        AreTold (λ end place. TellsOptionalType ms linked table.new (name_at attributes.now end) place) ends.now
+        types.items) }
+    ensures names { OnOk result ((ms : List ModuleTerm) (linked : LinkedTerm) → AreNamedThings ms linked things.now →
+        IsTypeTable ms linked table.old →
+        NamesTypes ms linked (BadDefaults ms linked) table.old table.new bad.old.first bad.new.first) }
+{
+    let mut types = Vec::new(things.alloc);
+    for end in ends {
+        types.push(end_type(things, attributes, *end, table, bad)?)?;
+    }
+    Ok(types)
 }
 
 /// The place of the type of each attribute: that of the attribute at which its bases end.
@@ -130,20 +240,21 @@ fn all_types(
     attributes: &[LinkedAttribute],
     table: &mut TypeTable,
     bad: &mut BadTexts,
-) -> Result<Vec<Option<usize>>, AllocError> {
+) -> Result<Vec<Option<usize>>, AllocError>
+    ensures told { IfOk result (λ types. (ms : List ModuleTerm) (linked : LinkedTerm) →
+        AreNamedThings ms linked things.now → IsTypeTable ms linked table.old →
+        linked.attributes.items ≡ attributes.now → AreAttributeTypes ms linked table.new types.items) }
+    ensures names { OnOk result ((ms : List ModuleTerm) (linked : LinkedTerm) → AreNamedThings ms linked things.now →
+        IsTypeTable ms linked table.old →
+        NamesTypes ms linked (BadDefaults ms linked) table.old table.new bad.old.first bad.new.first) }
+{
     let ends = base_ends(things.alloc, attributes)?;
-    let mut types = Vec::new(things.alloc);
-    for end in ends.iter() {
-        let attribute = match end {
-            Some(end) => attributes.get(*end),
-            None => None,
-        };
-        types.push(type_place(things, attribute, table, bad)?)?;
-    }
+    let types = end_types(things, attributes, ends.as_slice(), table, bad)?;
     Ok(types)
 }
 
-/// The types and the rules of attributes. Notes those that derive from themselves.
+/// The types and the rules of attributes. Notes those that derive from themselves, and texts of DEFAULT that denote no
+/// value; what stood in the table stays there.
 pub fn derived_attributes(
     things: &NamedThings,
     linked: &Linked,
@@ -151,12 +262,17 @@ pub fn derived_attributes(
     bad: &mut BadTexts,
     faults: &mut Faults,
 ) -> Result<DerivedAttributes, AllocError>
-    ensures { OnOk result (Notes (CyclicAttributeFaults linked.now.attributes.items) faults.old.first faults.new.first) }
+    ensures noted { OnOk result (Notes (CyclicAttributeFaults linked.now.attributes.items) faults.old.first
+        faults.new.first) }
+    ensures told { IfOk result (λ derived. (ms : List ModuleTerm) → AreNamedThings ms linked.now things.now →
+        IsTypeTable ms linked.now table.old → AreDerivedAttributes ms linked.now table.new derived) }
+    ensures names { OnOk result ((ms : List ModuleTerm) → AreNamedThings ms linked.now things.now →
+        IsTypeTable ms linked.now table.old → NamesTypes ms linked.now (BadDefaults ms linked.now)
+        table.old table.new bad.old.first bad.new.first) }
 {
     let attributes = linked.attributes.as_slice();
     let cycles = note_cyclic(things.alloc, attributes, faults)?;
-    Ok(DerivedAttributes {
-        types: all_types(things, attributes, table, bad)?,
-        rules: all_rules(things.alloc, attributes, cycles.order.as_slice())?,
-    })
+    let rules = all_rules(things.alloc, attributes, cycles.order.as_slice())?;
+    let types = all_types(things, attributes, table, bad)?;
+    Ok(DerivedAttributes { types, rules })
 }

@@ -1,5 +1,5 @@
-//! The types that linked parts name, each with its syntax once, and the types and rules of attributes (X.680, section 16;
-//! X.722, section 8.7).
+//! The types that linked parts name, each with its syntax once, and the types and rules of attributes (X.680, section
+//! 16; X.722, section 8.7).
 #![tactic(auto)]
 
 pub mod closing_parts;

@@ -1,8 +1,14 @@
 //! The types of attributes, actions and notifications (X.722, sections 8.7, 8.10 and 8.11).
 
-ghost use Rattle.std.specs.Prelude.{OnOk};
+ghost use Rattle.std.specs.Prelude.{List, IfOk, OnOk};
+ghost use Rattle.asn1_names.specs.ModuleTerms.{ModuleTerm};
+ghost use Rattle.linked_parts.specs.declared.linked.Linked.{Linked as LinkedTerm};
+ghost use Rattle.filled_syntaxes.specs.KnownThings.{AreNamedThings};
 ghost use Rattle.class_faults.specs.CyclicFaults.{CyclicAttributeFaults};
 ghost use Rattle.class_faults.specs.FaultSets.{Notes};
+ghost use Rattle.linked_types.specs.NotedDefaults.{BadDefaults};
+ghost use Rattle.linked_types.specs.PartTypes.{AreLinkedTypes, AreTold, TellsAction, TellsMember, TellsNotification};
+ghost use Rattle.linked_types.specs.TypeTables.{IsTypeTable, NamesTypes};
 
 use crate::derived_attributes::{DerivedAttributes, derived_attributes};
 use crate::type_table::TypeTable;
@@ -38,7 +44,14 @@ fn types_of(
     information: &Option<LinkedName>,
     reply: &Option<LinkedName>,
     bad: &mut BadTexts,
-) -> Result<MemberTypes, AllocError> {
+) -> Result<MemberTypes, AllocError>
+    ensures told { IfOk result (λ types. (ms : List ModuleTerm) (linked : LinkedTerm) →
+        AreNamedThings ms linked things.now → IsTypeTable ms linked table.old →
+        TellsMember ms linked table.new information.now reply.now types) }
+    ensures names { OnOk result ((ms : List ModuleTerm) (linked : LinkedTerm) → AreNamedThings ms linked things.now →
+        IsTypeTable ms linked table.old →
+        NamesTypes ms linked (BadDefaults ms linked) table.old table.new bad.old.first bad.new.first) }
+{
     let information = table.optional_place(things, information, bad)?;
     let reply = table.optional_place(things, reply, bad)?;
     Ok(MemberTypes { information, reply })
@@ -50,7 +63,14 @@ fn action_types(
     linked: &Linked,
     table: &mut TypeTable,
     bad: &mut BadTexts,
-) -> Result<Vec<MemberTypes>, AllocError> {
+) -> Result<Vec<MemberTypes>, AllocError>
+    ensures told { IfOk result (λ types. (ms : List ModuleTerm) → AreNamedThings ms linked.now things.now →
+        IsTypeTable ms linked.now table.old →
+        AreTold (TellsAction ms linked.now table.new) linked.now.actions.items types.items) }
+    ensures names { OnOk result ((ms : List ModuleTerm) → AreNamedThings ms linked.now things.now →
+        IsTypeTable ms linked.now table.old → NamesTypes ms linked.now (BadDefaults ms linked.now) table.old table.new
+        bad.old.first bad.new.first) }
+{
     let mut types = Vec::new(things.alloc);
     for action in linked.actions.iter() {
         types.push(types_of(things, table, &action.information, &action.reply, bad)?)?;
@@ -64,7 +84,14 @@ fn notification_types(
     linked: &Linked,
     table: &mut TypeTable,
     bad: &mut BadTexts,
-) -> Result<Vec<MemberTypes>, AllocError> {
+) -> Result<Vec<MemberTypes>, AllocError>
+    ensures told { IfOk result (λ types. (ms : List ModuleTerm) → AreNamedThings ms linked.now things.now →
+        IsTypeTable ms linked.now table.old →
+        AreTold (TellsNotification ms linked.now table.new) linked.now.notifications.items types.items) }
+    ensures names { OnOk result ((ms : List ModuleTerm) → AreNamedThings ms linked.now things.now →
+        IsTypeTable ms linked.now table.old → NamesTypes ms linked.now (BadDefaults ms linked.now) table.old table.new
+        bad.old.first bad.new.first) }
+{
     let mut types = Vec::new(things.alloc);
     for notification in linked.notifications.iter() {
         let information = &notification.information;
@@ -73,7 +100,8 @@ fn notification_types(
     Ok(types)
 }
 
-/// The types that templates name. Notes the attributes that derive from themselves.
+/// The types that templates name. Notes the attributes that derive from themselves, and texts of DEFAULT that denote no
+/// value; what stood in the table stays there.
 pub fn types_of_parts(
     things: &NamedThings,
     linked: &Linked,
@@ -81,7 +109,13 @@ pub fn types_of_parts(
     bad: &mut BadTexts,
     faults: &mut Faults,
 ) -> Result<LinkedTypes, AllocError>
-    ensures { OnOk result (Notes (CyclicAttributeFaults linked.now.attributes.items) faults.old.first faults.new.first) }
+    ensures noted { OnOk result (Notes (CyclicAttributeFaults linked.now.attributes.items) faults.old.first
+        faults.new.first) }
+    ensures told { IfOk result (λ types. (ms : List ModuleTerm) → AreNamedThings ms linked.now things.now →
+        IsTypeTable ms linked.now table.old → AreLinkedTypes ms linked.now table.new types) }
+    ensures names { OnOk result ((ms : List ModuleTerm) → AreNamedThings ms linked.now things.now →
+        IsTypeTable ms linked.now table.old → NamesTypes ms linked.now (BadDefaults ms linked.now) table.old table.new
+        bad.old.first bad.new.first) }
 {
     let attributes = derived_attributes(things, linked, table, bad, faults)?;
     let actions = action_types(things, linked, table, bad)?;

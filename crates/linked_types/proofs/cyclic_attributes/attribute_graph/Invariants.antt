@@ -1,6 +1,5 @@
 -- The targets of the attributes so far.
-use Rattle.std.proofs.Common.{◌≡◌, ℕ, map, take}
-use Rattle.std.specs.declared.vec.Vec.{Vec}
+use Rattle.std.proofs.Common.{◌≡◌, map, take}
 use Rattle.class_faults.specs.CyclicFaults.{bases_of_each}
 use Rattle.linked_types.proofs.cyclic_attributes.attribute_graph.Given as goal
 
