@@ -9,3 +9,5 @@ mod StandardFacts
 mod Standing
 mod TakenLaws
 mod TakingLaws
+mod TellingLaws
+mod WatchingLaws

@@ -61,10 +61,10 @@ beginning_ready agent f = record {
 }
 
 -- a line that opens an association
-abbrev opening_play : Play → List ℕ → Play
+abbrev pub opening_play : Play → List ℕ → Play
 opening_play play bind = with_entry play (entry.Opened (length play.agent.associations + 1) bind)
 
-opening_midway : (play : Play) (bind : List ℕ) → IsReady play
+pub opening_midway : (play : Play) (bind : List ℕ) → IsReady play
     → IsMidway (length play.agent.associations + 1) (opening_play play bind).agent
 opening_midway play bind r = opened_midway play.agent bind (ready_idle play r)
 
@@ -84,10 +84,10 @@ open_ready play bind r =
 -- a line that sends an APDU
 module _ (play : Play) (number : ℕ) (apdu : List ℕ) (r : IsReady play)
     (live : may_play play.agent (line.Send number apdu) ≡ true) where
-  abbrev arrived_play : Play
+  abbrev pub arrived_play : Play
   arrived_play = with_entry play (entry.Arrived number apdu)
 
-  abbrev answered_play : Play
+  abbrev pub answered_play : Play
   answered_play = answered (length play.agent.operations) arrived_play
 
   pub send_legal : is_legal play.agent (entry.Arrived number apdu) ≡ true
@@ -100,7 +100,7 @@ module _ (play : Play) (number : ℕ) (apdu : List ℕ) (r : IsReady play)
       → is_legal arrived_play.agent (entry.Granted (length arrived_play.agent.operations) play.moment) ≡ true
   send_grants h = grant_legal play.agent number (ready_idle play r) live arrived_play r.within sent h
 
-  send_midway : IsMidway number answered_play.agent
+  pub send_midway : IsMidway number answered_play.agent
   send_midway = answered_midway play.agent number (ready_idle play r) live arrived_play r.within sent
 
   pub send_line : line_played play (line.Send number apdu) ≡ taken_all number answered_play

@@ -2,3 +2,4 @@
 pub mod GoodObjects
 pub mod Ready
 pub mod Scripts
+pub mod Watching

@@ -5,8 +5,10 @@ ghost use Rattle.std.specs.Prelude.{OnOk, Some};
 ghost use Rattle.agent_model.specs.Playing.{answered, finished, taken_all, with_entry};
 ghost use Rattle.agent_steps.specs.States.{IsIdle, moment_of_grant};
 ghost use Rattle.term_model.specs.Step.{is_legal};
-ghost use Rattle.script_playing.specs.Ready.{IsKept};
+ghost use Rattle.script_playing.specs.Ready.{HaveEnded, IsKept};
+ghost use Rattle.script_playing.specs.Watching.{IsWatchedOn};
 
+use crate::watching::{Places, Watch};
 use agent_steps::Agent;
 use std::alloc::{AllocError, Global};
 use std::marker::Model;
@@ -68,57 +70,90 @@ impl<L: StepLedger> Run<L> {
     }
 
     /// Opens the next association by a BIND.
-    pub fn open(&mut self, alloc: Global, number: u64, bind: Bytes) -> Result<(), AllocError>
+    pub fn open(
+        &mut self,
+        alloc: Global,
+        number: u64,
+        bind: Bytes,
+        watch: &mut Watch,
+    ) -> Result<(), AllocError>
         requires kept { IsKept self.old.agent self.old.journal }
         requires next { number ≡ length self.old.agent.associations + 1 }
+        requires ended { HaveEnded self.old.agent.operations }
         ensures entered { OnOk result (self.new ≡ with_entry self.old (Entry.Opened number bind)) }
         ensures kept { OnOk result (IsKept self.new.agent self.new.journal) }
+        ensures watched { OnOk result (IsWatchedOn self.old watch.old self.new watch.new) }
     {
         make_room(&mut self.journal)?;
+        let places = Places::before(&self.agent);
         let octets = bind.as_slice();
         self.agent.open(alloc, octets)?;
-        write_down(&mut self.journal, Entry::Opened(number, bind));
+        let next = Entry::Opened(number, bind);
+        watch.ask(&places, &next);
+        write_down(&mut self.journal, next);
         Ok(())
     }
 
     /// Brings an APDU of an association, while no operation is outstanding.
-    pub fn arrive(&mut self, alloc: Global, number: u64, apdu: Bytes) -> Result<(), AllocError>
+    pub fn arrive(
+        &mut self,
+        alloc: Global,
+        number: u64,
+        apdu: Bytes,
+        watch: &mut Watch,
+    ) -> Result<(), AllocError>
         requires kept { IsKept self.old.agent self.old.journal }
         requires legal { IsTrue (is_legal self.old.agent (Entry.Arrived number apdu)) }
         requires idle { IsIdle self.old.agent }
         ensures entered { OnOk result (self.new ≡ with_entry self.old (Entry.Arrived number apdu)) }
         ensures kept { OnOk result (IsKept self.new.agent self.new.journal) }
+        ensures watched { OnOk result (IsWatchedOn self.old watch.old self.new watch.new) }
     {
         make_room(&mut self.journal)?;
+        let places = Places::before(&self.agent);
         let octets = apdu.as_slice();
         self.agent.arrive(alloc, number, octets)?;
-        write_down(&mut self.journal, Entry::Arrived(number, apdu));
+        let next = Entry::Arrived(number, apdu);
+        watch.ask(&places, &next);
+        write_down(&mut self.journal, next);
         Ok(())
     }
 
     /// Grants the operation under this number.
-    fn grant(&mut self, number: u64) -> Result<(), AllocError>
+    fn grant(&mut self, number: u64, watch: &mut Watch) -> Result<(), AllocError>
         requires kept { IsKept self.old.agent self.old.journal }
         requires legal { IsTrue (is_legal self.old.agent (Entry.Granted number self.old.moment)) }
         ensures entered { OnOk result (self.new ≡ with_entry self.old (Entry.Granted number self.old.moment)) }
         ensures kept { OnOk result (IsKept self.new.agent self.new.journal) }
+        ensures watched { OnOk result (IsWatchedOn self.old watch.old self.new watch.new) }
     {
         make_room(&mut self.journal)?;
         self.agent.grant(number, self.moment);
-        write_down(&mut self.journal, Entry::Granted(number, self.moment));
+        let next = Entry::Granted(number, self.moment);
+        watch.count(&next);
+        write_down(&mut self.journal, next);
         Ok(())
     }
 
     /// Commits the operation under this number, which was granted at the moment of the script.
-    fn commit(&mut self, alloc: Global, number: u64, steps: &mut Steps<L>) -> Result<(), AllocError>
+    fn commit(
+        &mut self,
+        alloc: Global,
+        number: u64,
+        steps: &mut Steps<L>,
+        watch: &mut Watch,
+    ) -> Result<(), AllocError>
         requires kept { IsKept self.old.agent self.old.journal }
         requires granted { moment_of_grant self.old.agent number ≡ Some self.old.moment }
         ensures entered { OnOk result (self.new ≡ with_entry self.old (Entry.Committed number)) }
         ensures kept { OnOk result (IsKept self.new.agent self.new.journal) }
+        ensures watched { OnOk result (IsWatchedOn self.old watch.old self.new watch.new) }
     {
         make_room(&mut self.journal)?;
         self.agent.commit(alloc, number, self.moment, steps)?;
-        write_down(&mut self.journal, Entry::Committed(number));
+        let next = Entry::Committed(number);
+        watch.count(&next);
+        write_down(&mut self.journal, next);
         Ok(())
     }
 
@@ -128,61 +163,74 @@ impl<L: StepLedger> Run<L> {
         alloc: Global,
         before: u64,
         steps: &mut Steps<L>,
+        watch: &mut Watch,
     ) -> Result<(), AllocError>
         requires kept { IsKept self.old.agent self.old.journal }
         requires legal { before < length self.old.agent.operations
             → IsTrue (is_legal self.old.agent (Entry.Granted (length self.old.agent.operations) self.old.moment)) }
         ensures answered { OnOk result (self.new ≡ answered before self.old) }
         ensures kept { OnOk result (IsKept self.new.agent self.new.journal) }
+        ensures watched { OnOk result (IsWatchedOn self.old watch.old self.new watch.new) }
     {
         let number = self.count_operations();
         if number <= before {
             return Ok(());
         }
-        self.grant(number)?;
-        self.commit(alloc, number, steps)
+        self.grant(number, watch)?;
+        self.commit(alloc, number, steps, watch)
     }
 
     /// Takes all that is left of an association, where something is left.
-    pub fn take(&mut self, number: u64) -> Result<(), AllocError>
+    pub fn take(&mut self, number: u64, watch: &mut Watch) -> Result<(), AllocError>
         requires kept { IsKept self.old.agent self.old.journal }
+        requires ended { HaveEnded self.old.agent.operations }
         ensures taken { OnOk result (self.new ≡ taken_all number self.old) }
         ensures kept { OnOk result (IsKept self.new.agent self.new.journal) }
+        ensures watched { OnOk result (IsWatchedOn self.old watch.old self.new watch.new) }
     {
         make_room(&mut self.journal)?;
+        let places = Places::before(&self.agent);
         let count = self.agent.take_all(number);
         if count == 0 {
             return Ok(());
         }
-        write_down(&mut self.journal, Entry::Taken(number, count));
+        let next = Entry::Taken(number, count);
+        watch.ask(&places, &next);
+        write_down(&mut self.journal, next);
         Ok(())
     }
 
     /// Finishes an association, where it is live.
-    pub fn finish(&mut self, number: u64) -> Result<(), AllocError>
+    pub fn finish(&mut self, number: u64, watch: &mut Watch) -> Result<(), AllocError>
         requires kept { IsKept self.old.agent self.old.journal }
         ensures finished { OnOk result (self.new ≡ finished number self.old) }
         ensures kept { OnOk result (IsKept self.new.agent self.new.journal) }
+        ensures watched { OnOk result (IsWatchedOn self.old watch.old self.new watch.new) }
     {
         if !self.agent.is_live(number) {
             return Ok(());
         }
         make_room(&mut self.journal)?;
         self.agent.finish(number);
-        write_down(&mut self.journal, Entry::Finished(number));
+        let next = Entry::Finished(number);
+        watch.count(&next);
+        write_down(&mut self.journal, next);
         Ok(())
     }
 
     /// Closes an association at its end.
-    pub fn close_at_end(&mut self, number: u64) -> Result<(), AllocError>
+    pub fn close_at_end(&mut self, number: u64, watch: &mut Watch) -> Result<(), AllocError>
         requires kept { IsKept self.old.agent self.old.journal }
         requires legal { IsTrue (is_legal self.old.agent (Entry.Closed number Why.End)) }
         ensures entered { OnOk result (self.new ≡ with_entry self.old (Entry.Closed number Why.End)) }
         ensures kept { OnOk result (IsKept self.new.agent self.new.journal) }
+        ensures watched { OnOk result (IsWatchedOn self.old watch.old self.new watch.new) }
     {
         make_room(&mut self.journal)?;
         self.agent.close_at_end(number);
-        write_down(&mut self.journal, Entry::Closed(number, Why::End));
+        let next = Entry::Closed(number, Why::End);
+        watch.count(&next);
+        write_down(&mut self.journal, next);
         Ok(())
     }
 }

@@ -5,5 +5,6 @@ mod entering;
 pub mod laws;
 mod line_playing;
 pub mod playing;
+mod watching;
 
 pub use playing::{Ending, Play, play_script};

@@ -5,8 +5,10 @@ ghost use Rattle.agent_model.specs.declared.script_line.ScriptLine.TheVariants a
 ghost use Rattle.agent_model.specs.Playing.{closed, ended, line_played, lines_played, may_play};
 ghost use Rattle.term_model.specs.AgentState.{association_of};
 ghost use Rattle.script_playing.specs.Ready.{IsKept, IsReady};
+ghost use Rattle.script_playing.specs.Watching.{IsWatchedOn};
 
 use crate::entering::Run;
+use crate::watching::Watch;
 use agent_model::ScriptLine;
 use std::alloc::{AllocError, Global};
 use term_model::{StepLedger, Steps};
@@ -44,15 +46,16 @@ impl<L: StepLedger> Run<L> {
     }
 
     /// Plays a line that opens an association.
-    fn play_open(&mut self, alloc: Global, bind: Bytes) -> Result<(), AllocError>
+    fn play_open(&mut self, alloc: Global, bind: Bytes, watch: &mut Watch) -> Result<(), AllocError>
         requires kept { IsKept self.old.agent self.old.journal }
         requires ready { IsReady self.old }
         ensures played { OnOk result (self.new ≡ line_played self.old (line.Open bind)) }
         ensures kept { OnOk result (IsKept self.new.agent self.new.journal) }
+        ensures watched { OnOk result (IsWatchedOn self.old watch.old self.new watch.new) }
     {
         let number = self.next_number();
-        self.open(alloc, number, bind)?;
-        self.take(number)
+        self.open(alloc, number, bind, watch)?;
+        self.take(number, watch)
     }
 
     /// Plays a line that sends an APDU of an association.
@@ -62,33 +65,36 @@ impl<L: StepLedger> Run<L> {
         number: u64,
         apdu: Bytes,
         steps: &mut Steps<L>,
+        watch: &mut Watch,
     ) -> Result<(), AllocError>
         requires kept { IsKept self.old.agent self.old.journal }
         requires ready { IsReady self.old }
         requires live { IsTrue (may_play self.old.agent (line.Send number apdu)) }
         ensures played { OnOk result (self.new ≡ line_played self.old (line.Send number apdu)) }
         ensures kept { OnOk result (IsKept self.new.agent self.new.journal) }
+        ensures watched { OnOk result (IsWatchedOn self.old watch.old self.new watch.new) }
     {
         let before = self.count_operations();
-        self.arrive(alloc, number, apdu)?;
-        self.answer(alloc, before, steps)?;
-        self.take(number)
+        self.arrive(alloc, number, apdu, watch)?;
+        self.answer(alloc, before, steps, watch)?;
+        self.take(number, watch)
     }
 
     /// Finishes an association that was opened, takes what is left of it and closes it, where it isn't closed.
-    fn close(&mut self, number: u64) -> Result<(), AllocError>
+    fn close(&mut self, number: u64, watch: &mut Watch) -> Result<(), AllocError>
         requires kept { IsKept self.old.agent self.old.journal }
         requires ready { IsReady self.old }
         requires opened { IsSome (association_of self.old.agent number) }
         ensures closed { OnOk result (self.new ≡ closed number self.old) }
         ensures kept { OnOk result (IsKept self.new.agent self.new.journal) }
+        ensures watched { OnOk result (IsWatchedOn self.old watch.old self.new watch.new) }
     {
         if self.agent.is_closed(number) {
             return Ok(());
         }
-        self.finish(number)?;
-        self.take(number)?;
-        self.close_at_end(number)
+        self.finish(number, watch)?;
+        self.take(number, watch)?;
+        self.close_at_end(number, watch)
     }
 
     /// Plays a line whose condition holds.
@@ -97,12 +103,14 @@ impl<L: StepLedger> Run<L> {
         alloc: Global,
         line: ScriptLine,
         steps: &mut Steps<L>,
+        watch: &mut Watch,
     ) -> Result<(), AllocError>
         requires kept { IsKept self.old.agent self.old.journal }
         requires ready { IsReady self.old }
         requires may { IsTrue (may_play self.old.agent line) }
         ensures played { OnOk result (self.new ≡ line_played self.old line) }
         ensures kept { OnOk result (IsKept self.new.agent self.new.journal) }
+        ensures watched { OnOk result (IsWatchedOn self.old watch.old self.new watch.new) }
         ensures ready { OnOk result (IsReady self.new) }
     {
         match line {
@@ -110,9 +118,9 @@ impl<L: StepLedger> Run<L> {
                 self.play_at(moment);
                 Ok(())
             }
-            ScriptLine::Open(bind) => self.play_open(alloc, bind),
-            ScriptLine::Send(number, apdu) => self.play_send(alloc, number, apdu, steps),
-            ScriptLine::End(number) => self.close(number),
+            ScriptLine::Open(bind) => self.play_open(alloc, bind, watch),
+            ScriptLine::Send(number, apdu) => self.play_send(alloc, number, apdu, steps, watch),
+            ScriptLine::End(number) => self.close(number, watch),
         }
     }
 
@@ -122,12 +130,14 @@ impl<L: StepLedger> Run<L> {
         alloc: Global,
         lines: Vec<ScriptLine>,
         steps: &mut Steps<L>,
+        watch: &mut Watch,
     ) -> Result<Option<u64>, AllocError>
         requires kept { IsKept self.old.agent self.old.journal }
         requires ready { IsReady self.old }
         ensures played { IfOk result (λ bad. MatchOption bad (lines_played 1 self.old lines.items ≡ Ok self.new)
             (λ number. lines_played 1 self.old lines.items ≡ Err number)) }
         ensures kept { OnOk result (IsKept self.new.agent self.new.journal) }
+        ensures watched { OnOk result (IsWatchedOn self.old watch.old self.new watch.new) }
         ensures ready { OnOk result (IsReady self.new) }
     {
         let mut number = 0;
@@ -136,21 +146,22 @@ impl<L: StepLedger> Run<L> {
             if !self.may_play(&line) {
                 return Ok(Some(number));
             }
-            self.play(alloc, line, steps)?;
+            self.play(alloc, line, steps, watch)?;
         }
         Ok(None)
     }
 
     /// Closes all associations that aren't closed, by rising number.
-    pub fn end(&mut self) -> Result<(), AllocError>
+    pub fn end(&mut self, watch: &mut Watch) -> Result<(), AllocError>
         requires kept { IsKept self.old.agent self.old.journal }
         requires ready { IsReady self.old }
         ensures ended { OnOk result (self.new ≡ ended self.old) }
         ensures kept { OnOk result (IsKept self.new.agent self.new.journal) }
+        ensures watched { OnOk result (IsWatchedOn self.old watch.old self.new watch.new) }
     {
         let count = self.count_associations();
         for before in 0..count {
-            self.close(before + 1)?;
+            self.close(before + 1, watch)?;
         }
         Ok(())
     }

@@ -1,18 +1,21 @@
 //! Scripts: docs/PROFILE.md, sections 5 and 7.
 
-ghost use Rattle.std.specs.Prelude.{◌≡◌, ℕ, IfOk, IsTrue};
+ghost use Rattle.std.specs.Prelude.{◌≡◌, ℕ, IfOk, IsTrue, MatchOption};
 ghost use Rattle.std.specs.List.{All};
 ghost use Rattle.term_model.specs.declared.agent_state.AgentState.{AgentState};
 ghost use Rattle.term_model.specs.History.{came};
 ghost use Rattle.term_model.specs.Settled.{IsSettled};
 ghost use Rattle.term_model.specs.TextLaws.{IsEntry};
 ghost use Rattle.operation_model.specs.OperationConditions.{AreSmall};
+ghost use Rattle.agent_model.specs.JournalRoom.{HasRoom};
 ghost use Rattle.agent_model.specs.Journals.{is_legal_journal, replayed};
 ghost use Rattle.agent_model.specs.Playing.{frames_of};
 ghost use Rattle.script_playing.specs.Ready.{IsFresh};
-ghost use Rattle.script_playing.specs.Scripts.{IfEnded, IsTold};
+ghost use Rattle.script_playing.specs.Scripts.{HasRoomTold, IfEnded, IsTelling, IsTold};
+ghost use Rattle.script_playing.specs.Watching.{IsFilledAt};
 
 use crate::entering::Run;
+use crate::watching::Watch;
 use agent_model::ScriptLines;
 use agent_steps::Agent;
 use std::alloc::{AllocError, Global};
@@ -51,8 +54,11 @@ impl<L: StepLedger> Model for Play<L> {
 /// What a script comes to.
 #[derive(Drop)]
 pub enum Ending<L: StepLedger> {
-    /// All lines were played, and each association is closed.
+    /// All lines were played, each association is closed, and the journal has room for all of its entries.
     Ended(Play<L>),
+    /// All lines were played and each association is closed, but the journal has no room for the entry behind so many
+    /// of them, the first of which that is so.
+    Full(Play<L>, u64),
     /// The condition of this line does not hold, the first of which that is so; lines count from 1.
     Bad(u64),
 }
@@ -76,6 +82,19 @@ impl<L: StepLedger> Play<L> {
     }
 }
 
+/// What is told of a play to the end of a script, of whose journal this is known.
+fn told<L: StepLedger>(play: Play<L>, watch: &Watch) -> Ending<L>
+    ensures play { IsTelling play result }
+    ensures room { (agent : AgentState)
+        → MatchOption watch.now.refused (HasRoom agent play.journal) (λ place. IsFilledAt agent play.journal place)
+        → HasRoomTold agent result }
+{
+    match watch.refused {
+        None => Ending::Ended(play),
+        Some(place) => Ending::Full(play, place),
+    }
+}
+
 /// Plays a script on an agent before any entry, whose objects are at most 16,384 octets long. The looks into the map of
 /// objects are counted on `steps`.
 ///
@@ -83,6 +102,9 @@ impl<L: StepLedger> Play<L> {
 /// placed for the association of a line is taken behind the line; of the others nothing is left. An operation that a
 /// line brings is granted and committed at once. At the end each association that isn't closed is finished where it is
 /// live, and closed, by rising number. Octets of the lines move into the journal.
+///
+/// `Full` has the play of all lines and how many entries of its journal stand in front of the first one that is refused
+/// under the agent's limits; `Ended` has a play whose journal has room for all.
 ///
 /// `Bad` has the number of the first line whose condition does not hold, from 1: an association that sends is opened
 /// and neither finished nor closed, one that ends is opened. The one error is want of memory; nothing is left of the
@@ -99,6 +121,10 @@ pub fn play_script<L: StepLedger + Drop>(
     // The play is that of all lines and of the end; or the number is that of the first line whose condition does not
     // hold.
     ensures played { IfOk result (IsTold agent lines) }
+
+    // The journal has room for all of its entries under the agent's limits; or so many of them stand in front of the
+    // first one that is refused.
+    ensures room { IfOk result (HasRoomTold agent) }
 
     // The journal is legal from the agent before, and comes to the agent after.
     ensures legal { IfOk result (IfEnded (λ play. IsTrue (is_legal_journal agent play.journal))) }
@@ -124,13 +150,15 @@ pub fn play_script<L: StepLedger + Drop>(
         journal: Vec::new(alloc),
         moment: SCRIPT_START,
     };
-    if let Some(number) = run.play_lines(alloc, lines.items, steps)? {
+    let mut watch = Watch::new();
+    if let Some(number) = run.play_lines(alloc, lines.items, steps, &mut watch)? {
         return Ok(Ending::Bad(number));
     }
-    run.end()?;
-    Ok(Ending::Ended(Play {
+    run.end(&mut watch)?;
+    let play = Play {
         agent: run.agent,
         journal: run.journal,
         moment: run.moment,
-    }))
+    };
+    Ok(told(play, &watch))
 }

@@ -5,6 +5,7 @@ use Rattle.term_model.specs.Step.{is_legal}
 use Rattle.agent_model.specs.Playing.{with_entry}
 use Rattle.agent_model.proofs.StepLaws.{granted_then}
 use Rattle.agent_steps.specs.States.{moment_of_grant}
+use Rattle.std.proofs.lemmas.Result.{on_ok_weaker}
 use Rattle.script_playing.proofs.entering.Run.answer.Goals as goal
 
 pub commit-requires-clause-granted : goal.commit-requires-clause-granted
@@ -18,3 +19,7 @@ commit-requires-clause-granted g c =
     let entered : c.grant.new.self ≡ with_entry old (Granted number old.moment) = c.in_ok-grant.ensures.entered in
     subst (λ (p : Play). moment_of_grant p.agent number ≡ Some p.moment) (sym entered)
     (granted_then old.agent number old.moment legal)
+
+pub returns-clause-watched : goal.returns-clause-watched
+returns-clause-watched g c =
+    on_ok_weaker c.commit.result (λ h first w. h first (c.in_ok-grant.ensures.watched first w)) c.commit.ensures.watched

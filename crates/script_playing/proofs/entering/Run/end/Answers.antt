@@ -21,4 +21,5 @@ loop-before-preserved g c =
           ∙ sym (ap (λ (p : Play). length p.agent.associations) is ∙ closed_count 1 number now);
       rest = ap (λ p. closed_from (count - number) (number + 1) p) is
           ∙ (sym (closed_step count before now within) ∙ c.loop-before.invariant.rest);
+      watched = λ first w. c.in_ok-close.ensures.watched first (c.loop-before.invariant.watched first w);
     }

@@ -1,9 +1,12 @@
-use Rattle.std.proofs.Common.{◌++◌, [], ◌∷◌, rules}
+use Rattle.std.proofs.Common.{refl, ◌++◌, [], ◌∷◌, rules}
 use Rattle.std.proofs.Common.{sym, ap, ◌∙◌, subst}
 use Rattle.term_model.specs.declared.entry.Entry.TheVariants.{Finished}
 use Rattle.term_model.specs.Played.{Play}
+use Rattle.agent_model.specs.Stepping.{step}
 use Rattle.script_playing.specs.Ready.{IsKept}
 use Rattle.script_playing.proofs.KeptLaws.{kept_more}
+use Rattle.script_playing.specs.Watching.{IsWatched}
+use Rattle.script_playing.proofs.WatchingLaws.{watched_at}
 use Rattle.script_playing.proofs.entering.Run.finish.Goals as goal
 
 pub returns-clause-kept : goal.returns-clause-kept
@@ -12,4 +15,16 @@ returns-clause-kept g c =
     let kept = subst (λ (p : Play). IsKept p.agent p.journal) (sym c.self.view_is) c.requires.kept in
     kept_more c.self.inside.agent c.finish.new.self c.self.inside.journal.items c.write_down.new.journal.items next kept
     (search rules) (search rules) tt tt c.finish.ensures
+    (c.write_down.ensures ∙ ap (λ xs. xs ++ next ∷ []) c.in_ok-make_room.ensures.kept)
+
+pub returns-clause-watched : goal.returns-clause-watched
+returns-clause-watched g c first w =
+    let agent = c.self.inside.agent in
+    let journal = c.self.inside.journal.items in
+    let next = Finished c.args.number in
+    let kept = subst (λ (p : Play). IsKept p.agent p.journal) (sym c.self.view_is) c.requires.kept in
+    let known =
+    subst (λ (p : Play). IsWatched first p.agent p.journal c.args.watch.now) (sym c.self.view_is) w in
+    watched_at first (step agent next) c.finish.new.self (journal ++ next ∷ []) c.write_down.new.journal.items
+    c.count.new.self (c.count.ensures.watched first agent journal kept.counted refl known) c.finish.ensures
     (c.write_down.ensures ∙ ap (λ xs. xs ++ next ∷ []) c.in_ok-make_room.ensures.kept)

@@ -1,10 +1,13 @@
-use Rattle.std.proofs.Common.{◌++◌, [], ◌∷◌, rules}
+use Rattle.std.proofs.Common.{refl, ◌++◌, [], ◌∷◌, rules}
 use Rattle.std.proofs.Common.{sym, ap, ◌∙◌, subst}
 use Rattle.term_model.specs.declared.entry.Entry.TheVariants.{Granted}
 use Rattle.term_model.specs.Played.{Play}
 use Rattle.term_model.specs.Step.{is_legal}
+use Rattle.agent_model.specs.Stepping.{step}
 use Rattle.script_playing.specs.Ready.{IsKept}
 use Rattle.script_playing.proofs.KeptLaws.{kept_more}
+use Rattle.script_playing.specs.Watching.{IsWatched}
+use Rattle.script_playing.proofs.WatchingLaws.{watched_at}
 use Rattle.script_playing.proofs.entering.Run.grant.Goals as goal
 
 pub returns-clause-kept : goal.returns-clause-kept
@@ -14,4 +17,16 @@ returns-clause-kept g c =
     kept_more c.self.inside.agent c.grant.new.self c.self.inside.journal.items c.write_down.new.journal.items next kept
     (ap (λ (p : Play). is_legal p.agent (Granted c.args.number p.moment)) c.self.view_is ∙ c.requires.legal)
     (search rules, search rules) tt tt c.grant.ensures
+    (c.write_down.ensures ∙ ap (λ xs. xs ++ next ∷ []) c.in_ok-make_room.ensures.kept)
+
+pub returns-clause-watched : goal.returns-clause-watched
+returns-clause-watched g c first w =
+    let agent = c.self.inside.agent in
+    let journal = c.self.inside.journal.items in
+    let next = Granted c.args.number c.self.inside.moment in
+    let kept = subst (λ (p : Play). IsKept p.agent p.journal) (sym c.self.view_is) c.requires.kept in
+    let known =
+    subst (λ (p : Play). IsWatched first p.agent p.journal c.args.watch.now) (sym c.self.view_is) w in
+    watched_at first (step agent next) c.grant.new.self (journal ++ next ∷ []) c.write_down.new.journal.items
+    c.count.new.self (c.count.ensures.watched first agent journal kept.counted refl known) c.grant.ensures
     (c.write_down.ensures ∙ ap (λ xs. xs ++ next ∷ []) c.in_ok-make_room.ensures.kept)

@@ -6,6 +6,8 @@ use Rattle.term_model.specs.Played.{Play}
 use Rattle.agent_model.specs.Stepping.{step}
 use Rattle.script_playing.specs.Ready.{IsKept}
 use Rattle.script_playing.proofs.KeptLaws.{kept_opened}
+use Rattle.script_playing.specs.Watching.{IsWatched}
+use Rattle.script_playing.proofs.WatchingLaws.{watched_at}
 use Rattle.script_playing.proofs.entering.Run.open.Goals as goal
 
 pub returns-clause-kept : goal.returns-clause-kept
@@ -24,4 +26,23 @@ returns-clause-kept g c =
     kept_opened agent c.open.new.self c.self.inside.journal.items c.write_down.new.journal.items number c.args.bind kept
     (c.requires.next ∙ ap (λ (p : Play). length p.agent.associations + 1) (sym c.self.view_is))
     (search rules, octets) stepped
+    (c.write_down.ensures ∙ ap (λ xs. xs ++ next ∷ []) c.in_ok-make_room.ensures.kept)
+
+pub returns-clause-watched : goal.returns-clause-watched
+returns-clause-watched g c first w =
+    let agent = c.self.inside.agent in
+    let journal = c.self.inside.journal.items in
+    let next = Opened c.args.number c.args.bind in
+    let kept = subst (λ (p : Play). IsKept p.agent p.journal) (sym c.self.view_is) c.requires.kept in
+    let known =
+    subst (λ (p : Play). IsWatched first p.agent p.journal c.args.watch.now) (sym c.self.view_is) w in
+    let last = length agent.associations + 1 in
+    let number_is : c.args.number ≡ last =
+    c.requires.next ∙ ap (λ (p : Play). length p.agent.associations + 1) (sym c.self.view_is) in
+    let stepped : c.open.new.self ≡ step agent next =
+    c.in_ok-open.ensures.stepped
+    ∙ (ap (λ bs. step agent (Opened last bs)) c.as_slice-octets.ensures
+    ∙ ap (λ n. step agent (Opened n c.args.bind)) (sym number_is)) in
+    watched_at first (step agent next) c.open.new.self (journal ++ next ∷ []) c.write_down.new.journal.items
+    c.ask.new.self (c.ask.ensures first agent journal kept.counted c.before-places.ensures.places known) stepped
     (c.write_down.ensures ∙ ap (λ xs. xs ++ next ∷ []) c.in_ok-make_room.ensures.kept)
