@@ -4,7 +4,9 @@ use crate::devices::{
     show_memory_files, show_output, show_read_up_to, show_real_file, show_sink, show_source,
 };
 use crate::documents::{DocumentCall, show_document, show_stored_document};
-use crate::runs::{show_changed_run, show_command, show_real_run, show_run, show_run_with_faults};
+use crate::runs::{
+    show_changed_run, show_command, show_real_run, show_run, show_run_end, show_run_with_faults,
+};
 use crate::stored_files::StoredFiles;
 use crate::texts::first_word;
 use std::alloc::AllocError;
@@ -42,6 +44,7 @@ fn answer_call(
     let alloc = rt.alloc();
     match call {
         "agent" => show_run(rt, files, rest, answer),
+        "ends" => show_run_end(rt, files, rest, answer),
         "change" => show_changed_run(rt, files, rest, answer),
         "fails" => show_run_with_faults(rt, files, rest, answer),
         "command" => show_command(rt, files, rest, answer),

@@ -11,6 +11,9 @@ use std::alloc::{AllocError, Global};
 /// Room in a sink for all that a row writes.
 const ROOM: usize = 16_384;
 
+/// Room in a sink for a journal that is full.
+const JOURNAL_ROOM: usize = 67_108_864;
+
 /// The most octets that a sink with faults takes in a call.
 const TURN: usize = 100;
 
@@ -88,6 +91,31 @@ pub(crate) fn show_run(
     let mut files = files.in_memory(alloc, Vec::new(alloc))?;
     let mut out = MemSink::new(alloc, ROOM, Vec::new(alloc))?;
     show_memory_run(rt, line, &mut files, &mut out, answer)
+}
+
+/// Appends how many octets stand before the last ones of a text, of which there are so many, and these.
+fn show_last(text: &[u8], count: u64, answer: &mut String) -> Result<(), AllocError> {
+    let before = text.len().saturating_sub(count as usize);
+    write!(answer, "{before} ")?;
+    show_quoted(&text[before..], answer)
+}
+
+/// `ends COUNT WORD..`: a run on the table's files, of what is written the last octets alone.
+pub(crate) fn show_run_end(
+    rt: &HostRuntime,
+    files: &StoredFiles,
+    row: &str,
+    answer: &mut String,
+) -> Result<(), AllocError> {
+    let alloc = rt.alloc();
+    let (count, line) = first_number(row);
+    let words = words_of(alloc, line)?;
+    let mut files = files.in_memory(alloc, Vec::new(alloc))?;
+    let mut out = MemSink::new(alloc, JOURNAL_ROOM, Vec::new(alloc))?;
+    let status = agent(rt, &words, &mut files, &mut out);
+    let (file_faults, out_faults) = (files.faults(), out.faults());
+    write!(answer, "{status} {file_faults} {out_faults} ")?;
+    show_last(out.written(), count, answer)
 }
 
 /// `change NAME OLD→NEW`: a run of the files `script` and `document` with a piece of one of them replaced.

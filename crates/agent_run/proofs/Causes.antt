@@ -1,14 +1,15 @@
 -- Causes: from what a part of a command says of its refusal to what the whole says.
-use Rattle.std.proofs.Common.{◌≡◌, ℕ, ◌≤◌, List, [], ◌∷◌, ◌++◌, Result, Ok, Err, length, get_or}
-use Rattle.std.proofs.Common.{sym, ap, ◌∙◌, ⊎_elim, inl, inr, arith}
+use Rattle.std.proofs.Common.{◌≡◌, ℕ, ◌≤◌, List, [], ◌∷◌, ◌++◌, Result, Ok, Err}
+use Rattle.std.proofs.Common.{sym, ⊎_elim, inl, inr, arith}
 use Rattle.std.proofs.Math.Path.{subst}
 use Rattle.std.proofs.lemmas.Bool.{cases_lt}
-use Rattle.std.specs.Prelude.{IfErr, IfOk, Option, None, Some}
+use Rattle.std.specs.Prelude.{IfErr, IfOk}
 use Rattle.std.specs.Result.{IsErrAnd}
 use Rattle.agent_bytes.specs.Faults.{Rose}
 use Rattle.agent_run.specs.declared.refusal.Refusal.{Refusal}
 use Rattle.agent_run.specs.declared.refusal.Refusal.TheVariants.{Usage, FileFault, FileTooLarge, BadDocument}
-use Rattle.agent_run.specs.declared.refusal.Refusal.TheVariants.{BadInstance, BadScript, NotBuilt, OutOfMemory}
+use Rattle.agent_run.specs.declared.refusal.Refusal.TheVariants.{BadInstance, BadScript, JournalFull, NotBuilt}
+use Rattle.agent_run.specs.declared.refusal.Refusal.TheVariants.{OutOfMemory}
 use Rattle.agent_run.specs.declared.refusal.Unbuilt.TheVariants.{Command as ACommand, Document, Script}
 use Rattle.command_line.specs.WordForms.{AreWordsOf, Command}
 use Rattle.command_line.specs.WordForms.Command.{Check, Report, Run}
@@ -47,6 +48,7 @@ of_first files x others before after (BadDocument number line kind) cause = caus
 of_first files x others before after (BadInstance index error) cause = cause
 of_first files x others before after (BadScript line) cause = cause
 of_first files x others before after (NotBuilt what) cause = cause
+of_first files x others before after (JournalFull text) cause = cause
 
 -- and of files behind one that is there within its limit
 pub of_others : (files : Told) (x : FileToRead) (others : List FileToRead) (before between after : ℕ) (r : Refusal) →
@@ -61,6 +63,7 @@ of_others files x others before between after (BadDocument number line kind) wit
 of_others files x others before between after (BadInstance index error) within earlier later cause = cause
 of_others files x others before between after (BadScript line) within earlier later cause = cause
 of_others files x others before between after (NotBuilt what) within earlier later cause = cause
+of_others files x others before between after (JournalFull text) within earlier later cause = cause
 
 -- and of a command that reads these files
 pub of_files : (files : Told) (command : Command) (before after : ℕ) (r : Refusal) →
@@ -73,6 +76,7 @@ of_files files command before after (BadDocument number line kind) cause = absur
 of_files files command before after (BadInstance index error) cause = absurd cause
 of_files files command before after (BadScript line) cause = absurd cause
 of_files files command before after (NotBuilt what) cause = absurd cause
+of_files files command before after (JournalFull text) cause = absurd cause
 
 -- the causes of the documents of `check`, and of those of `report`
 pub of_checked : (files : Told) (names : List (List ℕ)) (docs : List Doc) (before after : ℕ) (r : Refusal) →
@@ -85,6 +89,7 @@ of_checked files names docs before after (FileFault name) are cause = absurd cau
 of_checked files names docs before after (FileTooLarge name) are cause = absurd cause
 of_checked files names docs before after (BadScript line) are cause = absurd cause
 of_checked files names docs before after (NotBuilt what) are cause = absurd cause
+of_checked files names docs before after (JournalFull text) are cause = absurd cause
 
 pub of_reported : (files : Told) (names : List (List ℕ)) (docs : List Doc) (before after : ℕ) (r : Refusal) →
     AreDocuments files names docs → HasSetCause docs r → HasCauseBy files (Report names) before after r
@@ -96,6 +101,7 @@ of_reported files names docs before after (FileFault name) are cause = absurd ca
 of_reported files names docs before after (FileTooLarge name) are cause = absurd cause
 of_reported files names docs before after (BadScript line) are cause = absurd cause
 of_reported files names docs before after (NotBuilt what) are cause = absurd cause
+of_reported files names docs before after (JournalFull text) are cause = absurd cause
 
 -- the causes of a script and documents that are run
 pub of_run : (files : Told) (script_name : List ℕ) (names : List (List ℕ)) (script : List ℕ) (docs : List Doc)
@@ -112,6 +118,8 @@ of_run files script_name names script docs before after (NotBuilt Document) run 
 of_run files script_name names script docs before after (NotBuilt Script) run cause =
     (script, docs, run, cause.0, cause.1)
 of_run files script_name names script docs before after (NotBuilt ACommand) run cause = absurd cause
+of_run files script_name names script docs before after (JournalFull text) run cause =
+    (script, docs, run, cause.0, cause.1)
 of_run files script_name names script docs before after OutOfMemory run cause = tt
 of_run files script_name names script docs before after Usage run cause = cause
 of_run files script_name names script docs before after (FileFault name) run cause = absurd cause
@@ -128,6 +136,7 @@ of_command files words command before after (BadScript line) are cause = (comman
 of_command files words command before after (NotBuilt ACommand) are cause = absurd cause
 of_command files words command before after (NotBuilt Document) are cause = (command, are, cause)
 of_command files words command before after (NotBuilt Script) are cause = (command, are, cause)
+of_command files words command before after (JournalFull text) are cause = (command, are, cause)
 of_command files words command before after OutOfMemory are cause = tt
 of_command files words command before after Usage are cause = absurd cause
 
@@ -159,6 +168,7 @@ behind_documents files names others docs before after (BadDocument number line k
 behind_documents files names others docs before after (BadInstance index error) are cause = cause
 behind_documents files names others docs before after (BadScript line) are cause = cause
 behind_documents files names others docs before after (NotBuilt what) are cause = cause
+behind_documents files names others docs before after (JournalFull text) are cause = cause
 
 -- the same of the first of these files alone
 pub at_document : (files : Told) (name : List ℕ) (names others : List (List ℕ)) (docs : List Doc) (before after : ℕ)

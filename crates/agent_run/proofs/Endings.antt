@@ -9,7 +9,8 @@ use Rattle.agent_bytes.specs.Faults.{Rose}
 use Rattle.agent_bytes.specs.Told.{IsFile, IsLonger}
 use Rattle.agent_run.specs.declared.refusal.Refusal.{Refusal}
 use Rattle.agent_run.specs.declared.refusal.Refusal.TheVariants.{Usage, FileFault, FileTooLarge, BadDocument}
-use Rattle.agent_run.specs.declared.refusal.Refusal.TheVariants.{BadInstance, BadScript, NotBuilt, OutOfMemory}
+use Rattle.agent_run.specs.declared.refusal.Refusal.TheVariants.{BadInstance, BadScript, JournalFull, NotBuilt}
+use Rattle.agent_run.specs.declared.refusal.Refusal.TheVariants.{OutOfMemory}
 use Rattle.agent_run.specs.declared.refusal.Unbuilt.{Unbuilt}
 use Rattle.agent_run.specs.declared.refusal.Unbuilt.TheVariants.{Command as ACommand, Document, Script}
 use Rattle.command_line.specs.WordForms.{Command, IsUnbuilt}
@@ -17,14 +18,14 @@ use Rattle.command_line.specs.WordForms.Command.{Run}
 use Rattle.command_line.proofs.CommandLaws.{one_run}
 use Rattle.document_parts.specs.declared.documents.Doc.{Doc}
 use Rattle.agent_run.specs.Answers.{EndsByBadDocument, EndsByBadScript, EndsByFileFault, EndsByFileTooLarge}
-use Rattle.agent_run.specs.Answers.{EndsByNotBuilt, EndsByUsage, HasBytes, IsPut, IsRunnable}
+use Rattle.agent_run.specs.Answers.{EndsByJournalFull, EndsByNotBuilt, EndsByUsage, HasBytes, IsPut, IsRunnable}
 use Rattle.agent_run.specs.Files.{AreDocuments, NamesLonger, Told, most_document, most_script}
 use Rattle.agent_run.specs.Files.{run_files}
 use Rattle.agent_run.specs.Files.AreDocuments.{no_document, document}
 use Rattle.agent_run.specs.Files.Reaches.{here, behind}
 use Rattle.first_run.specs.FirstRuns.{AreInFirstForms, IsDocument, IsFirst, IsScriptFor}
-use Rattle.agent_run.specs.Refusing.{AreRunFiles, HasBadScript, HasCause, HasNoScript, HasRunFault, IsOutside}
-use Rattle.agent_run.specs.Refusing.{IsUnplayed, OfCommand, line_of, status_of}
+use Rattle.agent_run.specs.Refusing.{AreRunFiles, HasCause, HasRunFault, IsOutside}
+use Rattle.agent_run.specs.Refusing.{OfCommand, status_of, text_of}
 use Rattle.agent_run.specs.Statuses.{all_statuses}
 
 -- what the status of a refusal is
@@ -39,6 +40,7 @@ status_listed (BadDocument number line kind) = (3, omega arith, refl)
 status_listed (BadInstance index error) = (3, omega arith, refl)
 status_listed (BadScript line) = (4, omega arith, refl)
 status_listed (NotBuilt what) = (8, omega arith, refl)
+status_listed (JournalFull text) = (9, omega arith, refl)
 status_listed OutOfMemory = (6, omega arith, refl)
 
 pub written_listed : (status : ℕ) → (status ≡ 0) ⊎ (status ≡ 6) → Contains all_statuses status
@@ -59,7 +61,7 @@ pub record Ended (files : Told) (words : List (List ℕ)) (faults later out_befo
     (before after : Option (List ℕ)) (status : ℕ) (r : Refusal) : Type 0 where
   pub answered : Answered status r
   pub cause : HasCause files words faults later r
-  pub line : status ≢ 8 → IsPut out_before out_after before after (line_of r)
+  pub line : status ≢ 8 → IsPut out_before out_after before after (text_of r)
 
 pub usage_of : (files : Told) (words : List (List ℕ)) (faults later out_before out_after : ℕ)
     (before after : Option (List ℕ)) (status : ℕ) (r : Refusal) →
@@ -69,7 +71,7 @@ usage_of files words faults later out_before out_after before after status r end
     by r ended.cause (ended.line (λ o. omega (arith, e, o)))
     (of_refusal status 2 r ended.answered e (λ o. omega (arith, o)))
   where
-    by : (r : Refusal) → HasCause files words faults later r → IsPut out_before out_after before after (line_of r) →
+    by : (r : Refusal) → HasCause files words faults later r → IsPut out_before out_after before after (text_of r) →
         status_of r ≡ 2 → EndsByUsage words out_before out_after before after
     by Usage cause line s = record { outside = cause; line = line }
     by (FileFault name) cause line s = absurd (omega (arith, s))
@@ -78,6 +80,7 @@ usage_of files words faults later out_before out_after before after status r end
     by (BadInstance index error) cause line s = absurd (omega (arith, s))
     by (BadScript number) cause line s = absurd (omega (arith, s))
     by (NotBuilt what) cause line s = absurd (omega (arith, s))
+    by (JournalFull text) cause line s = absurd (omega (arith, s))
     by OutOfMemory cause line s = absurd (omega (arith, s))
 
 pub file_fault_of : (files : Told) (words : List (List ℕ)) (faults later out_before out_after : ℕ)
@@ -88,7 +91,7 @@ file_fault_of files words faults later out_before out_after before after status 
     by r ended.cause (ended.line (λ o. omega (arith, e, o)))
     (of_refusal status 3 r ended.answered e (λ o. omega (arith, o)))
   where
-    by : (r : Refusal) → HasCause files words faults later r → IsPut out_before out_after before after (line_of r) →
+    by : (r : Refusal) → HasCause files words faults later r → IsPut out_before out_after before after (text_of r) →
         status_of r ≡ 3 → EndsByFileFault files words faults later out_before out_after before after
     by (FileFault name) cause line s =
         record { rose = cause.1; name = name.now; named = cause.0; line = line }
@@ -98,6 +101,7 @@ file_fault_of files words faults later out_before out_after before after status 
     by (BadInstance index error) cause line s = absurd (omega (arith, s))
     by (BadScript number) cause line s = absurd (omega (arith, s))
     by (NotBuilt what) cause line s = absurd (omega (arith, s))
+    by (JournalFull text) cause line s = absurd (omega (arith, s))
     by OutOfMemory cause line s = absurd (omega (arith, s))
 
 pub too_large_of : (files : Told) (words : List (List ℕ)) (faults later out_before out_after : ℕ)
@@ -108,7 +112,7 @@ too_large_of files words faults later out_before out_after before after status r
     by r ended.cause (ended.line (λ o. omega (arith, e, o)))
     (of_refusal status 10 r ended.answered e (λ o. omega (arith, o)))
   where
-    by : (r : Refusal) → HasCause files words faults later r → IsPut out_before out_after before after (line_of r) →
+    by : (r : Refusal) → HasCause files words faults later r → IsPut out_before out_after before after (text_of r) →
         status_of r ≡ 10 → EndsByFileTooLarge files words out_before out_after before after
     by (FileTooLarge name) cause line s = record { name = name.now; longer = cause; line = line }
     by Usage cause line s = absurd (omega (arith, s))
@@ -117,6 +121,7 @@ too_large_of files words faults later out_before out_after before after status r
     by (BadInstance index error) cause line s = absurd (omega (arith, s))
     by (BadScript number) cause line s = absurd (omega (arith, s))
     by (NotBuilt what) cause line s = absurd (omega (arith, s))
+    by (JournalFull text) cause line s = absurd (omega (arith, s))
     by OutOfMemory cause line s = absurd (omega (arith, s))
 
 pub bad_document_of : (files : Told) (words : List (List ℕ)) (faults later out_before out_after : ℕ)
@@ -127,7 +132,7 @@ bad_document_of files words faults later out_before out_after before after statu
     by r ended.cause (ended.line (λ o. omega (arith, e, o)))
     (of_refusal status 4 r ended.answered e (λ o. omega (arith, o)))
   where
-    by : (r : Refusal) → HasCause files words faults later r → IsPut out_before out_after before after (line_of r) →
+    by : (r : Refusal) → HasCause files words faults later r → IsPut out_before out_after before after (text_of r) →
         status_of r ≡ 4 → EndsByBadDocument files words out_before out_after before after
     by (BadDocument number at kind) cause line s =
         inl (record { document = number; number = at; kind = kind; fault = cause; line = line })
@@ -138,6 +143,7 @@ bad_document_of files words faults later out_before out_after before after statu
     by (FileTooLarge name) cause line s = absurd (omega (arith, s))
     by (BadScript number) cause line s = absurd (omega (arith, s))
     by (NotBuilt what) cause line s = absurd (omega (arith, s))
+    by (JournalFull text) cause line s = absurd (omega (arith, s))
     by OutOfMemory cause line s = absurd (omega (arith, s))
 
 pub bad_script_of : (files : Told) (words : List (List ℕ)) (faults later out_before out_after : ℕ)
@@ -148,7 +154,7 @@ bad_script_of files words faults later out_before out_after before after status 
     by r ended.cause (ended.line (λ o. omega (arith, e, o)))
     (of_refusal status 5 r ended.answered e (λ o. omega (arith, o)))
   where
-    by : (r : Refusal) → HasCause files words faults later r → IsPut out_before out_after before after (line_of r) →
+    by : (r : Refusal) → HasCause files words faults later r → IsPut out_before out_after before after (text_of r) →
         status_of r ≡ 5 → EndsByBadScript files words out_before out_after before after
     by (BadScript number) cause line s = record { number = number; fault = cause; line = line }
     by Usage cause line s = absurd (omega (arith, s))
@@ -157,6 +163,7 @@ bad_script_of files words faults later out_before out_after before after status 
     by (BadDocument number at kind) cause line s = absurd (omega (arith, s))
     by (BadInstance index error) cause line s = absurd (omega (arith, s))
     by (NotBuilt what) cause line s = absurd (omega (arith, s))
+    by (JournalFull text) cause line s = absurd (omega (arith, s))
     by OutOfMemory cause line s = absurd (omega (arith, s))
 
 pub not_built_of : (files : Told) (words : List (List ℕ)) (faults later out_before out_after : ℕ)
@@ -167,9 +174,30 @@ not_built_of files words faults later out_before out_after before after status r
     by r ended.cause (ended.line (λ o. omega (arith, e, o)))
     (of_refusal status 12 r ended.answered e (λ o. omega (arith, o)))
   where
-    by : (r : Refusal) → HasCause files words faults later r → IsPut out_before out_after before after (line_of r) →
+    by : (r : Refusal) → HasCause files words faults later r → IsPut out_before out_after before after (text_of r) →
         status_of r ≡ 12 → EndsByNotBuilt files words out_before out_after before after
     by (NotBuilt what) cause line s = record { what = what; outside = cause; line = line }
+    by (BadScript number) cause line s = absurd (omega (arith, s))
+    by Usage cause line s = absurd (omega (arith, s))
+    by (FileFault name) cause line s = absurd (omega (arith, s))
+    by (FileTooLarge name) cause line s = absurd (omega (arith, s))
+    by (BadDocument number at kind) cause line s = absurd (omega (arith, s))
+    by (BadInstance index error) cause line s = absurd (omega (arith, s))
+    by (JournalFull text) cause line s = absurd (omega (arith, s))
+    by OutOfMemory cause line s = absurd (omega (arith, s))
+
+pub journal_full_of : (files : Told) (words : List (List ℕ)) (faults later out_before out_after : ℕ)
+    (before after : Option (List ℕ)) (status : ℕ) (r : Refusal) →
+    Ended files words faults later out_before out_after before after status r → status ≡ 9 →
+    EndsByJournalFull files words out_before out_after before after
+journal_full_of files words faults later out_before out_after before after status r ended e =
+    by r ended.cause (ended.line (λ o. omega (arith, e, o)))
+    (of_refusal status 9 r ended.answered e (λ o. omega (arith, o)))
+  where
+    by : (r : Refusal) → HasCause files words faults later r → IsPut out_before out_after before after (text_of r) →
+        status_of r ≡ 9 → EndsByJournalFull files words out_before out_after before after
+    by (JournalFull text) cause line s = record { text = text.items; full = cause; line = line }
+    by (NotBuilt what) cause line s = absurd (omega (arith, s))
     by (BadScript number) cause line s = absurd (omega (arith, s))
     by Usage cause line s = absurd (omega (arith, s))
     by (FileFault name) cause line s = absurd (omega (arith, s))
@@ -271,6 +299,8 @@ no_cause files words faults later status (BadInstance index error) s cause run q
 no_cause files words faults later status (BadScript line) s cause run quiet =
     absurd (no_fault files words _ run cause)
 no_cause files words faults later status (NotBuilt what) s cause run quiet = absurd (inside files words what run cause)
+no_cause files words faults later status (JournalFull text) s cause run quiet =
+    absurd (no_fault files words _ run cause)
 no_cause files words faults later status OutOfMemory s cause run quiet = inr s
 
 pub complete_of : (files : Told) (words : List (List ℕ)) (faults later status : ℕ) (r : Refusal)

@@ -1,6 +1,6 @@
 -- Answers: what each status of the top call says of the words and the files, and what was written then: README.md,
 -- Answers.
-use Rattle.std.specs.Prelude.{◌≡◌, ◌≤◌, ◌⊎◌, ℕ, List, [], ◌∷◌, Option, None, Some, length}
+use Rattle.std.specs.Prelude.{◌≡◌, ◌≤◌, ◌⊎◌, ℕ, List, [], ◌∷◌, ◌++◌, Option, None, Some, length}
 use Rattle.agent_bytes.specs.Faults.{Rose}
 use Rattle.agent_bytes.specs.Told.{GainsPart, gained}
 use Rattle.agent_run.specs.declared.refusal.Unbuilt.{Unbuilt}
@@ -12,9 +12,9 @@ use Rattle.first_run.specs.FirstRuns.{IsDocument, IsScriptFor}
 use Rattle.template_compile.specs.DocumentFaults.{IsTold}
 use Rattle.term_model.specs.declared.schema.Set.{Set}
 use Rattle.agent_run.specs.Files.{IsNamed, IsTooLarge, Told, most_document, most_script}
-use Rattle.agent_run.specs.Refusing.{AreCompiledBy, HasBadScript, IsBadInstanceBy, IsOutside, IsTextBy, OfCommand}
-use Rattle.agent_run.specs.Refusing.{bad_document_line, bad_instance_line, bad_script_line, file_line, not_built_line}
-use Rattle.agent_run.specs.Refusing.{too_large_line, usage_line}
+use Rattle.agent_run.specs.Refusing.{AreCompiledBy, HasBadScript, HasFullJournal, IsBadInstanceBy, IsOutside, IsTextBy}
+use Rattle.agent_run.specs.Refusing.{OfCommand, bad_document_line, bad_instance_line, bad_script_line, file_line}
+use Rattle.agent_run.specs.Refusing.{journal_full_line, not_built_line, too_large_line, usage_line}
 
 -- These bytes were written; or, where a call of the output failed, a part of them. The counts are those of the output's
 -- faults.
@@ -90,6 +90,14 @@ pub record EndsByNotBuilt (files : Told) (words : List (List ℕ)) (out_before o
   pub what : Unbuilt
   pub outside : IsOutside files words what
   pub line : IsPut out_before out_after before after (not_built_line what)
+
+-- the journal of the script has no room for some entry; the part of it before the first such one was written, and the
+-- line behind it
+pub record EndsByJournalFull (files : Told) (words : List (List ℕ)) (out_before out_after : ℕ)
+    (before after : Option (List ℕ)) : Type 0 where
+  pub text : List ℕ
+  pub full : OfCommand words (λ command. HasFullJournal files command text)
+  pub line : IsPut out_before out_after before after (text ++ journal_full_line)
 
 -- a write failed, and a part of the command's text is there
 pub record EndsByWriteFault (files : Told) (words : List (List ℕ)) (out_before out_after : ℕ)

@@ -1,10 +1,11 @@
 -- Refusing: why a command is not done: the cause of each status, and the line that is written then: README.md, Answers;
 -- docs/OPERATING.md, Commands.
-use Rattle.std.specs.Prelude.{◌≡◌, ℕ, List, ◌++◌, codes, decimal}
+use Rattle.std.specs.Prelude.{◌≡◌, ℕ, List, [], ◌++◌, codes, decimal}
 use Rattle.agent_bytes.specs.Faults.{Rose}
 use Rattle.agent_run.specs.declared.refusal.Refusal.{Refusal}
 use Rattle.agent_run.specs.declared.refusal.Refusal.TheVariants.{Usage, FileFault, FileTooLarge, BadDocument}
-use Rattle.agent_run.specs.declared.refusal.Refusal.TheVariants.{BadInstance, BadScript, NotBuilt, OutOfMemory}
+use Rattle.agent_run.specs.declared.refusal.Refusal.TheVariants.{BadInstance, BadScript, JournalFull, NotBuilt}
+use Rattle.agent_run.specs.declared.refusal.Refusal.TheVariants.{OutOfMemory}
 use Rattle.agent_run.specs.declared.refusal.Unbuilt.{Unbuilt}
 use Rattle.agent_run.specs.declared.refusal.Unbuilt.TheVariants.{Command as ACommand, Document, Script}
 use Rattle.command_line.specs.WordForms.{AreInNoForm, AreUnbuilt, AreWordsOf, Command}
@@ -13,15 +14,16 @@ use Rattle.document_parts.specs.declared.documents.Doc.{Doc}
 use Rattle.template_compile.specs.declared.refusal.Kind.{Kind}
 use Rattle.template_compile.specs.declared.refusal.Kind.TheVariants as K
 use Rattle.first_run.specs.FirstRuns.{AreInOtherForms}
-use Rattle.run_command.specs.ScriptRuns.{IsBadInstance as IsUnopened, IsBadScript, IsUnplayedDocument, IsUnplayedScript}
+use Rattle.run_command.specs.ScriptRuns.{IsBadInstance as IsUnopened, IsBadScript, IsJournalFull, IsUnplayedDocument}
+use Rattle.run_command.specs.ScriptRuns.{IsUnplayedScript}
 use Rattle.set_commands.specs.CommandTexts.{IsBadInstance, IsChecked, IsReported}
 use Rattle.template_compile.specs.DocumentFaults.{IsTold}
 use Rattle.term_model.specs.Texts.{line_feed}
 use Rattle.agent_run.specs.Files.{AreDocuments, FileToRead, IsWithin, Names, NamesLonger, Told}
 use Rattle.agent_run.specs.Files.{files_of, most_script}
 use Rattle.agent_run.specs.Running.{IsRun}
-use Rattle.agent_run.specs.Statuses.{bad_document, bad_script, file_fault, file_too_large, not_built, out_of_memory}
-use Rattle.agent_run.specs.Statuses.{usage}
+use Rattle.agent_run.specs.Statuses.{bad_document, bad_script, file_fault, file_too_large, journal_full, not_built}
+use Rattle.agent_run.specs.Statuses.{out_of_memory, usage}
 
 -- the script of a run and its documents
 pub record AreRunFiles (files : Told) (script_name : List ℕ) (names : List (List ℕ)) (script : List ℕ)
@@ -81,6 +83,10 @@ HasNoScript files command = HasRunFault files command IsUnplayedScript
 abbrev pub HasBadScript : Told → Command → ℕ → Type 0
 HasBadScript files command line = HasRunFault files command (λ script docs. IsBadScript script docs line)
 
+-- the journal of the script is full, and this is the text of the part before the first entry for which it has no room
+abbrev pub HasFullJournal : Told → Command → List ℕ → Type 0
+HasFullJournal files command text = HasRunFault files command (λ script docs. IsJournalFull script docs text)
+
 abbrev pub IsOutsideBy : Told → Command → Unbuilt → Type 0
 IsOutsideBy files command ACommand = ⊥
 IsOutsideBy files command Document = IsUnplayed files command
@@ -99,6 +105,7 @@ HasCauseBy files command before after (BadInstance index error) =
     (docs : List Doc) × AreCompiledBy files command docs × IsBadInstanceBy command docs index error
 HasCauseBy files command before after (BadScript line) = HasBadScript files command line
 HasCauseBy files command before after (NotBuilt what) = IsOutsideBy files command what
+HasCauseBy files command before after (JournalFull text) = HasFullJournal files command text.items
 HasCauseBy files command before after OutOfMemory = Unit {0}
 
 -- something holds of the command whose words these are
@@ -124,6 +131,8 @@ HasCause files words before after (BadInstance index error) = OfCommand words (�
     (docs : List Doc) × AreCompiledBy files command docs × IsBadInstanceBy command docs index error)
 HasCause files words before after (BadScript line) = OfCommand words (λ command. HasBadScript files command line)
 HasCause files words before after (NotBuilt what) = IsOutside files words what
+HasCause files words before after (JournalFull text) =
+    OfCommand words (λ command. HasFullJournal files command text.items)
 HasCause files words before after OutOfMemory = Unit {0}
 
 -- a refusal that no failed call of the files caused leaves their count as it was
@@ -152,6 +161,7 @@ HasRunCause script docs (BadInstance index error) = AreInOtherForms script docs 
 HasRunCause script docs (BadScript line) = AreInOtherForms script docs × IsBadScript script docs line
 HasRunCause script docs (NotBuilt Document) = AreInOtherForms script docs × IsUnplayedDocument docs
 HasRunCause script docs (NotBuilt Script) = AreInOtherForms script docs × IsUnplayedScript script docs
+HasRunCause script docs (JournalFull text) = AreInOtherForms script docs × IsJournalFull script docs text.items
 HasRunCause script docs OutOfMemory = Unit {0}
 HasRunCause script docs _ = ⊥
 
@@ -164,6 +174,7 @@ status_of (BadDocument document line kind) = bad_document
 status_of (BadInstance index error) = bad_document
 status_of (BadScript line) = bad_script
 status_of (NotBuilt what) = not_built
+status_of (JournalFull text) = journal_full
 status_of OutOfMemory = out_of_memory
 
 abbrev pub kind_name : Kind → List ℕ
@@ -223,6 +234,9 @@ bad_script_line line = numbered (codes "bad script ") line ++ line_feed
 abbrev pub not_built_line : Unbuilt → List ℕ
 not_built_line what = codes "not built " ++ (unbuilt_name what ++ line_feed)
 
+abbrev pub journal_full_line : List ℕ
+journal_full_line = codes "journal full" ++ line_feed
+
 abbrev pub memory_line : List ℕ
 memory_line = codes "memory" ++ line_feed
 
@@ -234,4 +248,21 @@ line_of (BadDocument document line kind) = bad_document_line document line kind
 line_of (BadInstance index error) = bad_instance_line index error
 line_of (BadScript line) = bad_script_line line
 line_of (NotBuilt what) = not_built_line what
+line_of (JournalFull text) = journal_full_line
 line_of OutOfMemory = memory_line
+
+-- what stands before the line: the journal, where it is full
+abbrev pub text_before : Refusal → List ℕ
+text_before (JournalFull text) = text.items
+text_before Usage = []
+text_before (FileFault name) = []
+text_before (FileTooLarge name) = []
+text_before (BadDocument document line kind) = []
+text_before (BadInstance index error) = []
+text_before (BadScript line) = []
+text_before (NotBuilt what) = []
+text_before OutOfMemory = []
+
+-- what is written of a command that is not done
+abbrev pub text_of : Refusal → List ℕ
+text_of refusal = text_before refusal ++ line_of refusal

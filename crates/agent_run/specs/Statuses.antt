@@ -30,6 +30,10 @@ write_fault = 6
 abbrev pub out_of_memory : ℕ
 out_of_memory = 8
 
+-- the journal of a script is full
+abbrev pub journal_full : ℕ
+journal_full = 9
+
 -- a file is longer than its limit
 abbrev pub file_too_large : ℕ
 file_too_large = 10
@@ -40,4 +44,4 @@ not_built = 12
 
 abbrev pub all_statuses : List ℕ
 all_statuses = done ∷ usage ∷ file_fault ∷ bad_document ∷ bad_script ∷ write_fault ∷ out_of_memory ∷ file_too_large
-    ∷ not_built ∷ []
+    ∷ not_built ∷ journal_full ∷ []

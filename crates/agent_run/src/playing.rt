@@ -30,7 +30,7 @@ fn perform_others(
 {
     match run_text(alloc, script, documents) {
         Ok(text) => Ok(text),
-        Err(refusal) => Err(of_run(&refusal)),
+        Err(refusal) => Err(of_run(refusal)),
     }
 }
 

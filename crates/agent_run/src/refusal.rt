@@ -4,9 +4,9 @@ ghost use Rattle.std.specs.Prelude.{◌≡◌, ◌++◌, ℕ, List, IfOk, OnOk};
 ghost use Rattle.term_model.specs.Texts.{line_feed};
 ghost use Rattle.agent_run.specs.Refusing.{HasRunCause, HasSetCause, bad_document_line, bad_instance_line};
 ghost use Rattle.agent_run.specs.Refusing.{bad_script_line, kind_name, line_of, numbered, status_of, two_numbers};
-ghost use Rattle.agent_run.specs.Refusing.{unbuilt_name};
+ghost use Rattle.agent_run.specs.Refusing.{text_before, text_of, unbuilt_name};
 ghost use Rattle.first_run.specs.FirstRuns.{AreInOtherForms};
-ghost use Rattle.run_command.specs.ScriptRuns.{HasCause as HasRunRefusalCause};
+ghost use Rattle.run_command.specs.RunCauses.{HasCause as HasRunRefusalCause};
 ghost use Rattle.set_commands.specs.CommandTexts.{HasCause as HasSetRefusalCause};
 ghost use Rattle.document_parts.specs.declared.documents.Doc.{Doc};
 
@@ -36,6 +36,9 @@ pub const WRITE_FAULT: u8 = 6;
 /// There was no memory.
 pub const OUT_OF_MEMORY: u8 = 8;
 
+/// The journal of a script is full.
+pub const JOURNAL_FULL: u8 = 9;
+
 /// A file is longer than its limit.
 pub const FILE_TOO_LARGE: u8 = 10;
 
@@ -54,7 +57,7 @@ pub enum Unbuilt {
 }
 
 /// Why a command is not done.
-#[derive(Clone, Copy, Debug, PartialEq, Eq)]
+#[derive(Debug, PartialEq, Eq, Drop)]
 pub enum Refusal<'a> {
     /// The words are in no form.
     Usage,
@@ -70,6 +73,8 @@ pub enum Refusal<'a> {
     BadScript(u64),
     /// What the words name is not built.
     NotBuilt(Unbuilt),
+    /// The journal of the script has no room for some entry. What is printed of the entries before the first such one.
+    JournalFull(Vec<u8>),
     /// There was no memory.
     OutOfMemory,
 }
@@ -178,20 +183,21 @@ fn write_script_line(line: u64, into: &mut Vec<u8>) -> Result<(), AllocError>
 }
 
 /// Why a script is not played on documents.
-pub(crate) fn of_run(refusal: &RunRefusal) -> Refusal<'static>
+pub(crate) fn of_run(refusal: RunRefusal) -> Refusal<'static>
     ensures { (script : List ℕ) (docs : List Doc) → AreInOtherForms script docs
-        → HasRunRefusalCause script docs refusal.now → HasRunCause script docs result }
+        → HasRunRefusalCause script docs refusal → HasRunCause script docs result }
 {
     match refusal {
         RunRefusal::BadDocument {
             document,
             line,
             kind,
-        } => Refusal::BadDocument(*document, *line, *kind),
-        RunRefusal::BadInstance { index, error } => Refusal::BadInstance(*index, *error),
+        } => Refusal::BadDocument(document, line, kind),
+        RunRefusal::BadInstance { index, error } => Refusal::BadInstance(index, error),
         RunRefusal::UnplayedDocument => Refusal::NotBuilt(Unbuilt::Document),
-        RunRefusal::BadScript { line } => Refusal::BadScript(*line),
+        RunRefusal::BadScript { line } => Refusal::BadScript(line),
         RunRefusal::UnplayedScript => Refusal::NotBuilt(Unbuilt::Script),
+        RunRefusal::JournalFull { text } => Refusal::JournalFull(text),
         RunRefusal::Memory => Refusal::OutOfMemory,
     }
 }
@@ -223,6 +229,7 @@ impl Refusal<'_> {
             Refusal::BadDocument(_, _, _) | Refusal::BadInstance(_, _) => BAD_DOCUMENT,
             Refusal::BadScript(_) => BAD_SCRIPT,
             Refusal::NotBuilt(_) => NOT_BUILT,
+            Refusal::JournalFull(_) => JOURNAL_FULL,
             Refusal::OutOfMemory => OUT_OF_MEMORY,
         }
     }
@@ -241,16 +248,29 @@ impl Refusal<'_> {
             Refusal::BadInstance(index, error) => write_instance_line(*index, *error, into),
             Refusal::BadScript(line) => write_script_line(*line, into),
             Refusal::NotBuilt(what) => write_line("not built ", unbuilt_name(*what), into),
+            Refusal::JournalFull(_) => write_line("journal full", "", into),
             Refusal::OutOfMemory => write_line("memory", "", into),
         }
     }
 
-    /// The line that is printed last.
-    pub(crate) fn line(&self, alloc: Global) -> Result<Vec<u8>, AllocError>
-        ensures { IfOk result (λ line. line.items ≡ line_of self.now) }
+    /// What stands before the line: the journal, where it is full.
+    fn before_line(self, alloc: Global) -> Vec<u8>
+        ensures { result.items ≡ text_before self.entry }
+    {
+        match self {
+            Refusal::JournalFull(text) => text,
+            _ => Vec::new(alloc),
+        }
+    }
+
+    /// What is printed: the line, and before it the journal, where it is full.
+    pub(crate) fn text(self, alloc: Global) -> Result<Vec<u8>, AllocError>
+        ensures { IfOk result (λ text. text.items ≡ text_of self.entry) }
     {
         let mut line = Vec::new(alloc);
         self.write(&mut line)?;
-        Ok(line)
+        let mut text = self.before_line(alloc);
+        text.extend_from_slice(&line)?;
+        Ok(text)
     }
 }

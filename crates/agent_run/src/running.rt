@@ -6,10 +6,9 @@ ghost use Rattle.std.specs.Prelude.{IsSome, OnOk};
 ghost use Rattle.agent_bytes.specs.Faults.{Rose};
 ghost use Rattle.agent_bytes.specs.Told.{GainsPart, gained};
 ghost use Rattle.agent_run.specs.Answers.{EndsByBadDocument, EndsByBadScript, EndsByFileFault, EndsByFileTooLarge};
-ghost use Rattle.agent_run.specs.Answers.{EndsByNotBuilt, EndsByUsage, EndsByWriteFault, IsPut, IsRunnable, IsTextOf};
-ghost use Rattle.agent_run.specs.Answers.{Prints};
-ghost use Rattle.agent_run.specs.Refusing.{HasCause, HasCauseBy, IsTextBy, KeepsCount, line_of, memory_line};
-ghost use Rattle.agent_run.specs.Refusing.{status_of};
+ghost use Rattle.agent_run.specs.Answers.{EndsByJournalFull, EndsByNotBuilt, EndsByUsage, EndsByWriteFault, IsPut};
+ghost use Rattle.agent_run.specs.Answers.{IsRunnable, IsTextOf, Prints};
+ghost use Rattle.agent_run.specs.Refusing.{HasCause, HasCauseBy, IsTextBy, KeepsCount, memory_line, status_of, text_of};
 ghost use Rattle.agent_run.specs.Statuses as status;
 ghost use Rattle.command_line.specs.WordForms.Command.{Check, Report, Run};
 
@@ -113,19 +112,21 @@ fn put_line<O: Sink>(out: &mut O, line: &[u8])
     }
 }
 
-/// Writes the line of a refusal, and answers its status, also where a write fails. Where there is no memory for the
-/// line, both are those of want of memory.
-fn refuse<O: Sink>(alloc: Global, refusal: &Refusal<'_>, out: &mut O) -> u8
-    ensures status { result ≡ status_of refusal.now ⊎ result ≡ status.out_of_memory }
+/// Writes the line of a refusal, behind the journal where it is full, and answers its status, also where a write fails.
+/// Where there is no memory for the line, both are those of want of memory.
+fn refuse<O: Sink>(alloc: Global, refusal: Refusal<'_>, out: &mut O) -> u8
+    ensures status { result ≡ status_of refusal.entry ⊎ result ≡ status.out_of_memory }
     ensures line { result ≢ status.out_of_memory
-        → IsPut (O.faults out.old) (O.faults out.new) (O.contents out.old) (O.contents out.new) (line_of refusal.now) }
+        → IsPut (O.faults out.old) (O.faults out.new) (O.contents out.old) (O.contents out.new)
+        (text_of refusal.entry) }
     ensures memory { result ≡ status.out_of_memory
         → IsPut (O.faults out.old) (O.faults out.new) (O.contents out.old) (O.contents out.new) memory_line }
 {
-    match refusal.line(alloc) {
-        Ok(line) => {
-            put_line(out, &line);
-            refusal.status()
+    let status = refusal.status();
+    match refusal.text(alloc) {
+        Ok(text) => {
+            put_line(out, &text);
+            status
         }
         Err(_) => {
             put_line(out, MEMORY_LINE);
@@ -136,17 +137,18 @@ fn refuse<O: Sink>(alloc: Global, refusal: &Refusal<'_>, out: &mut O) -> u8
 
 /// Performs a command and answers the status with which the program ends.
 ///
-/// The words are `check DOC..`, `report DOC..` or `run SCRIPT DOC..`, with 1 to 64 documents. The files are read in this
-/// order. `check` compiles the documents, opens their objects where a section INSTANCES stands, and writes how many
-/// documents, templates of each kind, types and objects there are; `report` writes the text of the schema. `run` plays
-/// the script on the objects of the documents, and writes the journal, a line of two dashes, a line `out A HEX` for each
-/// association and a line `objects N`.
+/// The words are `check DOC..`, `report DOC..` or `run SCRIPT DOC..`, with 1 to 64 documents. The files are read in
+/// this order. `check` compiles the documents, opens their objects where a section INSTANCES stands, and writes how
+/// many documents, templates of each kind, types and objects there are; `report` writes the text of the schema. `run`
+/// plays the script on the objects of the documents, and writes the journal, a line of two dashes, a line `out A HEX`
+/// for each association and a line `objects N`.
 ///
 /// With another status than 0 and 6 one line is written that says why. Words in no form end with 2, a call of the files
 /// that fails with 3, a file past its limit with 10, documents with a fault, or with an instance that can't be opened,
-/// with 4, a script with a bad line with 5, a command, documents or a script that are not built with 12, and want of
-/// memory with 8. The line of 3 and 10 names the first file in the order of the words that has either cause. A failed write ends a
-/// command that would else end with 0 with 6, and changes no other status.
+/// with 4, a script with a bad line with 5, a command, documents or a script that are not built with 12, a script whose
+/// journal is full with 9, and want of memory with 8. The line of 3 and 10 names the first file in the order of the
+/// words that has either cause; that of 9 stands behind the part of the journal before the first entry without room. A
+/// failed write ends a command that would else end with 0 with 6, and changes no other status.
 pub fn agent<R: AllocGlobal, F: Files, O: Sink>(
     rt: &R,
     words: &[String],
@@ -178,6 +180,9 @@ pub fn agent<R: AllocGlobal, F: Files, O: Sink>(
     ensures not_built { result ≡ status.not_built
         → EndsByNotBuilt (F.files files.old) (map string_bytes words.now)
         (O.faults out.old) (O.faults out.new) (O.contents out.old) (O.contents out.new) }
+    ensures journal_full { result ≡ status.journal_full
+        → EndsByJournalFull (F.files files.old) (map string_bytes words.now)
+        (O.faults out.old) (O.faults out.new) (O.contents out.old) (O.contents out.new) }
     ensures memory { result ≡ status.out_of_memory
         → IsPut (O.faults out.old) (O.faults out.new) (O.contents out.old) (O.contents out.new) memory_line }
 
@@ -201,6 +206,6 @@ pub fn agent<R: AllocGlobal, F: Files, O: Sink>(
     let alloc = rt.alloc();
     match prepare(alloc, words, files) {
         Ok(text) => put_text(out, &text),
-        Err(refusal) => refuse(alloc, &refusal, out),
+        Err(refusal) => refuse(alloc, refusal, out),
     }
 }

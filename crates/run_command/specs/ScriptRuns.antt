@@ -1,5 +1,6 @@
--- ScriptRuns: what `run` prints of a script that is played on the objects of compiled documents, and why it doesn't:
--- docs/OPERATING.md, Commands; docs/PROFILE.md, sections 5 to 7.
+-- ScriptRuns: what `run` prints of a script that is played on the objects of compiled documents, also where its journal
+-- is full, and which documents and scripts it doesn't play: docs/OPERATING.md, Commands; docs/PROFILE.md, sections 5 to
+-- 7.
 use Rattle.std.specs.Prelude.{◌≡◌, ◌≢◌, ◌⊎◌, ℕ, ◌+◌, List, [], ◌++◌, Bool, true, false, Ok, Err, IsTrue, length}
 use Rattle.std.specs.List.{All}
 use Rattle.document_parts.specs.declared.documents.Doc.{Doc}
@@ -8,8 +9,6 @@ use Rattle.mib_opening.specs.Refusals.{HasRefusal}
 use Rattle.opening_laws.specs.Encodable.{IsEncodable}
 use Rattle.template_compile.specs.declared.counts.Counts.{Counts}
 use Rattle.template_compile.specs.Counting.{IsCompiled}
-use Rattle.template_compile.specs.DocumentFaults.{IsTold}
-use Rattle.term_model.specs.declared.agent_state.AgentState.{AgentState}
 use Rattle.term_model.specs.declared.entry.Entry.{Entry}
 use Rattle.term_model.specs.declared.objects.NamedObject.{NamedObject}
 use Rattle.term_model.specs.declared.schema.Set.{Set}
@@ -23,15 +22,13 @@ use Rattle.term_model.specs.Texts.{journal_text, outs, separator}
 use Rattle.term_model.specs.WellFormedObjects.{AreGood}
 use Rattle.term_model.specs.WholeSet.{IsWhole}
 use Rattle.agent_model.specs.declared.script_line.ScriptLine.{ScriptLine}
+use Rattle.agent_model.specs.JournalRoom.{HasRoom, IsFilled}
 use Rattle.agent_model.specs.Journals.{is_legal_journal, replayed}
 use Rattle.agent_model.specs.Playing.{ended, frames_of, played}
 use Rattle.agent_model.specs.Starting.{started}
 use Rattle.bound_classes.specs.Behaviour.{has_behaviour}
 use Rattle.script_lines.specs.ScriptText.{AreFirstLines}
 use Rattle.agent_steps.specs.Asking.{has_unbuilt}
-use Rattle.run_command.specs.declared.refusal.RunRefusal.{RunRefusal}
-use Rattle.run_command.specs.declared.refusal.RunRefusal.TheVariants.{BadDocument, BadInstance, UnplayedDocument}
-use Rattle.run_command.specs.declared.refusal.RunRefusal.TheVariants.{BadScript, UnplayedScript, Memory}
 
 -- the documents are compiled
 pub record AreCompiled (docs : List Doc) : Type 0 where
@@ -50,13 +47,11 @@ Obeys schema objects journal =
     (before after : List Entry) → journal ≡ before ++ after
     → AreGood schema (replayed (started schema shipped objects) before).objects
 
--- The text is the journal of the script, a line of two dashes, and what the one-manager agent places on that journal.
--- Each association's frames stand in the journal in their order, and no others; each entry may stand where it stands;
--- and where the schema is whole and everything in it has an encoding, every object obeys its templates all along. At the
--- end each association is closed, all that was placed for it was taken, and none of its operations is outstanding. Each
--- entry is one that the program can hold, and the text is that of no other journal of such entries.
-pub record IsPlayed (schema : Set) (objects : List NamedObject) (lines : List ScriptLine) (text : List ℕ) : Type 0 where
-  pub play : Play
+-- The play of a script to its end. Each association's frames stand in its journal in their order, and no others; each
+-- entry may stand where it stands; and where the schema is whole and everything in it has an encoding, every object
+-- obeys its templates all along. At the end each association is closed, all that was placed for it was taken, and none
+-- of its operations is outstanding; each request was carried out. Each entry is one that the program can hold.
+pub record IsPlay (schema : Set) (objects : List NamedObject) (lines : List ScriptLine) (play : Play) : Type 0 where
   pub played_to : played (started schema shipped objects) lines ≡ Ok play
   pub frames : (number : ℕ) → came number (ended play).journal ≡ frames_of number 0 lines
   pub legal : IsTrue (is_legal_journal (started schema shipped objects) (ended play).journal)
@@ -64,16 +59,40 @@ pub record IsPlayed (schema : Set) (objects : List NamedObject) (lines : List Sc
   pub obeys : IsWhole schema → IsEncodable schema → Obeys schema objects (ended play).journal
   pub settled : IsSettled (ended play).agent
   pub built : has_unbuilt (ended play).agent ≡ false
-  pub printed : text ≡ journal_text (ended play).journal ++ (separator ++ outs (ended play).agent)
   pub held : All IsEntry (ended play).journal
+
+-- The text is the journal of the script, a line of two dashes, and what the one-manager agent places on that journal,
+-- and it is that of no other journal of entries that the program can hold. The journal has room for each entry.
+pub record IsPlayed (schema : Set) (objects : List NamedObject) (lines : List ScriptLine) (text : List ℕ) : Type 0 where
+  pub play : Play
+  pub is_play : IsPlay schema objects lines play
+  pub room : HasRoom (started schema shipped objects) (ended play).journal
+  pub printed : text ≡ journal_text (ended play).journal ++ (separator ++ outs (ended play).agent)
   pub determined : (other : List Entry) (rest : List ℕ) → All IsEntry other
       → text ≡ journal_text other ++ (separator ++ rest) → other ≡ (ended play).journal
+
+-- The journal of the script has no room for some entry. The text is the part of it before the first such one, and that
+-- of no other journal.
+pub record IsPlayedInPart (schema : Set) (objects : List NamedObject) (lines : List ScriptLine) (text : List ℕ)
+    : Type 0 where
+  pub play : Play
+  pub is_play : IsPlay schema objects lines play
+  pub part : List Entry
+  pub filled : IsFilled (started schema shipped objects) (ended play).journal part
+  pub printed : text ≡ journal_text part
+  pub determined : (other : List Entry) → All IsEntry other → text ≡ journal_text other → other ≡ part
 
 -- the same of the text of a script
 pub record IsPlayedOn (schema : Set) (objects : List NamedObject) (script text : List ℕ) : Type 0 where
   pub lines : List ScriptLine
   pub spelt : AreFirstLines script lines []
   pub is_played : IsPlayed schema objects lines text
+
+-- the journal of the text of a script has no room for some entry, and this is the text of the part before it
+pub record IsFilledOn (schema : Set) (objects : List NamedObject) (script text : List ℕ) : Type 0 where
+  pub lines : List ScriptLine
+  pub spelt : AreFirstLines script lines []
+  pub is_played : IsPlayedInPart schema objects lines text
 
 -- the line with this number is the first that breaks the form, or whose condition does not hold
 pub record IsBadLine (schema : Set) (objects : List NamedObject) (script : List ℕ) (number : ℕ) : Type 0 where
@@ -123,60 +142,9 @@ IsBadScript script docs number = OnOpened docs (λ schema objects. IsBadLine sch
 abbrev pub IsUnplayedScript : List ℕ → List Doc → Type 0
 IsUnplayedScript script docs = OnOpened docs (λ schema objects. HasUnbuilt schema objects script)
 
--- the cause of a refusal; want of memory has none
-abbrev pub HasCause : List ℕ → List Doc → RunRefusal → Type 0
-HasCause script docs (BadDocument document line kind) = IsTold docs document line kind
-HasCause script docs (BadInstance index error) = IsBadInstance docs index error
-HasCause script docs UnplayedDocument = IsUnplayedDocument docs
-HasCause script docs (BadScript number) = IsBadScript script docs number
-HasCause script docs UnplayedScript = IsUnplayedScript script docs
-HasCause script docs Memory = Unit {0}
-
--- the causes that documents alone may give
-abbrev pub HasCompilingCause : List Doc → RunRefusal → Type 0
-HasCompilingCause docs (BadDocument document line kind) = IsTold docs document line kind
-HasCompilingCause docs Memory = Unit {0}
-HasCompilingCause docs _ = ⊥
-
--- the causes that a schema may give
-abbrev pub HasOpeningCause : Set → RunRefusal → Type 0
-HasOpeningCause schema (BadInstance index error) = HasRefusal (opened schema) (O.BadInstance index error)
-HasOpeningCause schema Memory = Unit {0}
-HasOpeningCause schema _ = ⊥
-
-abbrev pub HasBehaviourCause : Set → RunRefusal → Type 0
-HasBehaviourCause schema UnplayedDocument = has_behaviour schema ≡ true
-HasBehaviourCause schema Memory = Unit {0}
-HasBehaviourCause schema _ = ⊥
-
--- the causes that a script may give on the objects of a schema
-abbrev pub HasPlayCause : Set → List NamedObject → List ℕ → RunRefusal → Type 0
-HasPlayCause schema objects script (BadScript number) = IsBadLine schema objects script number
-HasPlayCause schema objects script UnplayedScript = HasUnbuilt schema objects script
-HasPlayCause schema objects script Memory = Unit {0}
-HasPlayCause schema objects script _ = ⊥
-
--- the causes that the end of a play may give; so many lines stand before the first one that breaks the form, where one
--- does
-abbrev pub HasEndedCause : AgentState → Bool → ℕ → RunRefusal → Type 0
-HasEndedCause agent is_whole count (BadScript number) = (is_whole ≡ false) × (number ≡ count + 1)
-HasEndedCause agent is_whole count UnplayedScript = (is_whole ≡ true) × (has_unbuilt agent ≡ true)
-HasEndedCause agent is_whole count Memory = Unit {0}
-HasEndedCause agent is_whole count _ = ⊥
-
--- the causes that a schema and a script may give
-abbrev pub HasSchemaCause : Set → List ℕ → RunRefusal → Type 0
-HasSchemaCause schema script (BadInstance index error) = HasRefusal (opened schema) (O.BadInstance index error)
-HasSchemaCause schema script UnplayedDocument =
-    (objects : List NamedObject) × (opened schema ≡ Ok objects) × (has_behaviour schema ≡ true)
-HasSchemaCause schema script (BadScript number) =
-    (objects : List NamedObject) × (opened schema ≡ Ok objects) × (has_behaviour schema ≡ false)
-    × IsBadLine schema objects script number
-HasSchemaCause schema script UnplayedScript =
-    (objects : List NamedObject) × (opened schema ≡ Ok objects) × (has_behaviour schema ≡ false)
-    × HasUnbuilt schema objects script
-HasSchemaCause schema script Memory = Unit {0}
-HasSchemaCause schema script _ = ⊥
+-- the text is what `run` prints of the journal of a script that is full
+abbrev pub IsJournalFull : List ℕ → List Doc → List ℕ → Type 0
+IsJournalFull script docs text = OnOpened docs (λ schema objects. IsFilledOn schema objects script text)
 
 -- what is printed of a schema and a script
 abbrev pub IsRunOf : Set → List ℕ → List ℕ → Type 0

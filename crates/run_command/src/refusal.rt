@@ -43,6 +43,12 @@ pub enum RunRefusal {
     /// A request of the script is of a kind that isn't carried out yet.
     #[error("not built script")]
     UnplayedScript,
+    /// The journal of the script has no room for some entry under the limits of the journal.
+    #[error("journal full")]
+    JournalFull {
+        /// What is printed of the journal, up to the first such entry and without it.
+        text: Vec<u8>,
+    },
     /// There was no memory.
     #[error("out of memory")]
     Memory,

@@ -1,13 +1,13 @@
 //! A script that is played on the objects of compiled documents (docs/OPERATING.md, Commands).
 
-ghost use Rattle.std.specs.Prelude.{◌≡◌, ◌≤◌, ◌<◌, ◌+◌, ◌^◌, ◌++◌, true, false, length, Ok, IfErr, IfOk, OnOk};
+ghost use Rattle.std.specs.Prelude.{◌≡◌, ◌≤◌, ◌<◌, ◌+◌, ◌^◌, ◌++◌, true, false, length, take, Ok, IfErr, IfOk, OnOk};
 ghost use Rattle.agent_steps.specs.Asking.{has_unbuilt};
 ghost use Rattle.bound_classes.specs.Behaviour.{has_behaviour};
 ghost use Rattle.operation_model.specs.OperationConditions.{AreSmall};
 ghost use Rattle.opening_laws.specs.Encodable.{IsEncodable};
-ghost use Rattle.run_command.specs.ScriptRuns.{AreCompiled, HasBehaviourCause, HasCause, HasCompilingCause};
-ghost use Rattle.run_command.specs.ScriptRuns.{HasEndedCause, HasOpeningCause, HasPlayCause, HasSchemaCause};
-ghost use Rattle.run_command.specs.ScriptRuns.{IsPlayedOn, IsRun, IsRunOf};
+ghost use Rattle.run_command.specs.RunCauses.{HasBehaviourCause, HasCause, HasCompilingCause, HasEndedCause};
+ghost use Rattle.run_command.specs.RunCauses.{HasFullCause, HasOpeningCause, HasPlayCause, HasSchemaCause};
+ghost use Rattle.run_command.specs.ScriptRuns.{AreCompiled, IsPlayedOn, IsRun, IsRunOf};
 ghost use Rattle.term_model.specs.Opening.{opened};
 ghost use Rattle.term_model.specs.Texts.{journal_text, outs, separator};
 ghost use Rattle.term_model.specs.WellFormedObjects.{AreGood};
@@ -16,7 +16,7 @@ ghost use Rattle.term_model.specs.WholeSet.{IsWhole};
 use crate::refusal::{RunRefusal, of_compiling, of_opening};
 use agent_steps::Agent;
 use bound_classes::has_behaviour;
-use journal_text::texts::text_of_run;
+use journal_text::texts::{text_of_run, write_journal};
 use mib_opening::opening;
 use mo_list::ListMib;
 use opening_sizes::laws::opened_are_small;
@@ -82,8 +82,42 @@ fn text_of<L: StepLedger>(alloc: Global, play: &Play<L>) -> Result<Vec<u8>, Allo
     )
 }
 
-/// What `run` prints of a play to the end of a script. `is_whole`: no line of the script breaks the form; `count` lines
-/// stand before the first one that does.
+/// What `run` prints of a journal that is full, of which so many entries stand before the first one without room.
+fn text_of_part<L: StepLedger>(
+    alloc: Global,
+    play: &Play<L>,
+    place: u64,
+) -> Result<Vec<u8>, AllocError>
+    requires within { place < length play.now.journal }
+    ensures { IfOk result (λ text. text.items ≡ journal_text (take place play.now.journal)) }
+{
+    let mut text = Vec::new(alloc);
+    write_journal(alloc, &play.journal()[..place as usize], &mut text)?;
+    Ok(text)
+}
+
+/// Refuses a play of a script of which a line breaks the form, or some request is of a kind that isn't carried out.
+/// `is_whole`: no line of the script breaks the form; `count` lines stand before the first one that does.
+fn require_carried_out<L: StepLedger>(
+    play: &Play<L>,
+    is_whole: bool,
+    count: u64,
+) -> Result<(), RunRefusal>
+    requires few { count + 1 < 2 ^ 64 }
+    ensures whole { OnOk result (is_whole ≡ true) }
+    ensures built { OnOk result (has_unbuilt play.now.agent ≡ false) }
+    ensures bad { IfErr result (HasEndedCause play.now.agent is_whole count) }
+{
+    if !is_whole {
+        return Err(RunRefusal::BadScript { line: count + 1 });
+    }
+    if play.agent().has_unbuilt() {
+        return Err(RunRefusal::UnplayedScript);
+    }
+    Ok(())
+}
+
+/// What `run` prints of a play to the end of a script whose journal has room for each entry.
 fn ended_text<L: StepLedger>(
     alloc: Global,
     play: &Play<L>,
@@ -95,13 +129,29 @@ fn ended_text<L: StepLedger>(
         × (text.items ≡ journal_text play.now.journal ++ (separator ++ outs play.now.agent))) }
     ensures bad { IfErr result (HasEndedCause play.now.agent is_whole count) }
 {
-    if !is_whole {
-        return Err(RunRefusal::BadScript { line: count + 1 });
-    }
-    if play.agent().has_unbuilt() {
-        return Err(RunRefusal::UnplayedScript);
-    }
+    require_carried_out(play, is_whole, count)?;
     Ok(text_of(alloc, play)?)
+}
+
+/// The refusal of a play to the end of a script whose journal is full.
+fn refusal_of_full<L: StepLedger>(
+    alloc: Global,
+    play: &Play<L>,
+    place: u64,
+    is_whole: bool,
+    count: u64,
+) -> RunRefusal
+    requires few { count + 1 < 2 ^ 64 }
+    requires within { place < length play.now.journal }
+    ensures { HasFullCause play.now place is_whole count result }
+{
+    if let Err(refusal) = require_carried_out(play, is_whole, count) {
+        return refusal;
+    }
+    match text_of_part(alloc, play, place) {
+        Ok(text) => RunRefusal::JournalFull { text },
+        Err(_) => RunRefusal::Memory,
+    }
 }
 
 /// What `run` prints of the text of a script on the objects of a schema.
@@ -124,6 +174,7 @@ fn play_on<L: StepLedger + Drop>(
     objects_stay_good();
     match play_script(alloc, agent, read.lines, steps)? {
         Ending::Ended(play) => ended_text(alloc, &play, is_whole, count),
+        Ending::Full(play, place) => Err(refusal_of_full(alloc, &play, place, is_whole, count)),
         Ending::Bad(line) => Err(RunRefusal::BadScript { line }),
     }
 }
@@ -155,7 +206,8 @@ fn run_on<N: Ledger>(
 /// `BadDocument` has the first fault of the documents, `BadInstance` the first instance that can't be opened.
 /// `UnplayedDocument`: some class has an action or a notification, or the agent acts on it. `BadScript` has the first
 /// line that breaks the form or whose condition does not hold. `UnplayedScript`: some request is of a kind that isn't
-/// carried out yet. Of several of these the first one is told, in this order.
+/// carried out yet. `JournalFull`: the journal has no room for some entry under its limits; what is printed of it then
+/// is told. Of several of these the first one is told, in this order.
 pub fn run_text(alloc: Global, script: &[u8], documents: &[Doc]) -> Result<Vec<u8>, RunRefusal>
     requires few { length documents.now ≤ 64 }
     ensures text { IfOk result (λ text. IsRun script.now documents.now text.items) }

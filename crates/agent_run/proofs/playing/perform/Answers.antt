@@ -1,4 +1,4 @@
-use Rattle.std.proofs.Common.{inl, inr}
+use Rattle.std.proofs.Common.{inr}
 use Rattle.agent_run.specs.Running.{IsOtherRun, IsRun}
 use Rattle.agent_run.proofs.Causes.{in_ok}
 use Rattle.agent_run.proofs.playing.perform.Goals as goal

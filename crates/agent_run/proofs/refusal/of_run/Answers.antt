@@ -1,5 +1,5 @@
 use Rattle.std.proofs.Math.Path.{subst}
-use Rattle.run_command.specs.ScriptRuns.{HasCause as HasRunRefusalCause}
+use Rattle.run_command.specs.RunCauses.{HasCause as HasRunRefusalCause}
 use Rattle.agent_run.proofs.refusal.of_run.Goals as goal
 
 pub returns-in-BadDocument : goal.returns-in-BadDocument

@@ -3,7 +3,7 @@ use Rattle.std.proofs.Math.Path.{subst}
 use Rattle.std.specs.Prelude.{string_bytes}
 use Rattle.agent_bytes.specs.Told.{GainsPart}
 use Rattle.agent_run.proofs.Endings.{answered_listed, bad_document_of, bad_script_of, complete_of, file_fault_of}
-use Rattle.agent_run.proofs.Endings.{not_built_of, too_large_of, usage_of, written_listed}
+use Rattle.agent_run.proofs.Endings.{journal_full_of, not_built_of, too_large_of, usage_of, written_listed}
 use Rattle.agent_run.proofs.running.agent.Goals as goal
 
 pub returns-in-Ok-clause-statuses : goal.returns-in-Ok-clause-statuses
@@ -55,6 +55,14 @@ returns-in-Err-clause-bad_script g c =
 pub returns-in-Err-clause-not_built : goal.returns-in-Err-clause-not_built
 returns-in-Err-clause-not_built g c =
     not_built_of (g.F.Files.files c.args.files.now) (map string_bytes c.args.words.now)
+    (g.F.Files.faults c.args.files.now) (g.F.Files.faults c.prepare.new.files)
+    (g.O.Sink.faults c.args.out.now) (g.O.Sink.faults c.refuse.new.out)
+    (g.O.Sink.contents c.args.out.now) (g.O.Sink.contents c.refuse.new.out) c.refuse.result c.in-Err.refusal
+    (record { answered = c.refuse.ensures.status; cause = c.in-Err.ensures.cause; line = c.refuse.ensures.line })
+
+pub returns-in-Err-clause-journal_full : goal.returns-in-Err-clause-journal_full
+returns-in-Err-clause-journal_full g c =
+    journal_full_of (g.F.Files.files c.args.files.now) (map string_bytes c.args.words.now)
     (g.F.Files.faults c.args.files.now) (g.F.Files.faults c.prepare.new.files)
     (g.O.Sink.faults c.args.out.now) (g.O.Sink.faults c.refuse.new.out)
     (g.O.Sink.contents c.args.out.now) (g.O.Sink.contents c.refuse.new.out) c.refuse.result c.in-Err.refusal

@@ -1,57 +1,41 @@
-use Rattle.std.proofs.Common.{◌≡◌, ◌∙◌, ℕ, length, ap, sym}
+use Rattle.std.proofs.Common.{◌≡◌, ◌∙◌, length, ap, sym}
 use Rattle.std.proofs.Math.Path.{subst}
 use Rattle.std.proofs.lemmas.Result.{IfOk-weaker}
-use Rattle.std.specs.Prelude.{IsTrue}
-use Rattle.std.specs.List.{All}
+use Rattle.std.specs.Prelude.{false}
 use Rattle.term_model.specs.declared.limits.Limits.{Limits}
-use Rattle.term_model.specs.History.{came}
-use Rattle.term_model.specs.Played.{Play}
-use Rattle.term_model.specs.Settled.{IsSettled}
-use Rattle.term_model.specs.TextLaws.{IsEntry}
-use Rattle.agent_model.specs.Journals.{is_legal_journal, replayed}
-use Rattle.agent_model.specs.Playing.{frames_of}
 use Rattle.agent_model.specs.Starting.{started}
+use Rattle.agent_steps.specs.Asking.{has_unbuilt}
 use Rattle.script_lines.specs.declared.script_text.ScriptText.{ScriptText}
-use Rattle.script_playing.specs.Scripts.{IfEnded, IsTold}
-use Rattle.run_command.specs.ScriptRuns.{HasEndedCause, HasPlayCause}
-use Rattle.run_command.proofs.PlayLaws.{AreRead, in_err, is_played, of_ended, whole_lines}
+use Rattle.script_playing.specs.Scripts.{HasRoomTold, IfEnded, IsTold}
+use Rattle.run_command.specs.RunCauses.{HasEndedCause, HasPlayCause}
+use Rattle.run_command.proofs.PlayLaws.{AreRead, Comes, ends, in_err, is_played, of_ended, of_ending, of_full}
+use Rattle.run_command.proofs.PlayLaws.{whole_lines}
 use Rattle.run_command.proofs.running.play_on.Goals as goal
 
 pub returns-in-Ended-clause-text : goal.returns-in-Ended-clause-text
 returns-in-Ended-clause-text g c =
     let schema = c.args.schema in
     let objects = c.args.objects in
-    let script = c.args.script.now in
     let lines = c.in_ok-read.read.lines in
     let said = c.in_ok-read.ensures.lines in
     let first = c.new-agent.result in
     let play = c.in-Ended.play in
+    let of = c.in_ok-play.ensures in
     let same = c.new-agent.ensures ∙ ap (λ (l : Limits). started schema l objects) c.shipped.ensures in
-    let told = subst (λ e. IsTold first lines e) c.in-Ended.is c.in_ok-play.ensures.played in
+    let told = subst (λ e. IsTold first lines e) c.in-Ended.is of.played in
+    let comes = subst (λ e. IfEnded (λ p. has_unbuilt p.agent ≡ false → Comes first lines p) e) c.in-Ended.is
+    (of_ending first lines _ of.frames of.legal of.replayed of.held of.settled) in
     let whole_is = ap (λ (r : ScriptText). r.is_whole) c.read.view_is in
     IfOk-weaker c.ended_text.result _ _
     (λ text facts. record {
       lines = lines;
       spelt =
-          whole_lines script lines c.in_ok-read.read.is_whole (record { rest = said.0; spelt = said.1; whole = said.2 })
-          (sym whole_is ∙ facts.0);
+          whole_lines c.args.script.now lines c.in_ok-read.read.is_whole
+          (record { rest = said.0; spelt = said.1; whole = said.2 }) (sym whole_is ∙ facts.0);
       is_played =
-          is_played schema objects first lines play text.items same told
-          (record {
-            frames = subst (λ e. IfEnded (λ (p : Play). (number : ℕ) → came number p.journal ≡ frames_of number 0 lines) e)
-                c.in-Ended.is c.in_ok-play.ensures.frames;
-            legal = subst (λ e. IfEnded (λ (p : Play). IsTrue (is_legal_journal first p.journal)) e)
-                c.in-Ended.is c.in_ok-play.ensures.legal;
-            replays = subst (λ e. IfEnded (λ (p : Play). replayed first p.journal ≡ p.agent) e)
-                c.in-Ended.is c.in_ok-play.ensures.replayed;
-            held = subst (λ e. IfEnded (λ (p : Play). All IsEntry p.journal) e)
-                c.in-Ended.is c.in_ok-play.ensures.held;
-            settled = subst (λ e. IfEnded (λ (p : Play). IsSettled p.agent) e)
-                c.in-Ended.is c.in_ok-play.ensures.settled;
-            built = facts.1;
-            printed = facts.2;
-          })
-          c.requires.good c.objects_stay_good.ensures;
+          is_played schema objects first lines play text.items same
+          (ends schema objects first lines play same told (comes facts.1) c.requires.good c.objects_stay_good.ensures)
+          (subst (λ e. HasRoomTold first e) c.in-Ended.is of.room) facts.2;
     })
     c.ended_text.ensures.text
 
@@ -74,3 +58,30 @@ returns-in-Ended-clause-cause g c =
     (subst (λ b. AreRead script lines b) (sym whole_is) (record { rest = said.0; spelt = said.1; whole = said.2 }))
     (ap (λ xs. length xs) (c.as_slice.ensures.value ∙ lines_are)) cause)
     c.ended_text.ensures.bad
+
+pub refusal_of_full-requires-clause-within : goal.refusal_of_full-requires-clause-within
+refusal_of_full-requires-clause-within g c =
+    (subst (λ e. HasRoomTold c.new-agent.result e) c.in-Full.is c.in_ok-play.ensures.room).0
+
+pub returns-in-Full-clause-cause : goal.returns-in-Full-clause-cause
+returns-in-Full-clause-cause g c =
+    let schema = c.args.schema in
+    let objects = c.args.objects in
+    let script = c.args.script.now in
+    let lines = c.in_ok-read.read.lines in
+    let said = c.in_ok-read.ensures.lines in
+    let first = c.new-agent.result in
+    let play = c.in-Full.play in
+    let of = c.in_ok-play.ensures in
+    let same = c.new-agent.ensures ∙ ap (λ (l : Limits). started schema l objects) c.shipped.ensures in
+    let told = subst (λ e. IsTold first lines e) c.in-Full.is of.played in
+    let comes = subst (λ e. IfEnded (λ p. has_unbuilt p.agent ≡ false → Comes first lines p) e) c.in-Full.is
+    (of_ending first lines _ of.frames of.legal of.replayed of.held of.settled) in
+    let whole_is = ap (λ (r : ScriptText). r.is_whole) c.read.view_is in
+    let lines_are = ap (λ (r : ScriptText). r.lines) c.read.view_is in
+    of_full schema objects first script lines play c.in-Full.place _ (length c.as_slice.result.now)
+    c.refusal_of_full.result same told
+    (subst (λ b. AreRead script lines b) (sym whole_is) (record { rest = said.0; spelt = said.1; whole = said.2 }))
+    (ap (λ xs. length xs) (c.as_slice.ensures.value ∙ lines_are))
+    (λ built. ends schema objects first lines play same told (comes built) c.requires.good c.objects_stay_good.ensures)
+    (subst (λ e. HasRoomTold first e) c.in-Full.is of.room).1 c.refusal_of_full.ensures

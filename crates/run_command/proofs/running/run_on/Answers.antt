@@ -1,5 +1,5 @@
 use Rattle.std.proofs.lemmas.Result.{IfOk-weaker}
-use Rattle.run_command.specs.ScriptRuns.{HasPlayCause, HasSchemaCause}
+use Rattle.run_command.specs.RunCauses.{HasPlayCause, HasSchemaCause}
 use Rattle.run_command.proofs.PlayLaws.{exit_with, in_err, of_behaviour, of_play}
 use Rattle.run_command.proofs.running.run_on.Goals as goal
 
