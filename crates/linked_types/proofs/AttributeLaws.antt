@@ -68,7 +68,8 @@ end_there (x ∷ xs) zero is =
 end_there (x ∷ xs) (suc k) is =
     let e = end_there xs k is in record { x = e.x; stands = e.stands; name = e.name; is = e.is }
 
-next_there : (xs : List LinkedAttribute) (k next : ℕ) → slice_get (base_links xs) k ≡ Some (Next next) → IsNext xs k next
+next_there : (xs : List LinkedAttribute) (k next : ℕ) → slice_get (base_links xs) k ≡ Some (Next next) →
+    IsNext xs k next
 next_there [] k next is = absurd (cc)
 next_there (x ∷ xs) zero next is =
     record { x = x; stands = refl; is = next_syntax x.syntax next (some_is (base_link x.syntax) (Next next) is) }
@@ -108,7 +109,8 @@ module _ (ms : List ModuleTerm) (linked : Linked) where
 
   -- the syntax of the type at the end is the attribute's
   pub has_from_end : {k z : ℕ} (syntax : TypeSyntax) (e : IsEnd linked.attributes.items z) →
-      EndsAt (base_links linked.attributes.items) k z → TypeHas ms linked e.name syntax → AttributeHas ms linked k syntax
+      EndsAt (base_links linked.attributes.items) k z → TypeHas ms linked e.name syntax →
+      AttributeHas ms linked k syntax
   has_from_end syntax e (itself h) has = of_type e.stands e.is has
   has_from_end syntax e (onward {e = k} {next = next} h d) has =
       let n = next_there linked.attributes.items k next h in of_base n.stands n.is (has_from_end syntax e d has)
@@ -123,7 +125,8 @@ module _ (ms : List ModuleTerm) (linked : Linked) where
   not_both s name base p q = absurd (cc)
 
   pub end_from_has : {k z : ℕ} {syntax : TypeSyntax} (e : IsEnd linked.attributes.items z) →
-      AttributeHas ms linked k syntax → EndsAt (base_links linked.attributes.items) k z → TypeHas ms linked e.name syntax
+      AttributeHas ms linked k syntax → EndsAt (base_links linked.attributes.items) k z →
+      TypeHas ms linked e.name syntax
   end_from_has {syntax = syntax} e (of_type {k = k} {x = x} {name = name} at is has) (itself h) =
       let same = there_once (slice_get linked.attributes.items k) x e.x at e.stands in
       let named = same_name name e.name (sym is ∙ ap (λ (y : LinkedAttribute). y.syntax) same ∙ e.is) in
@@ -178,7 +181,8 @@ module _ (ms : List ModuleTerm) (linked : Linked) where
   at_none table k None told no_syntax = no_syntax
   at_none table k (Some place) told no_syntax = absurd told
 
-  pub attribute_told : (table : TypeTable) (ends : List (Option ℕ)) → AreEnds (base_links linked.attributes.items) ends →
+  pub attribute_told : (table : TypeTable) (ends : List (Option ℕ)) →
+      AreEnds (base_links linked.attributes.items) ends →
       (k : ℕ) (end : Option ℕ) (place : Option ℕ) → slice_get ends k ≡ Some end →
       TellsOptionalType ms linked table (name_at linked.attributes.items end) place →
       TellsAttributeType ms linked table k place
@@ -210,7 +214,8 @@ pub attributes_told : (ms : List ModuleTerm) (linked : Linked) (table : TypeTabl
 attributes_told ms linked table ends types are made = record {
   size = made.size ∙ are.size ∙ length-map linked.attributes.items (λ (x : LinkedAttribute). base_link x.syntax);
   told = λ k place at.
-      let stood = there_of ends k (length ends) refl (let w = get_within types k place at in let s = made.size in omega arith) in
+      let stood = there_of ends k (length ends) refl (let w = get_within types k place at in let s = made.size in
+      omega arith) in
       attribute_told ms linked table ends are k stood.0 place stood.1 (made.told k stood.0 place stood.1 at);
 }
 
@@ -234,7 +239,11 @@ type_later ms linked k (Some place) grows h = (h.0, grows.stays place h.0 h.1, h
 
 pub types_later : {ms : List ModuleTerm} {linked : Linked} {old new : TypeTable} {types : List (Option ℕ)} →
     Grows old new → AreAttributeTypes ms linked old types → AreAttributeTypes ms linked new types
-types_later {ms} {linked} grows h = record { size = h.size; told = λ k place at. type_later ms linked k place grows (h.told k place at) }
+types_later {ms} {linked} grows h = record {
+  size = h.size;
+  told = λ k place at. type_later ms linked k place grows
+      (h.told k place at);
+}
 
 -- the syntax that is looked up is the attribute's
 pub looked_up : (ms : List ModuleTerm) (linked : Linked) (table : TypeTable) (k : ℕ) (place : Option ℕ)

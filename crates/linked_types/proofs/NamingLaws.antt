@@ -38,7 +38,8 @@ optional_later ms linked (Some name) (Some place) grows h = type_stays grows h
 optional_later ms linked None (Some place) grows h = absurd h
 optional_later ms linked (Some name) None grows h = absurd h
 
-pub member_later : {ms : List ModuleTerm} {linked : Linked} {old new : TypeTable} (information reply : Option LinkedName)
+pub member_later : {ms : List ModuleTerm} {linked : Linked} {old new : TypeTable}
+    (information reply : Option LinkedName)
     (types : MemberTypes) → Grows old new → TellsMember ms linked old information reply types →
     TellsMember ms linked new information reply types
 member_later {ms} {linked} information reply types grows h = record {
@@ -89,7 +90,8 @@ pub record NamedBefore (ms : List ModuleTerm) (linked : Linked) {X Y : Type 0} (
   pub told : (k : ℕ) (x : X) (y : Y) → slice_get xs k ≡ Some x → slice_get ys k ≡ Some y → Tells new x y
   pub names : NamesTypes ms linked (BadDefaults ms linked) old new before after
 
-pub named_none : {ms : List ModuleTerm} {linked : Linked} {X Y : Type 0} (Tells : TypeTable → X → Y → Type 0) (xs : List X)
+pub named_none : {ms : List ModuleTerm} {linked : Linked} {X Y : Type 0} (Tells : TypeTable → X → Y →
+    Type 0) (xs : List X)
     (ys : List Y) (table : TypeTable) (before : Option TextPlace) → ys ≡ [] → IsTypeTable ms linked table →
     NamedBefore ms linked Tells xs 0 ys table table before before
 named_none {ms} {linked} Tells xs ys table before is known = record {
@@ -159,7 +161,8 @@ no_gap {xs = xs} {ys = ys} k x h at gone = apart (sym (none_there xs ys k h.size
     apart e = absurd (cc)
 
 -- the syntax that is looked up is that of the type of a name, where one stands
-pub optional_syntax : (ms : List ModuleTerm) (linked : Linked) (table : TypeTable) (name : LinkedName) (place : Option ℕ)
+pub optional_syntax : (ms : List ModuleTerm) (linked : Linked) (table : TypeTable) (name : LinkedName)
+    (place : Option ℕ)
     (syntax : TypeSyntax) → TellsOptionalType ms linked table (Some name) place →
     (syntax_at table place ≡ Some syntax) ↔ TypeHas ms linked name syntax
 optional_syntax ms linked table name None syntax h = absurd h

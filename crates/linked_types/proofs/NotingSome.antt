@@ -16,7 +16,8 @@ pub all_noted : (Texts : TextSet) {before after : Option TextPlace} → NotesTex
     NotesSome Texts before after
 all_noted Texts h = record { there = h.there; kept = h.kept }
 
-pub noted_by : (One Other : TextSet) {before after : Option TextPlace} → ((place : TextPlace) → One place → Other place) →
+pub noted_by : (One Other : TextSet) {before after : Option TextPlace} → ((place : TextPlace) → One place →
+    Other place) →
     NotesSome One before after → NotesSome Other before after
 noted_by One Other {before = before} to h = record {
   there = λ x is. elim (h.there x is) as (λ _. (before ≡ Some x) ⊎ Other x) [

@@ -18,8 +18,9 @@ use Rattle.linked_parts.specs.declared.linked.LinkedSyntax.{LinkedSyntax}
 use Rattle.linked_parts.specs.declared.linked.LinkedSyntax.TheVariants.{OfAttribute, OfType}
 use Rattle.class_faults.specs.AttributeSyntaxes.{HasRuleCalled, attribute_bases, bases_of}
 use Rattle.class_faults.specs.AttributeSyntaxes.HasRuleCalled.{of_base, own}
-use Rattle.linked_types.specs.AttributeRules.{AreAttributeRules, ReachesNoCycle, TellsRule, base_rules, either_rules}
-use Rattle.linked_types.specs.AttributeRules.{has_word, rules_now, set_where, stated_rules, stepped_rules, with_base}
+use Rattle.linked_types.specs.AttributeRules.{AreAttributeRules, ReachesNoCycle, TellsRule, has_word}
+use Rattle.linked_types.specs.RuleSteps.{base_rules, either_rules, rules_now, set_where, stated_rules, stepped_rules}
+use Rattle.linked_types.specs.RuleSteps.{with_base}
 use Rattle.link_graphs.proofs.LeadingLaws.{leads_on}
 use Rattle.linked_types.proofs.TableLaws.{some_is, there_once}
 
@@ -98,7 +99,8 @@ base_led linked k b x at is within = record {
 
 -- ---- one rule of all attributes, when those before a place of the order were joined with their bases
 
-pub record OneSoFar (linked : Linked) (order : List ℕ) (i : ℕ) (rules : List Rules) (word : List ℕ) (told : Rules → Bool)
+pub record OneSoFar (linked : Linked) (order : List ℕ) (i : ℕ) (rules : List Rules) (word : List ℕ) (told : Rules →
+    Bool)
     : Type 0 where
   pub stated : (k : ℕ) (x : LinkedAttribute) (r : Rules) → slice_get linked.attributes.items k ≡ Some x →
       slice_get rules k ≡ Some r → has_word word x.rules.items ≡ true → told r ≡ true
@@ -108,12 +110,14 @@ pub record OneSoFar (linked : Linked) (order : List ℕ) (i : ℕ) (rules : List
       slice_get rules k ≡ Some r → slice_get rules b ≡ Some s → told s ≡ true → told r ≡ true
 
 pub one_first : (linked : Linked) (order : List ℕ) (word : List ℕ) (told : Rules → Bool) → IsRule word told →
-    OneSoFar linked order 0 (map (λ (x : LinkedAttribute). stated_rules x.rules.items) linked.attributes.items) word told
+    OneSoFar linked order 0 (map (λ (x : LinkedAttribute). stated_rules x.rules.items) linked.attributes.items) word
+    told
 one_first linked order word told rule = record {
   stated = λ k x r at got has.
       let m = get_map (λ (y : LinkedAttribute). stated_rules y.rules.items) linked.attributes.items k r got in
       let same = there_once (slice_get linked.attributes.items k) m.0 x m.1.0 at in
-      ap told (sym m.1.1 ∙ ap (λ (y : LinkedAttribute). stated_rules y.rules.items) same) ∙ rule.stated x.rules.items ∙ has;
+      ap told (sym m.1.1 ∙ ap (λ (y : LinkedAttribute). stated_rules y.rules.items) same) ∙ rule.stated x.rules.items
+      ∙ has;
   sound = λ k r got has.
       let m = get_map (λ (y : LinkedAttribute). stated_rules y.rules.items) linked.attributes.items k r got in
       own m.1.0 (sym (rule.stated m.0.rules.items) ∙ ap told m.1.1 ∙ has);
@@ -130,8 +134,10 @@ now_stated word told rule known x has = by (base_rules known x.syntax)
     by (Some r) = rule.either (stated_rules x.rules.items) r
         ∙ or_left (told (stated_rules x.rules.items)) (told r) (rule.stated x.rules.items ∙ has)
 
-now_joined : (word : List ℕ) (told : Rules → Bool) → IsRule word told → (known : List Rules) (x : LinkedAttribute) (b : ℕ)
-    (s : Rules) → x.syntax ≡ OfAttribute b → slice_get known b ≡ Some s → told s ≡ true → told (rules_now known x) ≡ true
+now_joined : (word : List ℕ) (told : Rules → Bool) → IsRule word told →
+    (known : List Rules) (x : LinkedAttribute) (b : ℕ)
+    (s : Rules) → x.syntax ≡ OfAttribute b → slice_get known b ≡ Some s → told s ≡ true →
+    told (rules_now known x) ≡ true
 now_joined word told rule known x b s is got has =
     ap (λ o. told (with_base (stated_rules x.rules.items) o)) (ap (base_rules known) is ∙ got)
     ∙ rule.either (stated_rules x.rules.items) s ∙ or_right (told (stated_rules x.rules.items)) (told s) has
@@ -170,7 +176,8 @@ pub one_set : (linked : Linked) (order : List ℕ) (i place : ℕ) (rules : List
 one_set linked order i place rules word told x rule behind size here at so_far = record {
   stated = λ k y r there got has. by_stated k y r there has (get_set rules place k (rules_now rules x) r got);
   sound = λ k r got has. by_sound k r has (get_set rules place k (rules_now rules x) r got);
-  joined = λ j k b y r s less order_at acyclic there is got base_got has. by_joined j k b y r s less order_at acyclic there
+  joined = λ j k b y r s less order_at acyclic there is got base_got has. by_joined j k b y r s less order_at acyclic
+      there
       is (get_set rules place k (rules_now rules x) r got)
       (get_set rules place b (rules_now rules x) s base_got) has;
 }
@@ -210,7 +217,8 @@ one_set linked order i place rules word told x rule behind size here at so_far =
         earlier (inl l) = l
         earlier (inr m) =
             let e : i ≡ j = omega arith in
-            absurd (h.0 (there_once (slice_get order j) k place order_at (subst (λ n. slice_get order n ≡ Some place) e here)))
+            absurd (h.0 (there_once (slice_get order j) k place order_at
+            (subst (λ n. slice_get order n ≡ Some place) e here)))
     by_joined j k b y r s less order_at acyclic there is (inr h) (inl g) has =
         let within : b < length linked.attributes.items =
         let w = slice_get_within linked.attributes.items place x at in let e = g.0 in omega arith in
@@ -302,7 +310,8 @@ is_intersection : IsRule (codes "SET-INTERSECTION") (λ r. r.intersection)
 is_intersection = record { stated = λ words. refl; either = λ one other. refl }
 
 pub all_first : (linked : Linked) (order : List ℕ) (rules : List Rules) →
-    rules ≡ map (λ (x : LinkedAttribute). stated_rules x.rules.items) linked.attributes.items → AllSoFar linked order 0 rules
+    rules ≡ map (λ (x : LinkedAttribute). stated_rules x.rules.items) linked.attributes.items →
+    AllSoFar linked order 0 rules
 all_first linked order rules is = subst (AllSoFar linked order 0) (sym is) (record {
   size = length-map linked.attributes.items (λ (x : LinkedAttribute). stated_rules x.rules.items);
   equality = one_first linked order (codes "EQUALITY") (λ r. r.equality) is_equality;
@@ -318,11 +327,14 @@ all_set : (linked : Linked) (order : List ℕ) (i place : ℕ) (rules : List Rul
     AllSoFar linked order (i + 1) (slice_set rules place (rules_now rules x))
 all_set linked order i place rules x behind here at all = record {
   size = length-set rules place (rules_now rules x) ∙ all.size;
-  equality = one_set linked order i place rules (codes "EQUALITY") (λ r. r.equality) x is_equality behind all.size here at
+  equality = one_set linked order i place rules (codes "EQUALITY") (λ r. r.equality) x is_equality behind all.size
+      here at
       all.equality;
-  ordering = one_set linked order i place rules (codes "ORDERING") (λ r. r.ordering) x is_ordering behind all.size here at
+  ordering = one_set linked order i place rules (codes "ORDERING") (λ r. r.ordering) x is_ordering behind all.size
+      here at
       all.ordering;
-  substrings = one_set linked order i place rules (codes "SUBSTRINGS") (λ r. r.substrings) x is_substrings behind all.size
+  substrings = one_set linked order i place rules (codes "SUBSTRINGS") (λ r. r.substrings) x is_substrings behind
+      all.size
       here at all.substrings;
   comparison = one_set linked order i place rules (codes "SET-COMPARISON") (λ r. r.comparison) x is_comparison behind
       all.size here at all.comparison;
@@ -337,7 +349,8 @@ all_skipped linked order i place rules here gone all = record {
   equality = one_skipped linked order i place rules (codes "EQUALITY") (λ r. r.equality) here gone all.equality;
   ordering = one_skipped linked order i place rules (codes "ORDERING") (λ r. r.ordering) here gone all.ordering;
   substrings = one_skipped linked order i place rules (codes "SUBSTRINGS") (λ r. r.substrings) here gone all.substrings;
-  comparison = one_skipped linked order i place rules (codes "SET-COMPARISON") (λ r. r.comparison) here gone all.comparison;
+  comparison = one_skipped linked order i place rules (codes "SET-COMPARISON") (λ r. r.comparison) here gone
+      all.comparison;
   intersection = one_skipped linked order i place rules (codes "SET-INTERSECTION") (λ r. r.intersection) here gone
       all.intersection;
 }

@@ -6,7 +6,7 @@ use Rattle.token_grammar.specs.declared.token.Token.{Token}
 use Rattle.asn1_names.specs.ModuleTerms.{ModuleTerm, TypeTerm}
 use Rattle.asn1_names.specs.ModuleTerms.AssignedTerm.{AssignsType}
 use Rattle.linked_parts.specs.declared.linked.NamedMeaning.TheVariants.{Assigned, Standard}
-use Rattle.linked_types.specs.AttributeRules.{stated_rules, with_base}
+use Rattle.linked_types.specs.RuleSteps.{stated_rules, with_base}
 use Rattle.linked_types.specs.TypeTables.{type_called}
 
 abbrev word : List ℕ → Token

@@ -42,7 +42,8 @@ term_at : (m i a b : ℕ) (of : TypeTerm) (x : AssignedTerm) → assigned_meanin
 term_at m i a b of (AssignsType t) e = (cc, cc)
 term_at m i a b of (AssignsValue t number text) e = absurd (cc)
 
-assignment_at : (m i a b : ℕ) (of : TypeTerm) (x : Option AssignmentTerm) → meaning_of_assignment m i x ≡ TypeAt a b of →
+assignment_at : (m i a b : ℕ) (of : TypeTerm) (x : Option AssignmentTerm) →
+    meaning_of_assignment m i x ≡ TypeAt a b of →
     (m ≡ a) × (i ≡ b)
 assignment_at m i a b of None e = absurd (cc)
 assignment_at m i a b of (Some x) e = term_at m i a b of x.assigned e
@@ -56,8 +57,11 @@ one_assignment : (ms : List ModuleTerm) (number m i k j : ℕ) → IsTypeNumber 
 one_assignment ms number m i k j p q =
     let same : p.numbered ≡ q.numbered = there_once (numbered_at ms number) p.numbered q.numbered p.at q.at in
     let one = module_at m i p.numbered.in_module p.numbered.place p.of (slice_get ms m) p.is in
-    let other = module_at k j q.numbered.in_module q.numbered.place q.of (slice_get ms k) q.is in
-    (one.0 ∙ ap (λ (x : Numbered). x.in_module) same ∙ sym other.0, one.1 ∙ ap (λ (x : Numbered). x.place) same ∙ sym other.1)
+    let other = module_at k j q.numbered.in_module q.numbered.place q.of (slice_get ms k) q.is in (
+      one.0 ∙ ap (λ (x : Numbered). x.in_module) same ∙ sym other.0,
+      one.1 ∙ ap (λ (x : Numbered). x.place) same ∙ sym
+          other.1,
+    )
 
 -- ---- places that stay
 
@@ -114,7 +118,8 @@ assigned_cases xs (code.Standard s) p other q is = inl is
 assigned_cases xs code.Nothing p other q is = inl is
 
 same_standard : {ms : List ModuleTerm} {linked : Linked} {table : TypeTable} {place : ℕ} (one other : Token) →
-    one.text ≡ other.text → IsTypeAt ms linked (Standard one) table place → IsTypeAt ms linked (Standard other) table place
+    one.text ≡ other.text → IsTypeAt ms linked (Standard one) table place →
+    IsTypeAt ms linked (Standard other) table place
 same_standard {ms} {linked} {table} {place} one other same h = record {
   item = h.item;
   stands = h.stands;
@@ -166,7 +171,8 @@ module _ {ms : List ModuleTerm} {linked : Linked} {old new : TypeTable} (known :
           (record { k = kept.k; entry = kept.entry; stands = h; called = kept.called; is = kept.is }) its
       by (inr h) = same_standard name other
           (ap (λ (x : StandardPlace). x.name) h.1 ∙ kept.called)
-          (subst (λ p. IsTypeAt ms linked (Standard name) new p) (ap (λ (x : StandardPlace). x.place) h.1 ∙ kept.is) here)
+          (subst (λ p. IsTypeAt ms linked (Standard name) new p) (ap (λ (x : StandardPlace). x.place) h.1 ∙ kept.is)
+          here)
 
   pub table_added : (named : NamedMeaning) (meaning : Meaning) (place : ℕ) → IsTypeAt ms linked named new place →
       Means ms meaning (linked_meaning ms named) → KeepsPlace old new named meaning place → IsTypeTable ms linked new
@@ -187,7 +193,8 @@ module _ {ms : List ModuleTerm} {linked : Linked} {old new : TypeTable} (known :
 
 -- ---- types that are named one after the other
 
-pub names_none : {ms : List ModuleTerm} {linked : Linked} (Texts : TextSet) (table : TypeTable) (before : Option TextPlace) →
+pub names_none : {ms : List ModuleTerm} {linked : Linked} (Texts : TextSet) (table : TypeTable)
+    (before : Option TextPlace) →
     IsTypeTable ms linked table → NamesTypes ms linked Texts table table before before
 names_none Texts table before known = record {
   table = known;

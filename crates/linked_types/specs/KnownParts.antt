@@ -3,6 +3,7 @@
 use Rattle.std.specs.Prelude.{ℕ, List, Option, option_and_then, slice_get}
 use Rattle.asn1_names.specs.ModuleTerms.{ModuleTerm}
 use Rattle.linked_parts.specs.declared.linked.LinkedHead.{LinkedHead}
+use Rattle.filled_syntaxes.specs.AssignedValues.{AreAssignedValues}
 use Rattle.filled_syntaxes.specs.KnownThings.{AreNamedThings}
 use Rattle.linked_types.specs.PartTypes.{AreLinkedTypes}
 use Rattle.linked_types.specs.TypeTables.{IsTypeTable}
@@ -16,3 +17,4 @@ pub record AreClosingParts (ms : List ModuleTerm) (parts : ClosingParts) : Type 
   pub things_are : AreNamedThings ms parts.linked.now parts.things.now
   pub table_is : IsTypeTable ms parts.linked.now parts.table.now
   pub types_are : AreLinkedTypes ms parts.linked.now parts.table.now parts.types.now
+  pub values_are : AreAssignedValues ms parts.linked.now parts.values.now

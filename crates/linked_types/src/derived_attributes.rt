@@ -9,8 +9,9 @@ ghost use Rattle.linked_parts.specs.declared.linked.Linked.{Linked as LinkedTerm
 ghost use Rattle.filled_syntaxes.specs.KnownThings.{AreNamedThings};
 ghost use Rattle.class_faults.specs.CyclicFaults.{CyclicAttributeFaults, bases_of_each};
 ghost use Rattle.class_faults.specs.FaultSets.{Notes};
-ghost use Rattle.linked_types.specs.AttributeRules.{AreAttributeRules, base_rules, either_rules, has_word, rules_at};
-ghost use Rattle.linked_types.specs.AttributeRules.{rules_now, stated_rules, stepped_rules};
+ghost use Rattle.linked_types.specs.AttributeRules.{AreAttributeRules, has_word};
+ghost use Rattle.linked_types.specs.RuleSteps.{base_rules, either_rules, rules_at, rules_now, stated_rules};
+ghost use Rattle.linked_types.specs.RuleSteps.{stepped_rules};
 ghost use Rattle.linked_types.specs.AttributeTypes.{AreAttributeTypes, base_link, base_links, name_at, type_name};
 ghost use Rattle.linked_types.specs.NotedDefaults.{BadDefaults};
 ghost use Rattle.linked_types.specs.PartTypes.{AreDerivedAttributes, AreTold, TellsOptionalType};

@@ -254,8 +254,8 @@ impl TypeTable {
             IsTypeAt ms linked name.now.meaning self.new place) }
         ensures names { OnOk result ((ms : List ModuleTerm) (linked : Linked) → AreNamedThings ms linked things.now →
             IsTypeTable ms linked self.old →
-            NamesTypes ms linked (BadBeside ms (linked_arcs linked) (linked_meaning ms name.now.meaning)) self.old self.new
-            bad.old.first bad.new.first) }
+            NamesTypes ms linked (BadBeside ms (linked_arcs linked) (linked_meaning ms name.now.meaning)) self.old
+            self.new bad.old.first bad.new.first) }
     {
         let meaning = things.meaning(&name.meaning);
         match self.known(&name.meaning, meaning) {

@@ -11,12 +11,14 @@ loop-attribute-init c = ap (map items) c.new-targets.ensures.items
 
 pub loop-attribute-preserved : goal.loop-attribute-preserved
 loop-attribute-preserved c =
-    let within : c.loop-attribute.attribute-index < length c.args.attributes.now = omega (arith, c.loop-attribute-test.true) in
+    let within : c.loop-attribute.attribute-index < length c.args.attributes.now = omega
+    (arith, c.loop-attribute-test.true) in
     graph_step c.loop-attribute.targets.items c.push.new.self.items c.in_ok-bases.field-0 c.args.attributes.now
     c.loop-attribute.attribute-index c.attribute-item.result within c.attribute-item.is c.in_ok-push.ensures.items
     c.loop-attribute.invariant c.in_ok-bases.ensures
 
 pub returns : goal.returns
 returns c =
-    let past : length c.args.attributes.now ≤ c.loop-attribute.attribute-index = omega (arith, c.loop-attribute-test.false) in
+    let past : length c.args.attributes.now ≤ c.loop-attribute.attribute-index = omega
+    (arith, c.loop-attribute-test.false) in
     c.loop-attribute.invariant ∙ ap bases_of_each (take_all c.loop-attribute.attribute-index c.args.attributes.now past)

@@ -4,7 +4,7 @@ use Rattle.std.proofs.Math.Path.{subst}
 use Rattle.link_graphs.specs.Cycles.{IsBehindTargets}
 use Rattle.linked_parts.specs.declared.linked.LinkedAttribute.{LinkedAttribute}
 use Rattle.class_faults.specs.CyclicFaults.{bases_of_each}
-use Rattle.linked_types.specs.AttributeRules.{stated_rules, stepped_rules}
+use Rattle.linked_types.specs.RuleSteps.{stated_rules, stepped_rules}
 use Rattle.linked_types.proofs.RuleLaws.{all_first, all_step, all_whole}
 use Rattle.linked_types.proofs.TableLaws.{got_any}
 use Rattle.linked_types.proofs.derived_attributes.all_rules.Goals as goal

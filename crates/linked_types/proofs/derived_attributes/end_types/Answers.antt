@@ -15,7 +15,8 @@ loop-end-preserved c = λ ms linked known table.
     let i = c.loop-end.end-index in
     let within : i < length ends = omega (arith, c.loop-end-test.true) in
     named_step (TellsEnd ms linked c.args.attributes.now) ends i c.loop-end.types.items c.push.new.self.items
-    (get_or ends i None) c.in_ok-end_type.field-0 (end_stays ms linked c.args.attributes.now) (got_any ends i None within)
+    (get_or ends i None) c.in_ok-end_type.field-0 (end_stays ms linked c.args.attributes.now)
+    (got_any ends i None within)
     c.in_ok-push.ensures.items (c.in_ok-end_type.ensures.told ms linked known so_far.names.table)
     (c.in_ok-end_type.ensures.names ms linked known so_far.names.table) so_far
 

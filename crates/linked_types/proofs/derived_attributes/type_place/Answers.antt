@@ -11,7 +11,8 @@ use Rattle.linked_types.proofs.derived_attributes.type_place.Goals as goal
 
 pub returns-in_ok-place-in-OfType-clause-told : goal.returns-in_ok-place-in-OfType-clause-told
 returns-in_ok-place-in-OfType-clause-told c = λ ms linked known table.
-    subst (λ s. TellsOptionalType ms linked c.place.new.self (type_name s) (Some c.in_ok-place-in-OfType.field-0)) (sym c.in-OfType.is)
+    subst (λ s. TellsOptionalType ms linked c.place.new.self (type_name s) (Some c.in_ok-place-in-OfType.field-0))
+    (sym c.in-OfType.is)
     (c.in_ok-place-in-OfType.ensures.told ms linked known table)
 
 pub returns-in_ok-place-in-OfType-clause-names : goal.returns-in_ok-place-in-OfType-clause-names

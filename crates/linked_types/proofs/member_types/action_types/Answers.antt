@@ -28,7 +28,8 @@ loop-action-preserved c = λ ms known table.
 
 pub returns-clause-told : goal.returns-clause-told
 returns-clause-told c = λ ms known table.
-    named_all (TellsAction ms c.args.linked.now) c.args.linked.now.actions.items c.loop-action.action-index c.loop-action.types.items
+    named_all (TellsAction ms c.args.linked.now) c.args.linked.now.actions.items c.loop-action.action-index
+    c.loop-action.types.items
     (subst (λ xs. length xs ≤ c.loop-action.action-index) c.deref-action-items.ensures.value c.loop-action-test.false)
     (c.loop-action.invariant ms known table)
 

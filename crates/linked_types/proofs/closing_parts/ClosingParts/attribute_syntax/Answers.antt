@@ -11,7 +11,8 @@ pub returns-in-Some : goal.returns-in-Some
 returns-in-Some c = λ ms known syntax.
     let parts = c.args.self.now in
     let there : slice_get parts.types.now.attributes.types.items c.args.attribute ≡ Some c.in-Some.place.now =
-    sym (ap (λ xs. slice_get xs c.args.attribute) c.deref.ensures.value) ∙ sym (item_is c.deref.result.now c.args.attribute c.get.result
+    sym (ap (λ xs. slice_get xs c.args.attribute) c.deref.ensures.value) ∙ sym
+    (item_is c.deref.result.now c.args.attribute c.get.result
     c.get.ensures.lookup.0 c.get.ensures.lookup.1) ∙ ap option_copied c.in-Some.is in
     let told = known.types_are.of_attributes.types_are.told c.args.attribute c.in-Some.place.now there in
     let found = looked_up ms parts.linked.now parts.table.now c.args.attribute c.in-Some.place.now syntax told in
@@ -21,7 +22,8 @@ pub returns-in-None : goal.returns-in-None
 returns-in-None c = λ ms known syntax.
     let parts = c.args.self.now in
     let there : slice_get parts.types.now.attributes.types.items c.args.attribute ≡ None =
-    sym (ap (λ xs. slice_get xs c.args.attribute) c.deref.ensures.value) ∙ sym (item_is c.deref.result.now c.args.attribute c.get.result
+    sym (ap (λ xs. slice_get xs c.args.attribute) c.deref.ensures.value) ∙ sym
+    (item_is c.deref.result.now c.args.attribute c.get.result
     c.get.ensures.lookup.0 c.get.ensures.lookup.1) ∙ ap option_copied c.in-None.is in (
       λ e. absurd (cc),
       λ has. absurd (no_place ms parts.linked.now parts.table.now parts.types.now.attributes.types.items

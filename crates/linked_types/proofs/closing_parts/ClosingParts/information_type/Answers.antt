@@ -10,7 +10,8 @@ pub returns-in-Some : goal.returns-in-Some
 returns-in-Some c = λ ms x known at.
     let parts = c.args.self.now in
     let there : slice_get parts.types.now.notifications.items c.args.notification ≡ Some c.in-Some.types.now =
-    sym (ap (λ xs. slice_get xs c.args.notification) c.deref.ensures.value) ∙ sym (item_is c.deref.result.now c.args.notification c.get.result
+    sym (ap (λ xs. slice_get xs c.args.notification) c.deref.ensures.value) ∙ sym
+    (item_is c.deref.result.now c.args.notification c.get.result
     c.get.ensures.lookup.0 c.get.ensures.lookup.1) ∙ ap option_copied c.in-Some.is in
     (known.types_are.of_notifications.told c.args.notification x c.in-Some.types.now at there).of_information
 
@@ -18,6 +19,7 @@ pub returns-in-None : goal.returns-in-None
 returns-in-None c = λ ms x known at.
     let parts = c.args.self.now in
     let there : slice_get parts.types.now.notifications.items c.args.notification ≡ None =
-    sym (ap (λ xs. slice_get xs c.args.notification) c.deref.ensures.value) ∙ sym (item_is c.deref.result.now c.args.notification c.get.result
+    sym (ap (λ xs. slice_get xs c.args.notification) c.deref.ensures.value) ∙ sym
+    (item_is c.deref.result.now c.args.notification c.get.result
     c.get.ensures.lookup.0 c.get.ensures.lookup.1) ∙ ap option_copied c.in-None.is in
     absurd (no_gap c.args.notification x known.types_are.of_notifications at there)

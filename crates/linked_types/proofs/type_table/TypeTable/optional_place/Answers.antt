@@ -14,7 +14,8 @@ returns-in-None-clause-names c = λ ms linked known table.
 
 pub returns-in_ok-place-in-Some-clause-told : goal.returns-in_ok-place-in-Some-clause-told
 returns-in_ok-place-in-Some-clause-told c = λ ms linked known table.
-    subst (λ name. TellsOptionalType ms linked c.place.new.self name (Some c.in_ok-place-in-Some.field-0)) (sym c.in-Some.is)
+    subst (λ name. TellsOptionalType ms linked c.place.new.self name (Some c.in_ok-place-in-Some.field-0))
+    (sym c.in-Some.is)
     (c.in_ok-place-in-Some.ensures.told ms linked known table)
 
 pub returns-in_ok-place-in-Some-clause-names : goal.returns-in_ok-place-in-Some-clause-names

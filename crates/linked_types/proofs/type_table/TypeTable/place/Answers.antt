@@ -6,7 +6,8 @@ use Rattle.linked_types.proofs.type_table.TypeTable.place.Goals as goal
 
 pub returns-in-Some-clause-told : goal.returns-in-Some-clause-told
 returns-in-Some-clause-told c = λ ms linked known table.
-    table.kept c.args.name.now.meaning c.meaning-meaning.result c.in-Some.place c.in-Some.ensures (c.meaning-meaning.ensures ms linked known)
+    table.kept c.args.name.now.meaning c.meaning-meaning.result c.in-Some.place c.in-Some.ensures
+    (c.meaning-meaning.ensures ms linked known)
 
 pub returns-in-Some-clause-names : goal.returns-in-Some-clause-names
 returns-in-Some-clause-names c = λ ms linked known table.
