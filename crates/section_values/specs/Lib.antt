@@ -1,0 +1,5 @@
+-- The definitions that the contracts of this crate cite.
+pub mod BadSections
+pub mod RegisteredSections
+pub mod SectionRecords
+pub mod ToldSections
