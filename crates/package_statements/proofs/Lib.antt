@@ -1,0 +1,4 @@
+pub mod ValueLaws
+pub mod StatementLaws
+pub mod FaultLaws
+mod StandardFacts
