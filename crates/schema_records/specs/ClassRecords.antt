@@ -1,8 +1,7 @@
 -- ClassRecords: which record of a class, with its packages, is that of which linked class: each reference is the
 -- identifier of its target, a type its syntax, a value what it is (X.722, sections 8.3 and 8.4). The joined properties of
 -- a class are those of JoinedProperties of term_model.
-use Rattle.std.specs.Prelude.{◌≡◌, ◌++◌, ℕ, List, [], ◌∷◌, Option, None, Some, is_some, option_and_then, option_map}
-use Rattle.std.specs.Prelude.{slice_get}
+use Rattle.std.specs.Prelude.{◌≡◌, ℕ, List, [], ◌∷◌, Option, None, Some, is_some, slice_get}
 use Rattle.term_values.specs.Syntaxes.{TypeSyntax}
 use Rattle.term_values.specs.Typed.{TypedValue}
 use Rattle.term_model.specs.declared.packages.GroupUse.{GroupUse}
@@ -10,7 +9,6 @@ use Rattle.term_model.specs.declared.packages.PackageRec.{PackageRec}
 use Rattle.term_model.specs.declared.packages.Property.{Property}
 use Rattle.term_model.specs.declared.schema.ClassRec.{ClassRec}
 use Rattle.asn1_names.specs.ModuleTerms.{ModuleTerm}
-use Rattle.asn1_names.specs.StandardModule.{standard_module_name}
 use Rattle.linked_parts.specs.declared.linked.Linked.{Linked}
 use Rattle.linked_parts.specs.declared.linked.LinkedClass.{LinkedClass}
 use Rattle.linked_parts.specs.declared.linked.LinkedGroupUse.{LinkedGroupUse}
@@ -18,40 +16,9 @@ use Rattle.linked_parts.specs.declared.linked.LinkedHead.{LinkedHead}
 use Rattle.linked_parts.specs.declared.linked.LinkedName.{LinkedName}
 use Rattle.linked_parts.specs.declared.linked.LinkedPackage.{LinkedPackage}
 use Rattle.linked_parts.specs.declared.linked.LinkedUse.{LinkedUse}
-use Rattle.linked_parts.specs.declared.linked.NamedMeaning.{NamedMeaning}
-use Rattle.linked_parts.specs.declared.linked.NamedMeaning.TheVariants.{Assigned, Standard}
 use Rattle.class_faults.specs.StatedProperties.{HasValue, TypeHas}
-
--- each of these is as the one at its place
-abbrev pub AreEach : {A B : Type 0} → (A → B → Type 0) → List A → List B → Type 0
-AreEach Is [] [] = Unit {0}
-AreEach Is (x ∷ xs) (y ∷ ys) = Is x y × AreEach Is xs ys
-AreEach Is _ _ = ⊥
-
--- the identifier under which the template at a place of a table is registered
-abbrev pub identifier_at : {L : Type 0} → (L → LinkedHead) → List L → ℕ → Option (List ℕ)
-identifier_at head xs k = option_and_then (λ x. (head x).identifier) (slice_get xs k)
-
-abbrev pub IsIdentified : {L : Type 0} → (L → LinkedHead) → List L → ℕ → List ℕ → Type 0
-IsIdentified head xs k id = identifier_at head xs k ≡ Some id
-
-abbrev pub AreIdentified : {L : Type 0} → (L → LinkedHead) → List L → List ℕ → List (List ℕ) → Type 0
-AreIdentified head xs = AreEach (IsIdentified head xs)
-
-abbrev pub IsClassId : Linked → ℕ → List ℕ → Type 0
-IsClassId linked = IsIdentified (λ x. x.head) linked.classes.items
-
-abbrev pub IsAttributeId : Linked → ℕ → List ℕ → Type 0
-IsAttributeId linked = IsIdentified (λ x. x.head) linked.attributes.items
-
--- the name of a type with its module's, as it is written
-abbrev pub module_called : List ModuleTerm → NamedMeaning → Option (List ℕ)
-module_called ms (Assigned m i) = option_map (λ (x : ModuleTerm). x.name.text) (slice_get ms m)
-module_called ms (Standard name) = Some standard_module_name
-
-abbrev pub type_called : List ModuleTerm → LinkedName → Option (List ℕ)
-type_called ms name =
-    option_map (λ module_name. module_name ++ 46 ∷ name.name.text) (module_called ms name.meaning)
+use Rattle.linked_types.specs.PartIdentifiers.{AreEach, AreIdentified, IsAttributeId, IsClassId, IsIdentified}
+use Rattle.linked_types.specs.TypeTables.{type_called}
 
 abbrev pub IsOptionalValue : List ModuleTerm → Linked → Option LinkedName → Option TypedValue → Type 0
 IsOptionalValue ms linked None None = Unit {0}
@@ -63,9 +30,10 @@ ArePermittedTypes ms linked None [] = Unit {0}
 ArePermittedTypes ms linked (Some name) (syntax ∷ []) = TypeHas ms linked name syntax
 ArePermittedTypes ms linked _ _ = ⊥
 
+-- the name of a type, behind that of its module and a point
 abbrev pub AreRequiredTypes : List ModuleTerm → Option LinkedName → List (List ℕ) → Type 0
 AreRequiredTypes ms None [] = Unit {0}
-AreRequiredTypes ms (Some name) (called ∷ []) = type_called ms name ≡ Some called
+AreRequiredTypes ms (Some name) (called ∷ []) = type_called ms name.meaning ≡ called
 AreRequiredTypes ms _ _ = ⊥
 
 pub record IsProperty (ms : List ModuleTerm) (linked : Linked) (stated : LinkedUse) (x : Property) : Type 0 where

@@ -1,188 +1,75 @@
 //! The records of classes and of their packages (X.722, sections 8.3 and 8.4).
 
+ghost use Rattle.std.specs.Prelude.{◌≡◌, List, All, IfOk, OnOk, Some, length, slice_get};
+ghost use Rattle.asn1_names.specs.ModuleTerms.{ModuleTerm};
+ghost use Rattle.joined_properties.specs.ClassProperties.{ArePropertiesOfAll};
+ghost use Rattle.joined_statements.specs.JoinedStatements.{Attributes};
+ghost use Rattle.linked_types.specs.PartIdentifiers.{AreEach, IsAttributeId};
+ghost use Rattle.package_statements.specs.PackageStatements.{AreStated};
+ghost use Rattle.term_model.specs.JoinedProperties.{HasJoined};
+ghost use Rattle.term_model.specs.declared.schema.Set.{Set};
+ghost use Rattle.schema_records.specs.AddedRecords.{Adds};
+ghost use Rattle.schema_records.specs.ApartParts.{AreNoneUnequal, HaveOwnIdentifiers};
+ghost use Rattle.schema_records.specs.ClassRecords.{IsClass, IsGroupUse, IsPackage, IsPackageAt};
+ghost use Rattle.schema_records.specs.KnownPackages.{AreKnownPackages, IsKnownPackage};
+ghost use Rattle.schema_records.specs.MeantParts.{HaveSyntaxes, HaveValues};
+ghost use Rattle.schema_records.specs.PropertyRecords.{AreAttributePlaces, AreJoinedProperties, HasJoinedProperties};
+ghost use Rattle.schema_records.specs.RegisteredParts.{AreRegisteredParts, HasIdentifier, IsAttributePlace};
+ghost use Rattle.schema_records.specs.RegisteredParts.{IsPackagePlace, IsRegisteredClass, IsRegisteredUse};
+
+use crate::identifiers::{action_ids, attribute_ids, class_ids, notification_ids, text_of};
+use crate::property_records::{joined_properties, stated_properties};
 use joined_properties::Statement;
-use joined_statements::{AssignedValues, Held, Joined, JoinedAttributes};
+use joined_statements::JoinedAttributes;
 use linked_parts::linked::{LinkedClass, LinkedGroupUse, LinkedPackage};
 use linked_types::ClosingParts;
-use linked_types::closing_parts::{copied, push_id};
-use std::alloc::{AllocError, Global};
-use std::collections::BTreeSet;
-use term_model::{
-    ClassRec, ClassRecs, GroupUse, GroupUses, Oids, PackageRec, PackageRecs, Properties, Property,
-    Syntaxes, TypeNames,
-};
-use term_values::{Bytes, Oid, Value};
-use token_grammar::Token;
-
-/// The text of a label, or of another token.
-pub fn text_of(alloc: Global, token: &Token) -> Result<Bytes, AllocError> {
-    Bytes::from_slice(alloc, token.text.as_slice())
-}
-
-/// The value of an assignment.
-fn value_at(parts: &ClosingParts, number: usize) -> Result<Option<Value>, AllocError> {
-    let values = AssignedValues {
-        items: parts.values,
-    };
-    match values.value(number) {
-        Some(value) => Ok(Some(value.copy(parts.alloc)?)),
-        None => Ok(None),
-    }
-}
-
-/// The value that is held.
-fn held_value(parts: &ClosingParts, held: Held) -> Result<Option<Value>, AllocError> {
-    match held {
-        Held::One(number) => value_at(parts, number),
-        _ => Ok(None),
-    }
-}
-
-/// The syntaxes of types, by their places.
-fn syntaxes_at(parts: &ClosingParts, places: &BTreeSet<usize>) -> Result<Syntaxes, AllocError> {
-    let mut items = Vec::new(parts.alloc);
-    for place in places.iter() {
-        if let Some(syntax) = parts.table.syntax(Some(*place)) {
-            items.push(syntax.copy(parts.alloc)?)?;
-        }
-    }
-    Ok(Syntaxes { items })
-}
-
-/// The names of types, by their places.
-fn names_at(parts: &ClosingParts, places: &BTreeSet<usize>) -> Result<TypeNames, AllocError> {
-    let mut items = Vec::new(parts.alloc);
-    for place in places.iter() {
-        if let Some(named) = parts.table.named(*place) {
-            items.push(named.name.copy(parts.alloc)?)?;
-        }
-    }
-    Ok(TypeNames { items })
-}
-
-/// The types that permit values, and the names of those that require some.
-fn joined_types(
-    parts: &ClosingParts,
-    joined: &Joined,
-) -> Result<(Syntaxes, TypeNames), AllocError> {
-    let permitted = syntaxes_at(parts, &joined.permitted)?;
-    let required = names_at(parts, &joined.required)?;
-    Ok((permitted, required))
-}
-
-/// The default, and the initial value.
-fn held_values(
-    parts: &ClosingParts,
-    joined: &Joined,
-) -> Result<(Option<Value>, Option<Value>), AllocError> {
-    let default = held_value(parts, joined.default)?;
-    let initial = held_value(parts, joined.initial)?;
-    Ok((default, initial))
-}
-
-/// What is joined of the attribute with this identifier.
-fn joined_property(
-    parts: &ClosingParts,
-    attribute: &Oid,
-    joined: &Joined,
-) -> Result<Property, AllocError> {
-    let attribute = attribute.copy(parts.alloc)?;
-    let (permitted, required) = joined_types(parts, joined)?;
-    let (default, initial) = held_values(parts, joined)?;
-    Ok(Property {
-        attribute,
-        get: joined.get,
-        replace: joined.replace,
-        add: joined.add,
-        remove: joined.remove,
-        set_to_default: joined.set_to_default,
-        default,
-        initial,
-        permitted,
-        required,
-    })
-}
-
-/// The properties of a class, by the order of the attributes' templates.
-fn joined_properties(
-    parts: &ClosingParts,
-    attributes: &JoinedAttributes,
-) -> Result<Properties, AllocError> {
-    let mut items = Vec::new(parts.alloc);
-    for (attribute, joined) in attributes.iter() {
-        if let Some(id) = parts.attribute_id(*attribute) {
-            items.push(joined_property(parts, id, joined)?)?;
-        }
-    }
-    Ok(Properties { items })
-}
-
-/// What a package states of attributes.
-fn stated_properties(
-    parts: &ClosingParts,
-    statements: &[Statement],
-) -> Result<Properties, AllocError> {
-    let mut items = Vec::new(parts.alloc);
-    for statement in statements {
-        if let Some(id) = parts.attribute_id(statement.attribute) {
-            items.push(joined_property(parts, id, &statement.joined)?)?;
-        }
-    }
-    Ok(Properties { items })
-}
-
-/// The identifiers of attributes, by their places.
-pub fn attribute_ids(parts: &ClosingParts, places: &[usize]) -> Result<Oids, AllocError> {
-    let mut items = Vec::new(parts.alloc);
-    for place in places {
-        push_id(parts.alloc, &mut items, parts.attribute_id(*place))?;
-    }
-    Ok(Oids { items })
-}
-
-fn class_ids(parts: &ClosingParts, places: &[usize]) -> Result<Oids, AllocError> {
-    let mut items = Vec::new(parts.alloc);
-    for place in places {
-        push_id(parts.alloc, &mut items, parts.class_id(*place))?;
-    }
-    Ok(Oids { items })
-}
-
-fn action_ids(parts: &ClosingParts, places: &[usize]) -> Result<Oids, AllocError> {
-    let mut items = Vec::new(parts.alloc);
-    for place in places {
-        push_id(parts.alloc, &mut items, parts.action_id(*place))?;
-    }
-    Ok(Oids { items })
-}
-
-fn notification_ids(parts: &ClosingParts, places: &[usize]) -> Result<Oids, AllocError> {
-    let mut items = Vec::new(parts.alloc);
-    for place in places {
-        push_id(parts.alloc, &mut items, parts.notification_id(*place))?;
-    }
-    Ok(Oids { items })
-}
+use linked_types::closing_parts::copied;
+use std::alloc::AllocError;
+use term_model::{ClassRec, ClassRecs, GroupUse, GroupUses, PackageRec, PackageRecs, Properties};
+use term_values::Oid;
 
 /// The use of a group.
 fn group_use(
     parts: &ClosingParts,
     group: &Oid,
     stated: &LinkedGroupUse,
-) -> Result<GroupUse, AllocError> {
+) -> Result<GroupUse, AllocError>
+    ensures group { IfOk result (λ x. x.group ≡ group.now) }
+    ensures added { IfOk result (λ x. All (IsAttributePlace parts.now.linked.now) stated.now.added.items →
+        AreEach (IsAttributeId parts.now.linked.now) stated.now.added.items x.added) }
+{
     Ok(GroupUse {
         group: group.copy(parts.alloc)?,
         added: attribute_ids(parts, stated.added.as_slice())?,
     })
 }
 
+/// Appends the use of a group that is registered.
+fn push_group_use(
+    parts: &ClosingParts,
+    stated: &LinkedGroupUse,
+    items: &mut Vec<GroupUse>,
+) -> Result<(), AllocError>
+    ensures { OnOk result (IsRegisteredUse parts.now.linked.now stated.now →
+        Adds (IsGroupUse parts.now.linked.now) stated.now items.old.items items.new.items) }
+{
+    match parts.group_id(stated.group) {
+        Some(group) => {
+            items.push(group_use(parts, group, stated)?)?;
+            Ok(())
+        }
+        None => Ok(()),
+    }
+}
+
 /// The uses of groups in a package.
-fn group_uses(parts: &ClosingParts, uses: &[LinkedGroupUse]) -> Result<GroupUses, AllocError> {
+fn group_uses(parts: &ClosingParts, uses: &[LinkedGroupUse]) -> Result<GroupUses, AllocError>
+    ensures { IfOk result (λ xs. All (IsRegisteredUse parts.now.linked.now) uses.now →
+        AreEach (IsGroupUse parts.now.linked.now) uses.now xs) }
+{
     let mut items = Vec::new(parts.alloc);
     for stated in uses {
-        if let Some(group) = parts.group_id(stated.group) {
-            items.push(group_use(parts, group, stated)?)?;
-        }
+        push_group_use(parts, stated, &mut items)?;
     }
     Ok(GroupUses { items })
 }
@@ -192,7 +79,10 @@ fn package_record(
     parts: &ClosingParts,
     part: &LinkedPackage,
     statements: &[Statement],
-) -> Result<PackageRec, AllocError> {
+) -> Result<PackageRec, AllocError>
+    ensures { IfOk result (λ x. (ms : List ModuleTerm) → IsKnownPackage ms parts.now.linked.now parts.now.table.now
+        parts.now.values.now part.now statements.now → IsPackage ms parts.now.linked.now part.now x) }
+{
     Ok(PackageRec {
         id: copied(parts.alloc, part.head.identifier.as_ref())?,
         label: text_of(parts.alloc, &part.head.label)?,
@@ -212,18 +102,42 @@ pub struct JoinedClasses<'j> {
     pub properties: &'j [JoinedAttributes],
 }
 
+/// Appends the package at a place, where it is there.
+fn push_package(
+    parts: &ClosingParts,
+    joined: &JoinedClasses,
+    place: usize,
+    items: &mut Vec<PackageRec>,
+) -> Result<(), AllocError>
+    ensures { OnOk result ((ms : List ModuleTerm) → AreKnownPackages ms parts.now.linked.now parts.now.table.now
+        parts.now.values.now joined.now.stated.now → IsPackagePlace parts.now.linked.now place →
+        Adds (IsPackageAt ms parts.now.linked.now) place items.old.items items.new.items) }
+{
+    match parts.linked.packages.get(place) {
+        Some(part) => match joined.stated.get(place) {
+            Some(statements) => {
+                items.push(package_record(parts, part, statements.as_slice())?)?;
+                Ok(())
+            }
+            None => Ok(()),
+        },
+        None => Ok(()),
+    }
+}
+
 /// The packages at these places.
 fn package_records(
     parts: &ClosingParts,
     joined: &JoinedClasses,
     places: &[usize],
-) -> Result<PackageRecs, AllocError> {
+) -> Result<PackageRecs, AllocError>
+    ensures { IfOk result (λ xs. (ms : List ModuleTerm) → AreKnownPackages ms parts.now.linked.now parts.now.table.now
+        parts.now.values.now joined.now.stated.now → All (IsPackagePlace parts.now.linked.now) places.now →
+        AreEach (IsPackageAt ms parts.now.linked.now) places.now xs) }
+{
     let mut items = Vec::new(parts.alloc);
     for place in places {
-        let part = parts.linked.packages.get(*place);
-        if let (Some(part), Some(statements)) = (part, joined.stated.get(*place)) {
-            items.push(package_record(parts, part, statements.as_slice())?)?;
-        }
+        push_package(parts, joined, *place, &mut items)?;
     }
     Ok(PackageRecs { items })
 }
@@ -233,7 +147,12 @@ fn class_properties(
     parts: &ClosingParts,
     joined: &JoinedClasses,
     place: usize,
-) -> Result<Properties, AllocError> {
+) -> Result<Properties, AllocError>
+    ensures { IfOk result (λ xs. (attributes : Attributes) →
+        slice_get joined.now.properties.now place ≡ Some attributes →
+        AreAttributePlaces parts.now.linked.now attributes →
+        AreJoinedProperties parts.now.linked.now parts.now.table.now parts.now.values.now attributes xs) }
+{
     match joined.properties.get(place) {
         Some(attributes) => joined_properties(parts, attributes),
         None => Ok(Properties {
@@ -249,7 +168,15 @@ fn class_record(
     place: usize,
     part: &LinkedClass,
     id: &Oid,
-) -> Result<ClassRec, AllocError> {
+) -> Result<ClassRec, AllocError>
+    ensures told { IfOk result (λ x. (ms : List ModuleTerm) → AreKnownPackages ms parts.now.linked.now
+        parts.now.table.now parts.now.values.now joined.now.stated.now → part.now.head.identifier ≡ Some id.now →
+        IsRegisteredClass parts.now.linked.now part.now → IsClass ms parts.now.linked.now part.now x) }
+    ensures properties { IfOk result (λ x. (attributes : Attributes) →
+        slice_get joined.now.properties.now place ≡ Some attributes →
+        AreAttributePlaces parts.now.linked.now attributes →
+        AreJoinedProperties parts.now.linked.now parts.now.table.now parts.now.values.now attributes x.properties) }
+{
     Ok(ClassRec {
         id: id.copy(parts.alloc)?,
         label: text_of(parts.alloc, &part.head.label)?,
@@ -267,18 +194,45 @@ fn push_class(
     place: usize,
     part: &LinkedClass,
     records: &mut ClassRecs,
-) -> Result<(), AllocError> {
-    if let Some(id) = &part.head.identifier {
-        records.push(parts.alloc, class_record(parts, joined, place, part, id)?)?;
+) -> Result<(), AllocError>
+    ensures told { OnOk result ((ms : List ModuleTerm) → AreKnownPackages ms parts.now.linked.now
+        parts.now.table.now parts.now.values.now joined.now.stated.now →
+        IsRegisteredClass parts.now.linked.now part.now →
+        Adds (IsClass ms parts.now.linked.now) part.now records.old records.new) }
+    ensures properties { OnOk result ((attributes : Attributes) → HasIdentifier part.now.head →
+        slice_get joined.now.properties.now place ≡ Some attributes →
+        AreAttributePlaces parts.now.linked.now attributes →
+        Adds (HasJoinedProperties parts.now.linked.now parts.now.table.now parts.now.values.now) attributes
+        records.old records.new) }
+{
+    match &part.head.identifier {
+        Some(id) => {
+            records.push(parts.alloc, class_record(parts, joined, place, part, id)?)?;
+            Ok(())
+        }
+        None => Ok(()),
     }
-    Ok(())
 }
 
 /// The classes, in the order of their templates.
-pub fn class_records(
-    parts: &ClosingParts,
-    joined: &JoinedClasses,
-) -> Result<ClassRecs, AllocError> {
+pub fn class_records(parts: &ClosingParts, joined: &JoinedClasses) -> Result<ClassRecs, AllocError>
+    ensures told { IfOk result (λ records. (ms : List ModuleTerm) → AreRegisteredParts parts.now.linked.now →
+        HaveSyntaxes ms parts.now.linked.now → HaveValues ms parts.now.linked.now →
+        AreStated ms parts.now.linked.now parts.now.table.now parts.now.values.now parts.now.linked.now.packages.items
+        joined.now.stated.now → AreEach (IsClass ms parts.now.linked.now) parts.now.linked.now.classes.items records) }
+    ensures properties { IfOk result (λ records. AreRegisteredParts parts.now.linked.now →
+        length joined.now.properties.now ≡ length parts.now.linked.now.classes.items →
+        All (AreAttributePlaces parts.now.linked.now) joined.now.properties.now →
+        AreEach (HasJoinedProperties parts.now.linked.now parts.now.table.now parts.now.values.now)
+        joined.now.properties.now records) }
+    ensures joined { IfOk result (λ records. (ms : List ModuleTerm) (schema : Set) →
+        AreRegisteredParts parts.now.linked.now → HaveSyntaxes ms parts.now.linked.now →
+        HaveValues ms parts.now.linked.now → HaveOwnIdentifiers parts.now.linked.now →
+        AreStated ms parts.now.linked.now parts.now.table.now parts.now.values.now parts.now.linked.now.packages.items
+        joined.now.stated.now → ArePropertiesOfAll parts.now.values.now parts.now.linked.now.classes.items
+        joined.now.stated.now joined.now.properties.now → AreNoneUnequal joined.now.properties.now →
+        schema.classes ≡ records → All (HasJoined schema) records) }
+{
     let mut records = ClassRecs::new(parts.alloc);
     for (place, part) in parts.linked.classes.iter().enumerate() {
         push_class(parts, joined, place, part, &mut records)?;

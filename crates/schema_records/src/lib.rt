@@ -3,4 +3,6 @@
 #![tactic(auto)]
 
 pub mod class_records;
+mod identifiers;
 pub mod member_records;
+mod property_records;
