@@ -1,8 +1,23 @@
 //! The call that closes the classes of linked parts, or tells the first fault (X.722, sections 5.2 and 8; docs/PROFILE.md,
 //! section 18).
 
-use crate::joined_faults::note_classes;
-use crate::package_faults::{all_statements, note_packages};
+ghost use Rattle.std.specs.Prelude.{◌≡◌, IfErr, IfOk, List, None, OnOk};
+ghost use Rattle.asn1_names.specs.ModuleTerms.{ModuleTerm};
+ghost use Rattle.asn1_names.specs.TermViews.{module_terms};
+ghost use Rattle.linked_parts.specs.declared.linked.Linked.{Linked as LinkedTerm};
+ghost use Rattle.filled_syntaxes.specs.AssignedValues.{AreAssignedValues};
+ghost use Rattle.filled_syntaxes.specs.BadAssignments.{BadOfAssignments};
+ghost use Rattle.filled_syntaxes.specs.KnownThings.{AreNamedThings};
+ghost use Rattle.filled_syntaxes.specs.NotedTexts.{NotesTexts};
+ghost use Rattle.class_faults.specs.CyclicFaults.{CyclicAttributeFaults};
+ghost use Rattle.class_faults.specs.FaultSets.{Notes};
+ghost use Rattle.class_faults.specs.FirstClassFault.{AreFaultless};
+ghost use Rattle.class_faults.specs.NotedFaults.{TellsFirstFault};
+ghost use Rattle.closing_laws.specs.NotedSteps.{AreClassFaults, AreCyclicFaults, AreNamedTexts, AreNotedTexts};
+ghost use Rattle.schema_records.specs.ApartParts.{AreNoneUnequal};
+ghost use Rattle.class_closure.specs.ClosedRecords.{AreClosedRecords, AreTemplateRecords, CanHaveRecords, IsClosed};
+ghost use Rattle.class_closure.specs.ClosingStates.{AreStatedParts, HaveJoined};
+
 use asn1_syntax::module::Module;
 use asn1_types::Types;
 use class_faults::{ClassRefusal, Faults, refusal_of};
@@ -11,6 +26,8 @@ use joined_properties::{Inheriting, Statement};
 use joined_statements::AssignedValues;
 use linked_parts::Linked;
 use linked_types::{ClosingParts, TypeTable, types_of_parts};
+use package_statements::{all_statements, note_packages};
+use property_faults::note_classes;
 use schema_records::class_records::{JoinedClasses, class_records};
 use schema_records::member_records::{
     action_records, attribute_records, binding_records, group_records, notification_records,
@@ -44,7 +61,10 @@ pub struct Classes {
 }
 
 /// No records yet but those of sections.
-fn section_records(alloc: Global, rules: RuleRecs, instances: Vec<InstanceValues>) -> Classes {
+fn section_records(alloc: Global, rules: RuleRecs, instances: Vec<InstanceValues>) -> Classes
+    ensures rules { result.rules ≡ rules }
+    ensures instances { result.instances ≡ instances }
+{
     Classes {
         classes: ClassRecs::new(alloc),
         attributes: AttrRecs::new(alloc),
@@ -70,7 +90,13 @@ fn keep_records(
     parts: &ClosingParts,
     joined: &JoinedClasses,
     into: &mut Classes,
-) -> Result<(), AllocError> {
+) -> Result<(), AllocError>
+    ensures told { OnOk result ((ms : List ModuleTerm) → HaveJoined ms parts.now joined.now →
+        CanHaveRecords ms parts.now.linked.now → AreNoneUnequal joined.now.properties.now →
+        AreTemplateRecords ms parts.now.linked.now into.new) }
+    ensures rules { into.new.rules ≡ into.old.rules }
+    ensures instances { into.new.instances ≡ into.old.instances }
+{
     into.classes = class_records(parts, joined)?;
     into.attributes = attribute_records(parts)?;
     into.groups = group_records(parts)?;
@@ -86,14 +112,26 @@ fn records_of(
     joined: &JoinedClasses,
     rules: RuleRecs,
     instances: Vec<InstanceValues>,
-) -> Result<Classes, AllocError> {
+) -> Result<Classes, AllocError>
+    ensures told { IfOk result (λ x. (ms : List ModuleTerm) → HaveJoined ms parts.now joined.now →
+        CanHaveRecords ms parts.now.linked.now → AreNoneUnequal joined.now.properties.now →
+        AreTemplateRecords ms parts.now.linked.now x) }
+    ensures rules { IfOk result (λ x. x.rules ≡ rules) }
+    ensures instances { IfOk result (λ x. x.instances ≡ instances) }
+{
     let mut records = section_records(parts.alloc, rules, instances);
     keep_records(parts, joined, &mut records)?;
     Ok(records)
 }
 
 /// Tells the first fault, where there is one.
-fn tell_fault(bad: &BadTexts, faults: &mut Faults) -> Result<(), ClassRefusal> {
+fn tell_fault(bad: &BadTexts, faults: &mut Faults) -> Result<(), ClassRefusal>
+    ensures faultless { OnOk result ((ms : List ModuleTerm) (linked : LinkedTerm) → AreNotedTexts ms linked bad.now.first →
+        AreClassFaults ms linked faults.old.first → AreFaultless ms linked) }
+    ensures cause { IfErr result (λ refusal. (ms : List ModuleTerm) (linked : LinkedTerm) →
+        AreNotedTexts ms linked bad.now.first → AreClassFaults ms linked faults.old.first →
+        TellsFirstFault ms linked refusal) }
+{
     faults.note_texts(bad);
     match faults.first {
         Some(fault) => Err(refusal_of(fault)),
@@ -107,7 +145,14 @@ fn close_joined(
     joined: &JoinedClasses,
     bad: &mut BadTexts,
     faults: &mut Faults,
-) -> Result<Classes, ClassRefusal> {
+) -> Result<Classes, ClassRefusal>
+    ensures closed { IfOk result (λ x. (ms : List ModuleTerm) → HaveJoined ms parts.now joined.now →
+        AreNamedTexts ms parts.now.linked.now bad.old.first → AreCyclicFaults parts.now.linked.now faults.old.first →
+        IsClosed ms parts.now.linked.now x) }
+    ensures cause { IfErr result (λ refusal. (ms : List ModuleTerm) → HaveJoined ms parts.now joined.now →
+        AreNamedTexts ms parts.now.linked.now bad.old.first → AreCyclicFaults parts.now.linked.now faults.old.first →
+        TellsFirstFault ms parts.now.linked.now refusal) }
+{
     note_classes(parts, joined.properties, faults)?;
     note_packages(parts, faults)?;
     let rules = rule_records(parts, bad)?;
@@ -122,7 +167,16 @@ fn close_parts(
     stated: &[Vec<Statement>],
     bad: &mut BadTexts,
     faults: &mut Faults,
-) -> Result<Classes, ClassRefusal> {
+) -> Result<Classes, ClassRefusal>
+    ensures closed { IfOk result (λ x. (ms : List ModuleTerm) → AreStatedParts ms parts.now stated.now →
+        AreNamedTexts ms parts.now.linked.now bad.old.first →
+        Notes (CyclicAttributeFaults parts.now.linked.now.attributes.items) None faults.old.first →
+        IsClosed ms parts.now.linked.now x) }
+    ensures cause { IfErr result (λ refusal. (ms : List ModuleTerm) → AreStatedParts ms parts.now stated.now →
+        AreNamedTexts ms parts.now.linked.now bad.old.first →
+        Notes (CyclicAttributeFaults parts.now.linked.now.attributes.items) None faults.old.first →
+        TellsFirstFault ms parts.now.linked.now refusal) }
+{
     let inheriting = Inheriting {
         alloc: parts.alloc,
         classes: parts.linked.classes.as_slice(),
@@ -145,7 +199,14 @@ fn close_named(
     linked: &Linked,
     values: &[Option<Value>],
     bad: &mut BadTexts,
-) -> Result<Classes, ClassRefusal> {
+) -> Result<Classes, ClassRefusal>
+    ensures closed { IfOk result (λ x. (ms : List ModuleTerm) → AreNamedThings ms linked.now things.now →
+        AreAssignedValues ms linked.now values.now → NotesTexts (BadOfAssignments ms linked.now) None bad.old.first →
+        IsClosed ms linked.now x) }
+    ensures cause { IfErr result (λ refusal. (ms : List ModuleTerm) → AreNamedThings ms linked.now things.now →
+        AreAssignedValues ms linked.now values.now → NotesTexts (BadOfAssignments ms linked.now) None bad.old.first →
+        TellsFirstFault ms linked.now refusal) }
+{
     let mut faults = Faults { first: None };
     let mut table = TypeTable::new(things.alloc, values.len())?;
     let types = types_of_parts(things, linked, &mut table, bad, &mut faults)?;
@@ -170,7 +231,20 @@ pub fn close_classes<'a, 't>(
     linked: &'t Linked,
     types: &'t Types<'a>,
     modules: &'a [Module],
-) -> Result<Classes, ClassRefusal> {
+) -> Result<Classes, ClassRefusal>
+    // nothing is wrong with the classes
+    ensures faultless { OnOk result (module_terms types.now ≡ module_terms modules.now →
+        AreFaultless (module_terms modules.now) linked.now) }
+
+    // the records are those of the linked parts, where these can have some
+    ensures records { IfOk result (λ x. module_terms types.now ≡ module_terms modules.now →
+        CanHaveRecords (module_terms modules.now) linked.now →
+        AreClosedRecords (module_terms modules.now) linked.now x) }
+
+    // the first fault
+    ensures cause { IfErr result (λ refusal. module_terms types.now ≡ module_terms modules.now →
+        TellsFirstFault (module_terms modules.now) linked.now refusal) }
+{
     let things = NamedThings::new(alloc, modules, types, linked)?;
     let mut bad = BadTexts::none();
     let values = things.assigned_values(&mut bad)?;

@@ -3,8 +3,6 @@
 #![tactic(auto)]
 
 pub mod closing;
-mod joined_faults;
-mod package_faults;
 
 pub use class_faults::ClassRefusal;
 pub use closing::{Classes, close_classes};

@@ -1,0 +1,2 @@
+pub mod ClosingLaws
+mod UnequalLaws
