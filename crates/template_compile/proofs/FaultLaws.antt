@@ -15,12 +15,15 @@ use Rattle.gdmo_names.specs.FirstLabelFault.{TellsFirstFault as TellsFirstLabelF
 use Rattle.gdmo_names.specs.PartViews.{part_terms}
 use Rattle.gdmo_names.specs.declared.parsed.Parsed.{Parsed}
 use Rattle.gdmo_names.specs.declared.refusal.LabelRefusal.{LabelRefusal}
+use Rattle.linked_parts.specs.declared.linked.Linked.{Linked}
+use Rattle.class_faults.specs.NotedFaults.{TellsFirstFault as TellsFirstClassFault}
+use Rattle.class_faults.specs.declared.refusal.ClassRefusal.{ClassRefusal}
 use Rattle.template_compile.specs.declared.refusal.CompileRefusal.{CompileRefusal}
 use Rattle.template_compile.specs.declared.refusal.CompileRefusal.TheVariants.{BadDocument}
 use Rattle.template_compile.specs.declared.refusal.Kind.{Kind}
 use Rattle.template_compile.specs.declared.refusal.Kind.TheVariants as K
-use Rattle.template_compile.specs.Acceptance.{AreReferenced, AreResolved, SayParts}
-use Rattle.template_compile.specs.DocumentFaults.{HasCause, IsClassKind, IsLabelFault, IsModuleFault, IsTold, lexing_kind}
+use Rattle.template_compile.specs.Acceptance.{AreLinked, AreResolved, SayParts}
+use Rattle.template_compile.specs.DocumentFaults.{HasCause, IsClassFault, IsLabelFault, IsModuleFault, IsTold, lexing_kind}
 use Rattle.template_compile.specs.DocumentFaults.IsTold.{of_lexing, of_syntax, of_modules, of_labels, of_classes}
 use Rattle.template_compile.specs.Lines.{line_at, line_at_token}
 
@@ -35,7 +38,8 @@ pub lexing_told : (docs : List Doc) (document place : ℕ) {fault : LexKind} {ki
     {r : CompileRefusal} → refusal ≡ D.Lexing document place fault → kind ≡ lexing_kind fault →
     r ≡ BadDocument document (line_at docs document place) kind → IsFirstFault docs refusal → HasCause docs r
 lexing_told docs document place is is_kind same first =
-    at_place docs document place same (λ line e. of_lexing (subst (λ (x : DocumentRefusal). IsFirstFault docs x) is first) is_kind e)
+    at_place docs document place same (λ line e. of_lexing
+    (subst (λ (x : DocumentRefusal). IsFirstFault docs x) is first) is_kind e)
 
 pub module_told : (docs : List Doc) (parts : Parsed) (document place : ℕ) {kind : Kind}
     {refusal told : ModuleRefusal} {r : CompileRefusal} → refusal ≡ told → IsModuleFault document place told kind →
@@ -53,11 +57,13 @@ label_told docs parts document place {kind = kind} is fault same resolved first 
     at_place docs document place same (λ line e. of_labels resolved first
     (subst (λ (x : LabelRefusal). IsLabelFault document place x kind) (sym is) fault) e)
 
-pub class_told : (docs : List Doc) (document place : ℕ) {kind : Kind} {r : CompileRefusal} →
-    IsClassKind kind → r ≡ BadDocument document (line_at docs document place) kind → (parts : Parsed) →
-    AreReferenced docs parts → HasCause docs r
-class_told docs document place of_kind same parts referenced =
-    at_place docs document place same (λ line e. of_classes referenced of_kind)
+pub class_told : (docs : List Doc) (parts : Parsed) (linked : Linked) (document place : ℕ) {kind : Kind}
+    {refusal told : ClassRefusal} {r : CompileRefusal} → refusal ≡ told → IsClassFault document place told kind →
+    r ≡ BadDocument document (line_at docs document place) kind → AreLinked docs parts linked →
+    TellsFirstClassFault (module_terms parts.modules.items) linked refusal → HasCause docs r
+class_told docs parts linked document place {kind = kind} is fault same are_linked first =
+    at_place docs document place same (λ line e. of_classes are_linked first
+    (subst (λ (x : ClassRefusal). IsClassFault document place x kind) (sym is) fault) e)
 
 pub syntax_told : (docs : List Doc) (lists : List (Vec Token)) (document token line : ℕ) {kind : Kind}
     {refusal : DocumentRefusal} → refusal ≡ D.Syntax document token → kind ≡ K.Syntax →

@@ -1,5 +1,5 @@
--- Acceptance: what documents say, and that nothing is wrong in their modules and with their references (X.722, section 8;
--- X.680, section 12; docs/PROFILE.md, section 2).
+-- Acceptance: what documents say, and that nothing is wrong in their modules, with their references and with their
+-- classes (X.722, section 8; X.680, section 12; docs/PROFILE.md, section 2).
 use Rattle.std.specs.Prelude.{List}
 use Rattle.std.specs.Global.{Vec}
 use Rattle.token_grammar.specs.declared.token.Token.{Token}
@@ -12,6 +12,12 @@ use Rattle.asn1_names.specs.TermViews.{module_terms}
 use Rattle.gdmo_names.specs.declared.parsed.Parsed.{Parsed}
 use Rattle.gdmo_names.specs.FirstLabelFault.{AreFaultless as HaveTargets}
 use Rattle.gdmo_names.specs.PartViews.{part_terms}
+use Rattle.linked_parts.specs.declared.linked.Linked.{Linked}
+use Rattle.linked_documents.specs.LinkedParts.{AreLinkedParts}
+use Rattle.class_faults.specs.FirstClassFault.{AreFaultless as HaveSoundClasses}
+use Rattle.schema_records.specs.MemberRecords.{AreRecords}
+use Rattle.class_closure.specs.ClosedRecords.{CanHaveRecords}
+use Rattle.term_model.specs.declared.schema.Set.{Set}
 
 -- each document is a row of tokens, which are a row of units, and these are their parts
 pub record SayParts (docs : List Doc) (parts : Parsed) : Type 0 where
@@ -31,6 +37,25 @@ pub record AreReferenced (docs : List Doc) (parts : Parsed) : Type 0 where
   pub resolved : AreResolved docs parts
   pub have_targets : HaveTargets (part_terms parts)
 
--- the documents say some parts in whose modules nothing is wrong, nor with their references
-abbrev pub SomeReferenced : List Doc → Type 0
-SomeReferenced docs = (parts : Parsed) × AreReferenced docs parts
+-- these are their linked parts
+pub record AreLinked (docs : List Doc) (parts : Parsed) (linked : Linked) : Type 0 where
+  pub referenced : AreReferenced docs parts
+  pub are_linked : AreLinkedParts (part_terms parts) linked
+
+-- and nothing is wrong with their classes
+pub record AreClosed (docs : List Doc) (parts : Parsed) : Type 0 where
+  pub linked : Linked
+  pub are_linked : AreLinked docs parts linked
+  pub sound : HaveSoundClasses (module_terms parts.modules.items) linked
+
+-- and these are their records, where the linked parts can have some; of the instances, and of the name of the system,
+-- nothing is said
+pub record AreAcceptedAs (docs : List Doc) (parts : Parsed) (schema : Set) : Type 0 where
+  pub closed : AreClosed docs parts
+  pub records : CanHaveRecords (module_terms parts.modules.items) closed.linked →
+      AreRecords (module_terms parts.modules.items) closed.linked schema
+
+-- the documents say some parts of which nothing is wrong in the modules, with the references and with the classes, and
+-- the schema has their records
+abbrev pub AreAccepted : List Doc → Set → Type 0
+AreAccepted docs schema = (parts : Parsed) × AreAcceptedAs docs parts schema

@@ -16,7 +16,7 @@ use Rattle.gdmo_names.specs.TemplateTerms.{TemplateKind}
 use Rattle.gdmo_names.specs.TemplateTerms.TemplateKind.{ClassKind, PackageKind, ParameterKind, BindingKind}
 use Rattle.gdmo_names.specs.TemplateTerms.TemplateKind.{AttributeKind, GroupKind, BehaviourKind, ActionKind}
 use Rattle.gdmo_names.specs.TemplateTerms.TemplateKind.{NotificationKind}
-use Rattle.template_compile.specs.Acceptance.{AreReferenced}
+use Rattle.template_compile.specs.Acceptance.{AreClosed}
 use Rattle.template_compile.specs.declared.counts.Counts.{Counts}
 
 -- two kinds are one
@@ -71,10 +71,10 @@ abbrev pub is_instances : Section → Bool
 is_instances (Rules of) = false
 is_instances (Instances of) = true
 
--- the documents say some parts in whose modules nothing is wrong, nor with their references, and this is how many there
--- are of each kind, and whether there are instances
+-- the documents say some parts of which nothing is wrong in the modules, with the references and with the classes, and
+-- this is how many there are of each kind, and whether there are instances
 pub record IsCompiled (docs : List Doc) (counts : Counts) (has_instances : Bool) : Type 0 where
   pub parts : Parsed
-  pub referenced : AreReferenced docs parts
+  pub closed : AreClosed docs parts
   pub counts_are : counts ≡ counted docs parts
   pub instances_are : has_instances ≡ list_any is_instances parts.sections.items

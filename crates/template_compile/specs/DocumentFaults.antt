@@ -17,11 +17,15 @@ use Rattle.gdmo_names.specs.PartViews.{part_terms}
 use Rattle.gdmo_names.specs.declared.parsed.Parsed.{Parsed}
 use Rattle.gdmo_names.specs.declared.refusal.LabelRefusal.{LabelRefusal}
 use Rattle.gdmo_names.specs.declared.refusal.LabelRefusal.TheVariants as R
+use Rattle.linked_parts.specs.declared.linked.Linked.{Linked}
+use Rattle.class_faults.specs.NotedFaults.{TellsFirstFault as TellsFirstClassFault}
+use Rattle.class_faults.specs.declared.refusal.ClassRefusal.{ClassRefusal}
+use Rattle.class_faults.specs.declared.refusal.ClassRefusal.TheVariants as C
 use Rattle.template_compile.specs.declared.refusal.CompileRefusal.{CompileRefusal}
 use Rattle.template_compile.specs.declared.refusal.CompileRefusal.TheVariants.{BadDocument, Memory}
 use Rattle.template_compile.specs.declared.refusal.Kind.{Kind}
 use Rattle.template_compile.specs.declared.refusal.Kind.TheVariants as K
-use Rattle.template_compile.specs.Acceptance.{AreReferenced, AreResolved, SayParts}
+use Rattle.template_compile.specs.Acceptance.{AreLinked, AreResolved, SayParts}
 use Rattle.template_compile.specs.Lines.{line_at, line_at_token}
 
 abbrev pub lexing_kind : LexKind → Kind
@@ -45,16 +49,15 @@ pub data IsLabelFault (document place : ℕ) : LabelRefusal → Kind → Type 0 
   double_label : IsLabelFault document place (R.DoubleLabel document place) K.DoubleLabel
   double_identifier : IsLabelFault document place (R.DoubleIdentifier document place) K.DoubleIdentifier
 
--- the kinds of faults of classes
-pub data IsClassKind : Kind → Type 0 where
-  cyclic_class : IsClassKind K.CyclicClass
-  unequal_default : IsClassKind K.UnequalDefault
-  empty_permitted : IsClassKind K.EmptyPermitted
-  not_set_valued : IsClassKind K.NotSetValued
-  bad_value : IsClassKind K.BadValue
+-- the same of a refusal of classes
+pub data IsClassFault (document place : ℕ) : ClassRefusal → Kind → Type 0 where
+  cyclic_class : IsClassFault document place (C.CyclicClass document place) K.CyclicClass
+  unequal_default : IsClassFault document place (C.UnequalDefault document place) K.UnequalDefault
+  empty_permitted : IsClassFault document place (C.EmptyPermitted document place) K.EmptyPermitted
+  not_set_valued : IsClassFault document place (C.NotSetValued document place) K.NotSetValued
+  bad_value : IsClassFault document place (C.BadValue document place) K.BadValue
 
--- The fault that is told of documents. Of classes it is said alone that nothing is wrong in octets, tokens and modules,
--- nor with references; neither document nor line is told.
+-- the fault that is told of documents
 pub data IsTold (docs : List Doc) (document line : ℕ) (kind : Kind) : Type 0 where
   of_lexing : {place : ℕ} {fault : LexKind} → IsFirstFault docs (D.Lexing document place fault) →
       kind ≡ lexing_kind fault → line ≡ line_at docs document place → IsTold docs document line kind
@@ -67,7 +70,9 @@ pub data IsTold (docs : List Doc) (document line : ℕ) (kind : Kind) : Type 0 w
   of_labels : {parts : Parsed} {refusal : LabelRefusal} {place : ℕ} → AreResolved docs parts →
       TellsFirstLabelFault (part_terms parts) refusal → IsLabelFault document place refusal kind →
       line ≡ line_at docs document place → IsTold docs document line kind
-  of_classes : {parts : Parsed} → AreReferenced docs parts → IsClassKind kind → IsTold docs document line kind
+  of_classes : {parts : Parsed} {linked : Linked} {refusal : ClassRefusal} {place : ℕ} → AreLinked docs parts linked →
+      TellsFirstClassFault (module_terms parts.modules.items) linked refusal →
+      IsClassFault document place refusal kind → line ≡ line_at docs document place → IsTold docs document line kind
 
 -- the cause of a refusal; want of memory has none
 abbrev pub HasCause : List Doc → CompileRefusal → Type 0

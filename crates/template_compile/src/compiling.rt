@@ -1,9 +1,12 @@
 //! The phases one after the other: lexing, syntax, modules, labels, classes (X.722; docs/PROFILE.md, section 2).
 
-ghost use Rattle.std.specs.Prelude.{◌≡◌, ◌≤◌, length, IfErr, IfOk, OnOk};
+ghost use Rattle.std.specs.Prelude.{◌≡◌, ◌≤◌, length, IfErr, IfOk, List};
 ghost use Rattle.std.specs.List.{list_any};
+ghost use Rattle.asn1_names.specs.ModuleTerms.{ModuleTerm};
+ghost use Rattle.class_closure.specs.ClosedRecords.{AreClosedRecords};
 ghost use Rattle.document_parts.specs.ReadDocuments.{AreLexed};
-ghost use Rattle.template_compile.specs.Acceptance.{AreReferenced, AreResolved, SayParts, SomeReferenced};
+ghost use Rattle.schema_records.specs.MemberRecords.{AreRecords};
+ghost use Rattle.template_compile.specs.Acceptance.{AreAccepted, AreAcceptedAs, AreResolved, SayParts};
 ghost use Rattle.template_compile.specs.Counting.{IsCompiled, is_instances};
 ghost use Rattle.template_compile.specs.DocumentFaults.{HasCause};
 
@@ -63,7 +66,10 @@ fn parsed(alloc: Global, documents: &[Doc], lists: &[Vec<Token>]) -> Result<Pars
 }
 
 /// The records of closed classes and of instances.
-fn schema_of(alloc: Global, linked: &Linked, classes: Classes) -> Result<Set, AllocError> {
+fn schema_of(alloc: Global, linked: &Linked, classes: Classes) -> Result<Set, AllocError>
+    ensures { IfOk result (λ schema. (ms : List ModuleTerm) → AreClosedRecords ms linked.now classes →
+        AreRecords ms linked.now schema) }
+{
     let (instances, system) = instance_records(
         alloc,
         linked,
@@ -92,7 +98,7 @@ fn closed(
 ) -> Result<Set, CompileRefusal>
     requires resolved { AreResolved documents.now parts.now }
     requires modules { types.now ≡ parts.now.modules.items }
-    ensures referenced { OnOk result (AreReferenced documents.now parts.now) }
+    ensures accepted { IfOk result (AreAcceptedAs documents.now parts.now) }
     ensures cause { IfErr result (HasCause documents.now) }
 {
     let linked = match resolve_labels(alloc, parts, types) {
@@ -108,7 +114,7 @@ fn closed(
 /// The schema of parts, or the fault of the third phase or of a later one.
 fn resolved(alloc: Global, documents: &[Doc], parts: &Parsed) -> Result<Set, CompileRefusal>
     requires said { SayParts documents.now parts.now }
-    ensures referenced { OnOk result (AreReferenced documents.now parts.now) }
+    ensures accepted { IfOk result (AreAcceptedAs documents.now parts.now) }
     ensures cause { IfErr result (HasCause documents.now) }
 {
     match resolve_modules(alloc, parts.modules.as_slice()) {
@@ -136,8 +142,12 @@ fn has_instances(sections: &[Section]) -> bool
 pub fn compile_documents(alloc: Global, documents: &[Doc]) -> Result<Compiled, CompileRefusal>
     requires few { length documents.now ≤ 64 }
 
-    // the documents say some parts, of which nothing is wrong in the modules nor with the references, and these are counted
+    // the documents say some parts, of which nothing is wrong in the modules, with the references and with the classes, and
+    // these are counted
     ensures compiled { IfOk result (λ x. IsCompiled documents.now x.counts x.has_instances) }
+
+    // the schema has their records
+    ensures accepted { IfOk result (λ x. AreAccepted documents.now x.schema) }
 
     // the fault that is told is the one by which the documents are refused
     ensures cause { IfErr result (HasCause documents.now) }
@@ -159,7 +169,7 @@ pub fn compile_documents(alloc: Global, documents: &[Doc]) -> Result<Compiled, C
 /// comes where there is no memory for the records.
 pub fn compile(alloc: Global, documents: &[Doc]) -> Result<Set, CompileRefusal>
     requires few { length documents.now ≤ 64 }
-    ensures referenced { OnOk result (SomeReferenced documents.now) }
+    ensures accepted { IfOk result (AreAccepted documents.now) }
     ensures cause { IfErr result (HasCause documents.now) }
 {
     let compiled = compile_documents(alloc, documents)?;

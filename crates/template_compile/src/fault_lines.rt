@@ -7,7 +7,9 @@ ghost use Rattle.document_parts.specs.ReadDocuments.{AreLexed, IsFirstFault, IsF
 ghost use Rattle.gdmo_names.specs.FirstLabelFault.{TellsFirstFault as TellsFirstLabelFault};
 ghost use Rattle.gdmo_names.specs.PartViews.{part_terms};
 ghost use Rattle.gdmo_names.specs.declared.parsed.Parsed.{Parsed};
-ghost use Rattle.template_compile.specs.Acceptance.{AreReferenced, AreResolved, SayParts};
+ghost use Rattle.linked_parts.specs.declared.linked.Linked.{Linked};
+ghost use Rattle.class_faults.specs.NotedFaults.{TellsFirstFault as TellsFirstClassFault};
+ghost use Rattle.template_compile.specs.Acceptance.{AreLinked, AreResolved, SayParts};
 ghost use Rattle.template_compile.specs.DocumentFaults.{HasCause, lexing_kind};
 ghost use Rattle.template_compile.specs.Lines.{line_at, line_at_token, line_of_token, told_line};
 ghost use Rattle.template_compile.specs.declared.refusal.CompileRefusal.TheVariants.{BadDocument};
@@ -181,7 +183,8 @@ pub(crate) fn refusal_of_labels(documents: &[Doc], refusal: &LabelRefusal) -> Co
 
 /// The refusal for a fault of the classes of documents.
 pub(crate) fn refusal_of_classes(documents: &[Doc], refusal: &ClassRefusal) -> CompileRefusal
-    ensures { (parts : Parsed) → AreReferenced documents.now parts → HasCause documents.now result }
+    ensures { (parts : Parsed) (linked : Linked) → AreLinked documents.now parts linked →
+        TellsFirstClassFault (module_terms parts.modules.items) linked refusal.now → HasCause documents.now result }
 {
     match refusal {
         ClassRefusal::CyclicClass { document, token } => {

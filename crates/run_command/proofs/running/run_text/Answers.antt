@@ -1,0 +1,7 @@
+-- Why no text is printed.
+use Rattle.run_command.proofs.CauseLaws.{cause_told}
+use Rattle.run_command.proofs.running.run_text.Goals as goal
+
+pub returns-clause-cause : goal.returns-clause-cause
+returns-clause-cause c = cause_told c.args.script.now c.args.documents.now c.in_ok-schema.schema
+    c.in_ok-schema.ensures.compiled c.run_on.result c.run_on.ensures.cause
