@@ -1,0 +1,5 @@
+-- The lemmas of this crate.
+mod SyntaxLaws
+mod PlaceLaws
+mod PairLaws
+mod RootLaws
