@@ -1,0 +1,8 @@
+-- The lemmas of this crate.
+mod MeaningLaws
+mod SortLaws
+mod TableLaws
+mod TemplateLaws
+mod WantedLaws
+mod InstanceLaws
+pub mod DocumentLaws
