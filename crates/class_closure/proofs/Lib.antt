@@ -1,2 +1,3 @@
 pub mod ClosingLaws
+mod MeantLaws
 mod UnequalLaws

@@ -1,31 +1,39 @@
--- ClosedRecords: what is asked of linked parts so that each has its record, and which records are those of closed classes
--- (X.722, section 8; docs/PROFILE.md, section 18).
-use Rattle.std.specs.Prelude.{◌≡◌, List, All}
+-- ClosedRecords: what is asked of linked parts so that each has its record, and which records are those of closed
+-- classes (X.722, section 8; docs/PROFILE.md, section 18).
+use Rattle.std.specs.Prelude.{◌≡◌, ◌⊎◌, List, Some, All, Contains, slice_get}
 use Rattle.term_model.specs.JoinedProperties.{HasJoined}
 use Rattle.term_model.specs.declared.schema.Set.{Set}
 use Rattle.asn1_names.specs.ModuleTerms.{ModuleTerm}
 use Rattle.linked_parts.specs.declared.linked.Linked.{Linked}
+use Rattle.linked_parts.specs.declared.linked.LinkedAttribute.{LinkedAttribute}
+use Rattle.linked_parts.specs.declared.linked.LinkedInstance.{LinkedInstance}
+use Rattle.linked_parts.specs.declared.linked.LinkedPair.{LinkedPair}
 use Rattle.linked_types.specs.PartIdentifiers.{AreEach}
 use Rattle.class_faults.specs.FirstClassFault.{AreFaultless}
-use Rattle.section_values.specs.RegisteredSections.{AreRegisteredRules, HaveInstanceSyntaxes, HaveRuleSyntaxes}
+use Rattle.meant_names.specs.MeantNames.{AreMeant}
+use Rattle.section_values.specs.RegisteredSections.{AreRegisteredRules}
 use Rattle.section_values.specs.SectionRecords.{IsInstance, IsRule}
 use Rattle.schema_records.specs.ApartParts.{HaveOwnIdentifiers}
 use Rattle.schema_records.specs.ClassRecords.{IsClass}
-use Rattle.schema_records.specs.MeantParts.{HaveSyntaxes, HaveValues}
 use Rattle.schema_records.specs.MemberRecords.{AreAttributes, IsAction, IsBinding, IsGroup, IsNotification}
 use Rattle.schema_records.specs.RegisteredParts.{AreRegisteredParts}
 use Rattle.class_closure.specs.declared.closing.Classes.{Classes}
 
--- Each part that a record names is there and registered, no two classes and no two attributes under one identifier, and
--- each name of a type or a value means one.
+-- the attributes that instances name are there
+abbrev pub HaveTheirAttributes : Linked → Type 0
+HaveTheirAttributes linked = (instance : LinkedInstance) (pair : LinkedPair) →
+    Contains linked.instances.items instance →
+    Contains instance.name.items pair ⊎ Contains instance.given.items pair →
+    (x : LinkedAttribute) × (slice_get linked.attributes.items pair.attribute ≡ Some x)
+
+-- Each part that a record names is there and registered, no two classes and no two attributes under one identifier,
+-- and it isn't so that the type or the value of a name is none.
 pub record CanHaveRecords (ms : List ModuleTerm) (linked : Linked) : Type 0 where
   pub are_registered : AreRegisteredParts linked
   pub have_own : HaveOwnIdentifiers linked
-  pub have_syntaxes : HaveSyntaxes ms linked
-  pub have_values : HaveValues ms linked
   pub rules_registered : AreRegisteredRules linked
-  pub rules_have_syntaxes : HaveRuleSyntaxes ms linked
-  pub instances_have_syntaxes : HaveInstanceSyntaxes ms linked
+  pub instances_there : HaveTheirAttributes linked
+  pub are_meant : AreMeant ms linked
 
 -- the records of templates are those of linked parts
 pub record AreTemplateRecords (ms : List ModuleTerm) (linked : Linked) (x : Classes) : Type 0 where

@@ -10,6 +10,7 @@ use Rattle.class_faults.specs.FirstClassFault.ClassFault.{ValueBad}
 use Rattle.section_values.specs.SectionRecords.{IsInstance, IsRule}
 use Rattle.section_values.specs.declared.instances.InstanceValues.{InstanceValues}
 use Rattle.closing_laws.specs.NotedSteps.{AreClassFaults, AreNotedTexts}
+use Rattle.class_closure.proofs.MeantLaws.{meanings_known}
 use Rattle.class_closure.proofs.UnequalLaws.{none_unequal}
 use Rattle.class_closure.proofs.closing.close_joined.Goals as goal
 
@@ -57,17 +58,19 @@ returns-clause-closed c = λ ms joined named cyclic.
     let sound = c.in_ok-tell_fault.ensures.faultless ms linked texts classes in
     record {
       faultless = sound;
-      records = λ can. record {
-        templates = c.in_ok-records_of.ensures.told ms joined can
-            (none_unequal ms c.args.parts.now c.args.joined.now joined sound);
-        rules_are = subst (λ (xs : List RuleRec). AreEach (IsRule ms linked) linked.rules.items xs)
-            (sym c.in_ok-records_of.ensures.rules)
-            (c.in_ok-rules.ensures.told ms parts can.rules_registered can.rules_have_syntaxes
-            (λ place bad. sound ValueBad place.document place.token (of_rule bad)));
-        instances_are = subst (λ (xs : Vec InstanceValues). AreEach (IsInstance ms linked) linked.instances.items
-            xs.items)
-            (sym c.in_ok-records_of.ensures.instances)
-            (c.in_ok-instances.ensures.told ms parts can.instances_have_syntaxes
-            (λ place bad. sound ValueBad place.document place.token (of_instance bad)));
-      };
+      records = λ can.
+          let means = meanings_known ms c.args.parts.now c.args.joined.now.stated.now joined.stated can in
+          record {
+            templates = c.in_ok-records_of.ensures.told ms joined can
+                (none_unequal ms c.args.parts.now c.args.joined.now joined sound);
+            rules_are = subst (λ (xs : List RuleRec). AreEach (IsRule ms linked) linked.rules.items xs)
+                (sym c.in_ok-records_of.ensures.rules)
+                (c.in_ok-rules.ensures.told ms parts can.rules_registered means.rules_have_syntaxes
+                (λ place bad. sound ValueBad place.document place.token (of_rule bad)));
+            instances_are = subst (λ (xs : Vec InstanceValues). AreEach (IsInstance ms linked) linked.instances.items
+                xs.items)
+                (sym c.in_ok-records_of.ensures.instances)
+                (c.in_ok-instances.ensures.told ms parts means.instances_have_syntaxes
+                (λ place bad. sound ValueBad place.document place.token (of_instance bad)));
+          };
     }
