@@ -9,7 +9,7 @@ use Rattle.run_command.specs.declared.refusal.RunRefusal.TheVariants.{BadScript,
 use Rattle.run_command.specs.RunCauses.{HasCause, HasSchemaCause}
 use Rattle.run_command.specs.ScriptRuns.{AreCompiled}
 
-schema_cause : (script : List ℕ) (docs : List Doc) (schema : Set) → AreCompiled docs → (refusal : RunRefusal) →
+schema_cause : (script : List ℕ) (docs : List Doc) (schema : Set) → AreCompiled docs schema → (refusal : RunRefusal) →
     HasSchemaCause schema script refusal → HasCause script docs refusal
 schema_cause script docs schema compiled (BadDocument document line kind) cause = absurd cause
 schema_cause script docs schema compiled (BadInstance index error) cause = record {
@@ -46,7 +46,7 @@ schema_cause script docs schema compiled (JournalFull text) (objects, opened, ca
 }
 schema_cause script docs schema compiled Memory cause = cause
 
-pub cause_told : {A : Type 0} (script : List ℕ) (docs : List Doc) (schema : Set) → AreCompiled docs →
+pub cause_told : {A : Type 0} (script : List ℕ) (docs : List Doc) (schema : Set) → AreCompiled docs schema →
     (r : Result A RunRefusal) → IfErr r (HasSchemaCause schema script) → IfErr r (HasCause script docs)
 cause_told script docs schema compiled (Ok text) cause = cause
 cause_told script docs schema compiled (Err refusal) cause = schema_cause script docs schema compiled refusal cause

@@ -1,2 +1,3 @@
 mod CauseLaws
+mod TextLaws
 mod PlayLaws

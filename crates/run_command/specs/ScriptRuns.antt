@@ -30,15 +30,15 @@ use Rattle.bound_classes.specs.Behaviour.{has_behaviour}
 use Rattle.script_lines.specs.ScriptText.{AreFirstLines}
 use Rattle.agent_steps.specs.Asking.{has_unbuilt}
 
--- the documents are compiled
-pub record AreCompiled (docs : List Doc) : Type 0 where
+-- the documents are compiled to this schema
+pub record AreCompiled (docs : List Doc) (schema : Set) : Type 0 where
   pub counts : Counts
   pub instances : Bool
-  pub compiled : IsCompiled docs counts instances
+  pub compiled : IsCompiled docs schema counts instances
 
--- they are compiled, and these are the objects of a schema at the opening
+-- they are compiled to it, and these are its objects at the opening
 pub record AreOpened (docs : List Doc) (schema : Set) (objects : List NamedObject) : Type 0 where
-  pub compiled : AreCompiled docs
+  pub compiled : AreCompiled docs schema
   pub opened_to : opened schema ≡ Ok objects
 
 -- each object obeys its templates after each part of a journal, from none of it to all
@@ -111,7 +111,7 @@ pub record HasUnbuilt (schema : Set) (objects : List NamedObject) (script : List
   pub played_to : played (started schema shipped objects) lines ≡ Ok play
   pub unbuilt : has_unbuilt (ended play).agent ≡ true
 
--- something holds of the objects of a schema without behaviour to which documents are compiled
+-- something holds of the objects of the schema to which documents are compiled, which has no behaviour
 pub record OnOpened (docs : List Doc) (Holds : Set → List NamedObject → Type 0) : Type 0 where
   pub schema : Set
   pub objects : List NamedObject
@@ -126,7 +126,7 @@ IsRun script docs text = OnOpened docs (λ schema objects. IsPlayedOn schema obj
 -- an instance of documents that are compiled can't be opened
 pub record IsBadInstance (docs : List Doc) (index error : ℕ) : Type 0 where
   pub schema : Set
-  pub compiled : AreCompiled docs
+  pub compiled : AreCompiled docs schema
   pub refused : HasRefusal (opened schema) (O.BadInstance index error)
 
 -- some class of the schema has an action or a notification, or is one on which the agent acts

@@ -32,7 +32,7 @@ use term_model::{Limits, Set, StepLedger, Steps, Tally};
 /// The schema to which documents are compiled.
 fn compiled(alloc: Global, documents: &[Doc]) -> Result<Set, RunRefusal>
     requires few { length documents.now ≤ 64 }
-    ensures compiled { OnOk result (AreCompiled documents.now) }
+    ensures compiled { IfOk result (AreCompiled documents.now) }
     ensures cause { IfErr result (HasCompilingCause documents.now) }
 {
     match compile_documents(alloc, documents) {

@@ -26,7 +26,7 @@ pub data HasObjects (schema : Set) : Bool → ℕ → Type 0 where
 -- the documents are compiled, with these counts, to this schema, and its objects are opened
 pub record AreOpened (docs : List Doc) (schema : Set) (counts : Counts) (objects : ℕ) : Type 0 where
   pub instances : Bool
-  pub compiled : IsCompiled docs counts instances
+  pub compiled : IsCompiled docs schema counts instances
   pub has : HasObjects schema instances objects
 
 -- they are accepted, and their objects are opened
@@ -56,7 +56,7 @@ pub record IsReported (docs : List Doc) (text : List ℕ) : Type 0 where
 pub record IsBadInstance (docs : List Doc) (index error : ℕ) : Type 0 where
   pub schema : Set
   pub counts : Counts
-  pub compiled : IsCompiled docs counts true
+  pub compiled : IsCompiled docs schema counts true
   pub refused : HasRefusal (opened schema) (O.BadInstance index error)
 
 -- the cause of a refusal; want of memory has none

@@ -1,4 +1,5 @@
-//! Documents compiled, their objects opened, and what is printed of them (X.722; docs/PROFILE.md, sections 2, 16 and 19).
+//! Documents compiled, their objects opened, and what is printed of them (X.722; docs/PROFILE.md, sections 2, 16 and
+//! 19).
 
 ghost use Rattle.std.specs.Prelude.{◌≡◌, ◌≤◌, ◌<◌, length, true, IfErr, IfOk, OnOk};
 ghost use Rattle.set_commands.specs.CommandTexts.{AreAccepted, AreOpened, HasCause, HasObjects, HasOpeningCause};
@@ -19,7 +20,7 @@ use term_model::{Set, Steps, Tally};
 /// The compiled documents.
 fn compiled(alloc: Global, documents: &[Doc]) -> Result<Compiled, SetRefusal>
     requires few { length documents.now ≤ 64 }
-    ensures compiled { IfOk result (λ x. IsCompiled documents.now x.counts x.has_instances) }
+    ensures compiled { IfOk result (λ x. IsCompiled documents.now x.schema x.counts x.has_instances) }
     ensures cause { IfErr result (HasCause documents.now) }
 {
     match compile_documents(alloc, documents) {

@@ -1,3 +1,4 @@
 pub mod ListLaws
 pub mod FaultLaws
 mod ReadLaws
+mod RecordLaws

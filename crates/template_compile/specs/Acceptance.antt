@@ -8,6 +8,7 @@ use Rattle.document_parts.specs.declared.documents.Doc.{Doc}
 use Rattle.document_parts.specs.DocumentParts.{AreParts}
 use Rattle.document_parts.specs.ReadDocuments.{AreLexed, AreRead}
 use Rattle.asn1_names.specs.FirstModuleFault.{AreFaultless}
+use Rattle.asn1_names.specs.ModuleTerms.{ModuleTerm}
 use Rattle.asn1_names.specs.TermViews.{module_terms}
 use Rattle.gdmo_names.specs.declared.parsed.Parsed.{Parsed}
 use Rattle.gdmo_names.specs.FirstLabelFault.{AreFaultless as HaveTargets}
@@ -16,7 +17,7 @@ use Rattle.linked_parts.specs.declared.linked.Linked.{Linked}
 use Rattle.linked_documents.specs.LinkedParts.{AreLinkedParts}
 use Rattle.class_faults.specs.FirstClassFault.{AreFaultless as HaveSoundClasses}
 use Rattle.schema_records.specs.MemberRecords.{AreRecords}
-use Rattle.class_closure.specs.ClosedRecords.{CanHaveRecords}
+use Rattle.instance_records.specs.InstanceRecords.{AreInstanceRecords}
 use Rattle.term_model.specs.declared.schema.Set.{Set}
 
 -- each document is a row of tokens, which are a row of units, and these are their parts
@@ -48,12 +49,15 @@ pub record AreClosed (docs : List Doc) (parts : Parsed) : Type 0 where
   pub are_linked : AreLinked docs parts linked
   pub sound : HaveSoundClasses (module_terms parts.modules.items) linked
 
--- and these are their records, where the linked parts can have some; of the instances, and of the name of the system,
--- nothing is said
+-- a schema has the records of linked parts: of templates and rules, of instances, and the name of the system
+pub record IsSchemaOf (ms : List ModuleTerm) (linked : Linked) (schema : Set) : Type 0 where
+  pub records : AreRecords ms linked schema
+  pub instances : AreInstanceRecords ms linked schema.instances schema.system
+
+-- and this is their schema
 pub record AreAcceptedAs (docs : List Doc) (parts : Parsed) (schema : Set) : Type 0 where
   pub closed : AreClosed docs parts
-  pub records : CanHaveRecords (module_terms parts.modules.items) closed.linked →
-      AreRecords (module_terms parts.modules.items) closed.linked schema
+  pub is_schema : IsSchemaOf (module_terms parts.modules.items) closed.linked schema
 
 -- the documents say some parts of which nothing is wrong in the modules, with the references and with the classes, and
 -- the schema has their records

@@ -16,8 +16,9 @@ use Rattle.gdmo_names.specs.TemplateTerms.{TemplateKind}
 use Rattle.gdmo_names.specs.TemplateTerms.TemplateKind.{ClassKind, PackageKind, ParameterKind, BindingKind}
 use Rattle.gdmo_names.specs.TemplateTerms.TemplateKind.{AttributeKind, GroupKind, BehaviourKind, ActionKind}
 use Rattle.gdmo_names.specs.TemplateTerms.TemplateKind.{NotificationKind}
-use Rattle.template_compile.specs.Acceptance.{AreClosed}
+use Rattle.template_compile.specs.Acceptance.{AreAcceptedAs}
 use Rattle.template_compile.specs.declared.counts.Counts.{Counts}
+use Rattle.term_model.specs.declared.schema.Set.{Set}
 
 -- two kinds are one
 abbrev pub kind_number : TemplateKind → ℕ
@@ -71,10 +72,10 @@ abbrev pub is_instances : Section → Bool
 is_instances (Rules of) = false
 is_instances (Instances of) = true
 
--- the documents say some parts of which nothing is wrong in the modules, with the references and with the classes, and
--- this is how many there are of each kind, and whether there are instances
-pub record IsCompiled (docs : List Doc) (counts : Counts) (has_instances : Bool) : Type 0 where
+-- the documents say some parts that are accepted as this schema, and this is how many there are of each kind, and
+-- whether there are instances
+pub record IsCompiled (docs : List Doc) (schema : Set) (counts : Counts) (has_instances : Bool) : Type 0 where
   pub parts : Parsed
-  pub closed : AreClosed docs parts
+  pub accepted : AreAcceptedAs docs parts schema
   pub counts_are : counts ≡ counted docs parts
   pub instances_are : has_instances ≡ list_any is_instances parts.sections.items

@@ -5,8 +5,8 @@ ghost use Rattle.std.specs.List.{list_any};
 ghost use Rattle.asn1_names.specs.ModuleTerms.{ModuleTerm};
 ghost use Rattle.class_closure.specs.ClosedRecords.{AreClosedRecords};
 ghost use Rattle.document_parts.specs.ReadDocuments.{AreLexed};
-ghost use Rattle.schema_records.specs.MemberRecords.{AreRecords};
-ghost use Rattle.template_compile.specs.Acceptance.{AreAccepted, AreAcceptedAs, AreResolved, SayParts};
+ghost use Rattle.instance_records.specs.RegisteredInstances.{AreRegisteredInstances};
+ghost use Rattle.template_compile.specs.Acceptance.{AreAccepted, AreAcceptedAs, AreResolved, IsSchemaOf, SayParts};
 ghost use Rattle.template_compile.specs.Counting.{IsCompiled, is_instances};
 ghost use Rattle.template_compile.specs.DocumentFaults.{HasCause};
 
@@ -14,7 +14,6 @@ use crate::counts::Counts;
 use crate::fault_lines::{
     refusal_of_classes, refusal_of_labels, refusal_of_modules, refusal_of_octets, refusal_of_tokens,
 };
-use crate::instance_records::instance_records;
 use crate::refusal::CompileRefusal;
 use crate::template_counts::counts_of;
 use asn1_resolve::resolve_modules;
@@ -24,6 +23,7 @@ use document_parts::{Doc, lex_documents, read_documents};
 use extra_syntax::Section;
 use gdmo_names::Parsed;
 use gdmo_resolve::resolve_labels;
+use instance_records::instance_records;
 use linked_parts::Linked;
 use std::alloc::{AllocError, Global};
 use term_model::Set;
@@ -68,7 +68,7 @@ fn parsed(alloc: Global, documents: &[Doc], lists: &[Vec<Token>]) -> Result<Pars
 /// The records of closed classes and of instances.
 fn schema_of(alloc: Global, linked: &Linked, classes: Classes) -> Result<Set, AllocError>
     ensures { IfOk result (λ schema. (ms : List ModuleTerm) → AreClosedRecords ms linked.now classes →
-        AreRecords ms linked.now schema) }
+        AreRegisteredInstances linked.now → IsSchemaOf ms linked.now schema) }
 {
     let (instances, system) = instance_records(
         alloc,
@@ -137,17 +137,14 @@ fn has_instances(sections: &[Section]) -> bool
 
 /// Compiles 1 to 64 documents, and tells how many parts of each kind they have.
 ///
-/// `BadDocument` has the first fault: by phase, by document, by place, and at one place in the order of `Kind`. `Memory`
-/// comes where there is no memory for the records.
+/// `BadDocument` has the first fault: by phase, by document, by place, and at one place in the order of `Kind`.
+/// `Memory` comes where there is no memory for the records.
 pub fn compile_documents(alloc: Global, documents: &[Doc]) -> Result<Compiled, CompileRefusal>
     requires few { length documents.now ≤ 64 }
 
-    // the documents say some parts, of which nothing is wrong in the modules, with the references and with the classes, and
-    // these are counted
-    ensures compiled { IfOk result (λ x. IsCompiled documents.now x.counts x.has_instances) }
-
-    // the schema has their records
-    ensures accepted { IfOk result (λ x. AreAccepted documents.now x.schema) }
+    // the documents say some parts, of which nothing is wrong in the modules, with the references and with the
+    // classes; the schema has their records, and they are counted
+    ensures compiled { IfOk result (λ x. IsCompiled documents.now x.schema x.counts x.has_instances) }
 
     // the fault that is told is the one by which the documents are refused
     ensures cause { IfErr result (HasCause documents.now) }
@@ -165,8 +162,8 @@ pub fn compile_documents(alloc: Global, documents: &[Doc]) -> Result<Compiled, C
 
 /// Compiles 1 to 64 documents to the records that they define.
 ///
-/// `BadDocument` has the first fault: by phase, by document, by place, and at one place in the order of `Kind`. `Memory`
-/// comes where there is no memory for the records.
+/// `BadDocument` has the first fault: by phase, by document, by place, and at one place in the order of `Kind`.
+/// `Memory` comes where there is no memory for the records.
 pub fn compile(alloc: Global, documents: &[Doc]) -> Result<Set, CompileRefusal>
     requires few { length documents.now ≤ 64 }
     ensures accepted { IfOk result (AreAccepted documents.now) }

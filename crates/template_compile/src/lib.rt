@@ -4,7 +4,6 @@
 pub mod compiling;
 pub mod counts;
 mod fault_lines;
-pub mod instance_records;
 pub mod refusal;
 pub mod template_counts;
 

@@ -5,7 +5,8 @@ use Rattle.asn1_names.specs.TermViews.{module_terms}
 use Rattle.class_faults.specs.FirstClassFault.{AreFaultless}
 use Rattle.class_faults.specs.NotedFaults.{TellsFirstFault}
 use Rattle.class_closure.specs.ClosedRecords.{CanHaveRecords}
-use Rattle.schema_records.specs.MemberRecords.{AreRecords}
+use Rattle.template_compile.proofs.RecordLaws.{can_have, instances_registered}
+use Rattle.template_compile.specs.Acceptance.{IsSchemaOf}
 use Rattle.template_compile.proofs.ReadLaws.{are_linked, is_read, of_modules, same_terms}
 use Rattle.template_compile.proofs.compiling.closed.Goals as goal
 
@@ -23,20 +24,19 @@ returns-in-Ok-close_classes-clause-accepted c =
     let types = c.args.types.now in
     let linked = c.in-Ok.linked in
     let closed = c.in-Ok-close_classes.ensures in
+    let are = are_linked c.args.documents.now parts linked types c.requires.resolved c.requires.modules
+    c.in-Ok.ensures.linked in
+    let sound = of_modules parts types c.as_slice.result.now (λ (ms : List ModuleTerm). AreFaultless ms linked)
+    c.requires.modules c.as_slice.ensures.value closed.faultless in
     record {
-      closed = record {
-        linked = linked;
-        are_linked = are_linked c.args.documents.now parts linked types c.requires.resolved c.requires.modules
-            c.in-Ok.ensures.linked;
-        sound = of_modules parts types c.as_slice.result.now (λ (ms : List ModuleTerm). AreFaultless ms linked)
-            c.requires.modules c.as_slice.ensures.value closed.faultless;
-      };
-      records = of_modules parts types c.as_slice.result.now
+      closed = record { linked = linked; are_linked = are; sound = sound };
+      is_schema = of_modules parts types c.as_slice.result.now
           (λ (ms : List ModuleTerm). CanHaveRecords ms linked →
-          AreRecords ms linked c.in_ok-schema_of-in-Ok-close_classes.field-0)
+          IsSchemaOf ms linked c.in_ok-schema_of-in-Ok-close_classes.field-0)
           c.requires.modules c.as_slice.ensures.value
           (λ same can. c.in_ok-schema_of-in-Ok-close_classes.ensures (module_terms c.as_slice.result.now)
-          (closed.records same can));
+          (closed.records same can) (instances_registered c.args.documents.now parts linked are))
+          (can_have c.args.documents.now parts linked are sound);
     }
 
 pub returns-clause-cause : goal.returns-clause-cause

@@ -17,10 +17,7 @@ parsed-requires c = record {
 pub returns-clause-compiled : goal.returns-clause-compiled
 returns-clause-compiled c = record {
   parts = c.in_ok-parts.parts;
-  closed = c.in_ok-schema.ensures.accepted.closed;
+  accepted = c.in_ok-schema.ensures.accepted;
   counts_are = c.in_ok-counts.ensures;
   instances_are = c.has_instances.ensures ∙ ap (λ xs. list_any is_instances xs) c.as_slice-2.ensures.value;
 }
-
-pub returns-clause-accepted : goal.returns-clause-accepted
-returns-clause-accepted c = (c.in_ok-parts.parts, c.in_ok-schema.ensures.accepted)
