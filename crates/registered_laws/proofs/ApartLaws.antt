@@ -44,7 +44,7 @@ after_by false true false same less = absurd (cc)
 after_by false false m same less = absurd (cc)
 
 -- one of two that stand at two places stands earlier
-either_earlier : (a b p q : ℕ) → (a ≡ b → p ≢ q) → ((nat_lt a b || a == b && nat_lt p q) ≡ true) ⊎
+pub either_earlier : (a b p q : ℕ) → (a ≡ b → p ≢ q) → ((nat_lt a b || a == b && nat_lt p q) ≡ true) ⊎
     ((nat_lt b a || b == a && nat_lt q p) ≡ true)
 either_earlier a b p q apart = by (cases_order a b)
   where
@@ -63,7 +63,7 @@ either_earlier a b p q apart = by (cases_order a b)
     by (inr (inr more)) = inr (before_by (nat_lt b a) (b == a) (nat_lt q p) (lt-ltb b a more))
 
 -- two templates that are registered at two places have no arcs in common
-never_double : (parts : PartTerms) → AreFaultless parts → (x y : Placed) (one other : IdentifierTerm)
+pub never_double : (parts : PartTerms) → AreFaultless parts → (x y : Placed) (one other : IdentifierTerm)
     (arcs : List ℕ) → Registers parts x one → Registers parts y other → IsIdentifier parts one arcs →
     IsIdentifier parts other arcs → AreTwoRegistered x y → ⊥
 never_double parts faultless x y one other arcs registers also is is_too two = by (either_earlier x.document y.document
@@ -106,11 +106,11 @@ unfolding of_kind
 kept_kind kind [] = refl
 kept_kind kind (x ∷ xs) = ap (λ ys. cond (is_kind kind x) (x ∷ ys) ys) (kept_kind kind xs)
 
-pairs_of_kind : (R : Placed → Placed → Type 0) (kind : TemplateKind) (xs : List Placed) → AllPairs R xs →
+pub pairs_of_kind : (R : Placed → Placed → Type 0) (kind : TemplateKind) (xs : List Placed) → AllPairs R xs →
     AllPairs R (of_kind kind xs)
 pairs_of_kind R kind xs all = subst (AllPairs R) (sym (kept_kind kind xs)) (AllPairs-filter R (is_kind kind) xs all)
 
-pair_at : (R : Placed → Placed → Type 0) (xs : List Placed) (j k : ℕ) (x y : Placed) → AllPairs R xs → j < k →
+pub pair_at : (R : Placed → Placed → Type 0) (xs : List Placed) (j k : ℕ) (x y : Placed) → AllPairs R xs → j < k →
     slice_get xs j ≡ Some x → slice_get xs k ≡ Some y → R x y
 pair_at R xs j k x y all less at there =
     subst (λ z. R z y) (get_or_from_slice_get xs j x x at)
@@ -125,7 +125,7 @@ record IsRegisteredUnder (parts : PartTerms) (xs : List Placed) (k : ℕ) (id : 
   states : identifier_of x.template ≡ Some own
   is : IsIdentifier parts own id
 
-stated_of : (parts : PartTerms) (stated : Option IdentifierTerm) (own : Option (List ℕ)) (id : List ℕ) →
+pub stated_of : (parts : PartTerms) (stated : Option IdentifierTerm) (own : Option (List ℕ)) (id : List ℕ) →
     own ≡ Some id → IsLinkedIdentifier parts stated own →
     (x : IdentifierTerm) × (stated ≡ Some x) × IsIdentifier parts x id
 stated_of parts None None id is told = absurd (cc)
@@ -161,7 +161,7 @@ module _ {L : Type 0} (parts : PartTerms) (head : L → LinkedHead) (is : ℕ �
         (pair_at AreTwoRegistered (table parts kind) j k x.x y.x
         (pairs_of_kind AreTwoRegistered kind (templates parts) apart) less x.at y.at)
 
-    table_apart : AreApart head ys
+    pub table_apart : AreApart head ys
     table_apart j k id one other = by (cases_order j k)
       where
         by : (j ≡ k) ⊎ ((j < k) ⊎ (k < j)) → j ≡ k

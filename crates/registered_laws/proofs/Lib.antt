@@ -1,5 +1,5 @@
 -- The lemmas of this crate.
-mod TableLaws
+pub mod TableLaws
 mod MemberKinds
 mod ClassKinds
 mod MentionLaws
@@ -13,6 +13,6 @@ mod RuleLaws
 mod TemplateBraces
 mod MemberBraces
 mod ClassBraces
-mod DocumentBraces
-mod ApartLaws
+pub mod DocumentBraces
+pub mod ApartLaws
 pub mod DocumentLaws

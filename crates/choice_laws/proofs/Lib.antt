@@ -1,0 +1,5 @@
+-- The lemmas of this crate.
+mod TermChoices
+mod TextChoices
+mod ModuleChoices
+pub mod ChoiceLaws

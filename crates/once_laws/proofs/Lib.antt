@@ -1,0 +1,8 @@
+-- The lemmas of this crate.
+mod PairLaws
+mod ToldLaws
+mod TemplatePairs
+mod KindTables
+mod RecordTables
+mod RulePairs
+pub mod OnceLaws

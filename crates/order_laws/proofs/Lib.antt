@@ -1,0 +1,5 @@
+-- The lemmas of this crate.
+mod WalkLaws
+mod RankLaws
+mod ClassPlaces
+pub mod OrderLaws

@@ -1,0 +1,13 @@
+-- The lemmas of this crate.
+pub mod DecidingLaws
+mod BoundLaws
+mod ListLaws
+pub mod UseLaws
+mod TemplateLaws
+mod RecordLaws
+mod PropertyLaws
+mod JoinedLaws
+mod AboveLaws
+mod ReachedLaws
+mod FillingLaws
+pub mod StatedLaws
