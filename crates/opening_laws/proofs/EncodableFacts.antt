@@ -1,6 +1,6 @@
 -- A network of which everything has an encoding, and one in which a class has an identifier of one arc: X.660,
 -- clause 7.
-use Rattle.std.proofs.Common.{◌≡◌, ℕ, ◌<◌, ◌^◌, true, List, [], ◌∷◌, None, Some, refl, sym, ap, ◌∙◌, subst}
+use Rattle.std.proofs.Common.{◌≡◌, ◌⊎◌, ℕ, ◌<◌, ◌^◌, true, List, [], ◌∷◌, None, Some, refl, sym, ap, ◌∙◌, subst}
 use Rattle.std.proofs.Common.{arith, inl, inr, length}
 use Rattle.std.proofs.lemmas.Bool.{false≢true}
 use Rattle.std.proofs.lemmas.List.Elements.{All-cons, All-head, All-nil}
@@ -16,12 +16,12 @@ use Rattle.term_model.specs.declared.schema.AttrRec.{AttrRec}
 use Rattle.term_model.specs.declared.schema.ClassRec.{ClassRec}
 use Rattle.term_model.specs.declared.schema.InstRec.{InstRec}
 use Rattle.term_model.specs.declared.schema.Set.{Set}
-use Rattle.term_model.specs.WholeSet.{IsPackage}
 use Rattle.term_model.proofs.ExampleNetwork.{element_class, element_package, id_property, id_template, load_property}
 use Rattle.term_model.proofs.ExampleNetwork.{element_oid, id_oid, load_oid, load_template, network}
 use Rattle.package_laws.proofs.Members.{first_or_later, nowhere}
 use Rattle.typed_laws.specs.SyntaxTags.{has_tags}
-use Rattle.opening_laws.specs.Encodable.{HasShortValues, IsEncodable, IsIdentifier, IsNamePart, IsShort}
+use Rattle.opening_laws.specs.Encodable.{HasShortValues, IsChosen, IsEncodable, IsIdentifier, IsNamePart, IsOfClass}
+use Rattle.opening_laws.specs.Encodable.{IsShort}
 
 only_one : {X : Type 0} (x y : X) → Contains (x ∷ []) y → x ≡ y
 only_one x y at = elim (first_or_later x y [] at) [
@@ -40,7 +40,7 @@ abbrev stated : Set
 stated = record network { classes = class_stated ∷ [] }
 
 -- a package without an identifier
-no_package : (id : List ℕ) → IsPackage stated id → IsIdentifier id
+no_package : (id : List ℕ) → IsOfClass stated id → IsIdentifier id
 no_package id (of_class, (of_package, at, own, is)) =
     let class_is : class_stated ≡ of_class = only_one class_stated of_class at in
     elim own [
@@ -54,6 +54,15 @@ no_package id (of_class, (of_package, at, own, is)) =
     none : (of_package : PackageRec) → element_package ≡ of_package → of_package.id ≡ Some id → ⊥
     none of_package same has =
         let e : None ≡ Some id = ap (λ (p : PackageRec). p.id) same ∙ has in absurd (cc)
+
+-- the one instance chooses none
+none_chosen : (id : List ℕ) → IsChosen stated id → IsIdentifier id
+none_chosen id (instance, at, chosen) =
+    absurd (nowhere id (subst (λ (i : InstRec). Contains i.chosen id) (sym (only_one _ instance at)) chosen))
+
+packages_identified : (id : List ℕ) → IsOfClass stated id ⊎ IsChosen stated id → IsIdentifier id
+packages_identified id (inl own) = no_package id own
+packages_identified id (inr chosen) = none_chosen id chosen
 
 -- the one name is that of the system, whose part has three octets
 three_octets : IsShort (2 ∷ 1 ∷ 1 ∷ [])
@@ -97,7 +106,7 @@ stated_is_encodable = record {
   identifiers = All-cons IsIdentifier element_oid (id_oid ∷ load_oid ∷ []) (refl, refl)
       (All-cons IsIdentifier id_oid (load_oid ∷ []) (refl, refl)
       (All-cons IsIdentifier load_oid [] (refl, refl) (All-nil IsIdentifier)));
-  packages = no_package;
+  packages = packages_identified;
   tags = All-cons (λ (t : AttrRec). has_tags t.syntax ≡ true) id_template (load_template ∷ []) refl
       (All-cons (λ (t : AttrRec). has_tags t.syntax ≡ true) load_template [] refl
       (All-nil (λ (t : AttrRec). has_tags t.syntax ≡ true)));

@@ -2,7 +2,7 @@
 use Rattle.std.proofs.Common.{◌≡◌, ℕ, ◌≤◌, Bool, true, false, List, [], ◌∷◌, Option, None, Some}
 use Rattle.std.proofs.Common.{refl, sym, ap, ◌∙◌, subst, inl, inr, length}
 use Rattle.std.proofs.lemmas.Bool.{and_parts, false≢true}
-use Rattle.std.proofs.lemmas.List.Elements.{All-contains, All-head, All-tail, All-weaker}
+use Rattle.std.proofs.lemmas.List.Elements.{All-contains, All-contains_itself, All-head, All-tail, All-weaker}
 use Rattle.std.proofs.lemmas.List.Elements.{Contains-append_cases}
 use Rattle.std.proofs.lemmas.Option.{same_Some}
 use Rattle.std.proofs.lemmas.Slice.Eq.{bytes_eq-Decides}
@@ -35,7 +35,7 @@ use Rattle.term_model.specs.ObjectOperation.{attribute_record}
 use Rattle.term_model.specs.Opening.{asking_of, behind_packages, given_of, is_labelled_packages, packages_given}
 use Rattle.term_model.specs.Opening.{packages_of_template}
 use Rattle.term_model.specs.WholeRecords.{IsValueOf}
-use Rattle.term_model.specs.WholeSet.{IsPackage, IsWhole, IsWholeInstance}
+use Rattle.term_model.specs.WholeSet.{IsWhole, IsWholeInstance}
 use Rattle.package_laws.proofs.Members.{first_or_later, map_from, nowhere, same_id}
 use Rattle.set_laws.proofs.Records.{one_attribute, record_is}
 use Rattle.opening_laws.specs.Encodable.{IsIdentifier}
@@ -152,7 +152,9 @@ given_fits schema instance object made template id given value known at gives_it
           )
       | inr behind ↦
           behind_fits schema template instance.chosen id given value
-          (All-weaker (IsPackage schema) IsIdentifier made.encodable.packages instance.chosen stated.chosen) known
+          (All-weaker (Contains instance.chosen) IsIdentifier
+          (λ one chosen. made.encodable.packages one (inr (instance, made.there, chosen))) instance.chosen
+          (All-contains_itself instance.chosen)) known
           behind gives_it
     ]
 

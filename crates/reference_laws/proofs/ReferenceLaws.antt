@@ -1,12 +1,10 @@
 -- ReferenceLaws: in the schema of linked parts each reference is to a record of the schema (X.722, section 8;
 -- docs/PROFILE.md, section 9).
 use Rattle.std.specs.Prelude.{◌≡◌, ◌∷◌, [], ℕ, List, Some, All, Contains, refl}
-use Rattle.std.proofs.Common.{◌∙◌, ap, inl, inr, sym}
+use Rattle.std.proofs.Common.{◌∙◌, ap, sym}
 use Rattle.std.proofs.Math.Path.{subst}
 use Rattle.std.proofs.lemmas.List.Elements.{All-contains}
-use Rattle.std.proofs.lemmas.Option.{same_Some}
 use Rattle.term_model.specs.WholeRecords.{IsAction, IsAttribute, IsClass, IsNotification, IsWholeBinding, IsWholeUse}
-use Rattle.term_model.specs.WholeSet.{IsPackage}
 use Rattle.term_model.specs.declared.packages.GroupUse.{GroupUse}
 use Rattle.term_model.specs.declared.packages.PackageRec.{PackageRec}
 use Rattle.term_model.specs.declared.rule.RuleRec.{RuleRec}
@@ -20,19 +18,18 @@ use Rattle.gdmo_names.specs.PartViews.{part_terms}
 use Rattle.gdmo_names.specs.declared.parsed.Parsed.{Parsed}
 use Rattle.linked_parts.specs.declared.linked.Linked.{Linked}
 use Rattle.linked_parts.specs.declared.linked.LinkedGroupUse.{LinkedGroupUse}
-use Rattle.linked_parts.specs.declared.linked.LinkedInstance.{LinkedInstance}
 use Rattle.linked_parts.specs.declared.linked.LinkedPackage.{LinkedPackage}
 use Rattle.linked_parts.specs.declared.linked.LinkedRule.{LinkedRule}
 use Rattle.linked_documents.specs.LinkedParts.{AreLinkedParts}
 use Rattle.linked_types.specs.PartIdentifiers.{AreEach, IsAttributeId, IsClassId, IsIdentified}
 use Rattle.section_values.specs.SectionRecords.{IsRule}
 use Rattle.schema_records.specs.ClassRecords.{IsClass as IsClassRecord, IsGroupUse}
-use Rattle.schema_records.specs.ClassRecords.{IsPackageAt, IsProperty}
+use Rattle.schema_records.specs.ClassRecords.{IsProperty}
 use Rattle.schema_records.specs.MemberRecords.{AreRecords, IsBinding, IsGroup as IsGroupRecord}
-use Rattle.schema_records.proofs.ClassLaws.{at_contains, contains_at, each_at, named_part}
+use Rattle.schema_records.proofs.ClassLaws.{at_contains, named_part}
 use Rattle.instance_records.specs.InstanceRecords.{AreInstanceRecords, IsInstanceRecord}
-use Rattle.reference_laws.specs.SchemaReferences.{AllPackages, AreOfClasses, IsAttributeThere, IsInstanceThere}
-use Rattle.reference_laws.specs.SchemaReferences.{IsLinkedPackage, IsOfClass, IsRuleThere, IsStated, NamesThere}
+use Rattle.reference_laws.specs.SchemaReferences.{AllPackages, IsAttributeThere, IsInstanceThere, IsLinkedPackage}
+use Rattle.reference_laws.specs.SchemaReferences.{IsRuleThere, IsStated, NamesThere}
 use Rattle.reference_laws.proofs.AttributeLaws.{attribute_there as there_attribute, is_attribute}
 use Rattle.reference_laws.proofs.FixedLaws.{AddsNoFixed, packages_fixed}
 use Rattle.reference_laws.proofs.PlaceLaws.{all_made}
@@ -161,43 +158,3 @@ module _ (ms : List ModuleTerm) (linked : Linked) (schema : Set) (are : AreRecor
           chosen = all_made (IsIdentified (λ y. y.head) linked.packages.items) (IsLinkedPackage linked)
               stated.packages.items x.chosen (λ k id has named. linked_package k id named) is.chosen_are;
         }) of_instances.instances_are
-
-    -- the package at a place that some class has
-    package_in : (packages : List PackageRec) (places : List ℕ) (k : ℕ) (id : List ℕ) →
-        AreEach (IsPackageAt ms linked) places packages → Contains places k →
-        IsIdentified (λ (y : LinkedPackage). y.head) linked.packages.items k id →
-        (x : PackageRec) × Contains packages x × (x.id ≡ Some id)
-    package_in packages places k id each has is =
-        let at = contains_at places k has in
-        let found = each_at (IsPackageAt ms linked) places packages at.0 k each at.1 in
-        let named = named_part (λ (y : LinkedPackage). y.head) linked.packages.items k id is in (
-          found.0,
-          at_contains packages at.0 found.0 found.1,
-          sym found.2.2.is_id ∙ ap (λ (y : LinkedPackage). y.head.identifier)
-              (same_Some found.2.0 named.part (sym found.2.1 ∙ named.stands)) ∙ named.called,
-        )
-
-    package_known : (k : ℕ) (id : List ℕ) → IsOfClass linked k →
-        IsIdentified (λ (y : LinkedPackage). y.head) linked.packages.items k id → IsPackage schema id
-    package_known k id (part, listed, own) is =
-        let at = contains_at linked.classes.items part listed in
-        let found = each_at (IsClassRecord ms linked) linked.classes.items schema.classes at.0 part are.classes_are
-        at.1 in
-        elim own as (λ _. IsPackage schema id) [
-          | inl has ↦
-              let there = package_in found.0.mandatory part.mandatory.items k id found.2.mandatory_are has is in
-              (found.0, (there.0, at_contains schema.classes at.0 found.0 found.1, inl there.1, there.2))
-          | inr has ↦
-              let there = package_in found.0.conditional part.conditional.items k id found.2.conditional_are has is in
-              (found.0, (there.0, at_contains schema.classes at.0 found.0 found.1, inr there.1, there.2))
-        ]
-
-    -- where each package that an instance chooses is one of some class; no fault says so
-    pub chosen_there : AreOfClasses linked → All (λ (x : InstRec). All (IsPackage schema) x.chosen) schema.instances
-    chosen_there of_classes = all_made (IsInstanceRecord ms linked)
-        (λ (x : InstRec). All (IsPackage schema) x.chosen) linked.instances.items schema.instances
-        (λ stated x listed is. all_made (IsIdentified (λ y. y.head) linked.packages.items) (IsPackage schema)
-        stated.packages.items x.chosen (λ k id has named. package_known k id
-        (All-contains (IsOfClass linked) stated.packages.items k
-        (All-contains (λ (y : LinkedInstance). All (IsOfClass linked) y.packages.items) linked.instances.items stated
-        of_classes listed) has) named) is.chosen_are) of_instances.instances_are

@@ -1,6 +1,6 @@
 -- SchemaReferences: that what a record names is there, with the linked part of which each record is (X.722, section 8;
 -- docs/PROFILE.md, section 9).
-use Rattle.std.specs.Prelude.{◌≡◌, ◌⊎◌, ℕ, List, Some, All, Contains, slice_get}
+use Rattle.std.specs.Prelude.{◌≡◌, ℕ, List, Some, All, Contains, slice_get}
 use Rattle.term_model.specs.WholeRecords.{IsAction, IsClass, IsNotification, IsWholeUse}
 use Rattle.term_model.specs.declared.actions.ActRec.{ActRec}
 use Rattle.term_model.specs.declared.packages.PackageRec.{PackageRec}
@@ -13,7 +13,6 @@ use Rattle.term_model.specs.declared.schema.Set.{Set}
 use Rattle.asn1_names.specs.ModuleTerms.{ModuleTerm}
 use Rattle.linked_parts.specs.declared.linked.Linked.{Linked}
 use Rattle.linked_parts.specs.declared.linked.LinkedAction.{LinkedAction}
-use Rattle.linked_parts.specs.declared.linked.LinkedClass.{LinkedClass}
 use Rattle.linked_parts.specs.declared.linked.LinkedInstance.{LinkedInstance}
 use Rattle.linked_parts.specs.declared.linked.LinkedPackage.{LinkedPackage}
 use Rattle.linked_parts.specs.declared.linked.LinkedRule.{LinkedRule}
@@ -78,12 +77,3 @@ pub record IsInstanceThere (ms : List ModuleTerm) (linked : Linked) (schema : Se
   pub is : IsInstanceRecord ms linked stated instance
   pub class : IsClass schema instance.class
   pub chosen : All (IsLinkedPackage linked) instance.chosen
-
--- some class has the package at a place; so it is with all packages that instances choose
-abbrev pub IsOfClass : Linked → ℕ → Type 0
-IsOfClass linked place = (part : LinkedClass) × Contains linked.classes.items part
-    × (Contains part.mandatory.items place ⊎ Contains part.conditional.items place)
-
-abbrev pub AreOfClasses : Linked → Type 0
-AreOfClasses linked =
-    All (λ (x : LinkedInstance). All (IsOfClass linked) x.packages.items) linked.instances.items

@@ -31,7 +31,7 @@ use Rattle.term_model.specs.JoinedProperties.Holds.{Inherited, Own}
 use Rattle.term_model.specs.WholeRecords.{IsAction, IsAttribute, IsClass, IsFillable, IsNotEmpty, IsNotification}
 use Rattle.term_model.specs.WholeRecords.{IsValueOf, IsWholeAction, IsWholeBinding, IsWholeClass}
 use Rattle.term_model.specs.WholeRecords.{IsWholeNotification, IsWholePackage, IsWholeProperty, IsWholeUse, IsWithin}
-use Rattle.term_model.specs.WholeSet.{identifiers_of, IsWhole, IsWholeInstance, IsWholePart, IsWholeRule, IsPackage}
+use Rattle.term_model.specs.WholeSet.{identifiers_of, IsWhole, IsWholeInstance, IsWholePart, IsWholeRule}
 use Rattle.term_model.specs.WholeSet.{labels_of}
 use Rattle.term_model.proofs.CreatingFacts.{bound_network, element_at, element_binding, five, id_is, root_at}
 use Rattle.term_model.proofs.ExampleNetwork.{element_class, element_oid, element_package, id_oid, id_property}
@@ -292,7 +292,6 @@ root_whole = record {
   class = (0, omega arith, refl);
   name = All-nil (IsWholePart whole_network);
   given = given_whole 1 (omega arith, refl);
-  chosen = All-nil (IsPackage whole_network);
 }
 
 five_whole : IsWholeInstance whole_network (element_at (five ∷ []) 5)
@@ -300,7 +299,6 @@ five_whole = record {
   class = (0, omega arith, refl);
   name = one (IsWholePart whole_network) five part_whole;
   given = given_whole 5 (omega arith, refl);
-  chosen = All-nil (IsPackage whole_network);
 }
 
 pub network_is_whole : IsWhole whole_network

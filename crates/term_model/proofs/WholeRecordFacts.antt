@@ -25,13 +25,14 @@ use Rattle.term_model.specs.declared.rule.RuleStep.TheVariants as steps
 use Rattle.term_model.specs.declared.schema.ClassRec.{ClassRec}
 use Rattle.term_model.specs.declared.schema.GroupRec.{GroupRec}
 use Rattle.term_model.specs.declared.schema.Set.{Set}
+use Rattle.term_model.specs.AlikeSyntaxes.{AreAlike}
 use Rattle.term_model.specs.Inheritance.{HasAttribute}
 use Rattle.term_model.specs.Inheritance.IsAbove.{Itself}
 use Rattle.term_model.specs.JoinedProperties.{Holds, OwnStates}
 use Rattle.term_model.specs.JoinedProperties.Holds.{Inherited, Own}
 use Rattle.term_model.specs.WholeRecords.{HasField, IsAttribute, IsNotEmpty, IsSetValued, IsWholeAction, IsWholeField}
 use Rattle.term_model.specs.WholeRecords.{IsValueOf, IsWholeNotification, IsWholeUse, IsWithin}
-use Rattle.term_model.specs.WholeSet.{AreApart, AreOrdered, CanName, HasSyntax, IsOfRule, IsPackage, IsTyped}
+use Rattle.term_model.specs.WholeSet.{AreApart, AreOrdered, CanName, HasSyntax, IsOfRule, IsTyped}
 use Rattle.term_model.specs.WholeSet.{IsWholeInstance, IsWholePart, IsWholeRule, IsWholeStep}
 use Rattle.term_model.specs.WholeSet.CanName.{AsRoot, ByBinding}
 use Rattle.term_model.proofs.CreatingFacts.{element_binding, extra_oid, root_at, topped}
@@ -118,7 +119,7 @@ has_load = record {
 names_nothing : (below : List ℕ) → CanName ruled load_oid below → ⊥
 names_nothing below (ByBinding binding known named of_class) =
     ids_differ (ap (λ (b : BindRec). b.attribute) (contains_one known) ∙ named)
-names_nothing below (AsRoot instance known root class part) = ids_differ part
+names_nothing below (AsRoot instance first class part) = ids_differ part
 
 load_of_rule : IsOfRule ruled element_oid load_oid
 load_of_rule = record { has = has_load; plain = λ below above. names_nothing below }
@@ -127,18 +128,32 @@ id_names_elements : CanName ruled id_oid element_oid
 id_names_elements = ByBinding element_binding (0, omega arith, refl) refl (inl refl)
 
 id_names_root : CanName ruled id_oid element_oid
-id_names_root = AsRoot root_at (0, omega arith, refl) refl refl refl
+id_names_root = AsRoot root_at refl refl refl
 
 id_not_of_rule : IsOfRule ruled element_oid id_oid → ⊥
 id_not_of_rule h = h.plain element_oid Itself id_names_elements
 
 -- ---- the steps
 
+-- types that differ in the value of a DEFAULT are alike; those of which one has no DEFAULT aren't
+abbrev loaded : ℕ → TypeSyntax
+loaded n = Sequence (Part (codes "load") number false (Some (Int (pos n))) NoParts)
+
+alike_but_for_values : AreAlike (loaded 3) (loaded 7)
+alike_but_for_values = refl
+
+abbrev has_default : TypeSyntax → Bool
+has_default (Sequence (Part name syntax optional (Some value) rest)) = true
+has_default _ = false
+
+not_alike : AreAlike (loaded 3) told → ⊥
+not_alike is = true≢false (ap has_default is)
+
 load_is_number : HasSyntax ruled load_oid number
 load_is_number = (load_template, (1, omega arith, refl), refl, refl)
 
 load_typed : IsTyped ruled (Some number) load_oid
-load_typed = (number, refl, load_is_number)
+load_typed = (number, (number, refl, load_is_number, refl))
 
 abbrev IsStep : RuleStep → Type 0
 IsStep = IsWholeStep ruled rule set_load
@@ -162,7 +177,7 @@ sets_argument : IsStep (steps.SetArgument load_oid)
 sets_argument = (load_of_rule, load_typed)
 
 replies_argument : IsStep steps.ReplyArgument
-replies_argument = (number, refl, refl)
+replies_argument = (number, (number, refl, refl, refl))
 
 replies_load : IsStep (steps.ReplyAttribute load_oid)
 replies_load = (load_of_rule, load_typed)
@@ -254,11 +269,7 @@ fixed_not_added h =
     let long : 1 ≡ 0 = ap length (h.fixed fixed) in
     omega (arith, long)
 
--- the conditional package of an element is registered under its identifier
-extra_is_package : IsPackage topped extra_oid
-extra_is_package = (_, (_, (0, omega arith, refl), inr (0, omega arith, refl), refl))
-
--- so an instance may name it
+-- an instance may choose any package
 abbrev IsGiven : Attribute → Type 0
 IsGiven held = IsValueOf topped held.id held.value
 
@@ -269,7 +280,6 @@ choosing_whole = record {
   given = both IsGiven id_value load_value
       (record { template = id_template; known = (0, omega arith, refl); named = refl; fits = (omega arith, refl) })
       (record { template = load_template; known = (1, omega arith, refl); named = refl; fits = (omega arith, refl) });
-  chosen = one (IsPackage topped) extra_oid extra_is_package;
 }
 
 -- ADD and REMOVE need SET OF, under any tags

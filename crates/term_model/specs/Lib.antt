@@ -2,6 +2,7 @@
 pub mod AgentLimits
 pub mod AgentState
 pub mod AgentWritten
+pub mod AlikeSyntaxes
 pub mod Apdu
 pub mod ApduReading
 pub mod ApduWriting

@@ -23,6 +23,7 @@ use Rattle.term_model.specs.declared.schema.AttrRec.{AttrRec}
 use Rattle.term_model.specs.declared.schema.ClassRec.{ClassRec}
 use Rattle.term_model.specs.declared.schema.GroupRec.{GroupRec}
 use Rattle.term_model.specs.declared.schema.Set.{Set}
+use Rattle.term_model.specs.AlikeSyntaxes.{AreAlike}
 use Rattle.term_model.specs.JoinedProperties.{HasJoined}
 
 -- identifiers that have a record
@@ -114,11 +115,11 @@ pub record IsWholeBinding (schema : Set) (binding : BindRec) : Type 0 where
   pub superior : IsClass schema binding.superior.class
   pub attribute : IsAttribute schema binding.attribute
 
--- a component of this name and syntax
+-- a component of this name and syntax, but for the values of DEFAULTs
 abbrev pub HasComponent : TypeParts → List ℕ → TypeSyntax → Type 0
 HasComponent NoParts name wanted = ⊥
 HasComponent (Part own syntax optional default rest) name wanted =
-    (own ≡ name) × (syntax ≡ wanted) ⊎ HasComponent rest name wanted
+    (own ≡ name) × AreAlike syntax wanted ⊎ HasComponent rest name wanted
 
 -- a SEQUENCE or SET, under any tags, with such a component
 abbrev pub HasField : TypeSyntax → List ℕ → TypeSyntax → Type 0

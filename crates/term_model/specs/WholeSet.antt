@@ -1,7 +1,7 @@
 -- Which schemas are whole: X.722, section 8, with the conditions of docs/PROFILE.md, sections 2, 3 and 9. What the
 -- compiler gives is whole.
 use Rattle.std.specs.Prelude.{◌≡◌, ◌≢◌, ◌<◌, ◌⊎◌, ◌++◌, ℕ, List, [], ◌∷◌, true, Option, Some, All, AllPairs, Contains}
-use Rattle.std.specs.Prelude.{IfSome, length, map}
+use Rattle.std.specs.Prelude.{IfSome, find, length, map}
 use Rattle.term_values.specs.Fits.{Fits}
 use Rattle.term_values.specs.MatchingKinds.{beneath_tags}
 use Rattle.term_values.specs.Soundness.{IsSound}
@@ -15,7 +15,6 @@ use Rattle.term_model.specs.declared.name.Rdn.{Rdn}
 use Rattle.term_model.specs.declared.name_binding.BindRec.{BindRec}
 use Rattle.term_model.specs.declared.name_binding.BoundClass.{BoundClass}
 use Rattle.term_model.specs.declared.object.Attribute.{Attribute}
-use Rattle.term_model.specs.declared.packages.PackageRec.{PackageRec}
 use Rattle.term_model.specs.declared.rule.RuleRec.{RuleRec}
 use Rattle.term_model.specs.declared.rule.RuleStep.{RuleStep}
 use Rattle.term_model.specs.declared.rule.RuleStep.TheVariants as steps
@@ -24,6 +23,7 @@ use Rattle.term_model.specs.declared.schema.ClassRec.{ClassRec}
 use Rattle.term_model.specs.declared.schema.GroupRec.{GroupRec}
 use Rattle.term_model.specs.declared.schema.InstRec.{InstRec}
 use Rattle.term_model.specs.declared.schema.Set.{Set}
+use Rattle.term_model.specs.AlikeSyntaxes.{AreAlike}
 use Rattle.term_model.specs.Creating.{last_of}
 use Rattle.term_model.specs.Inheritance.{Derives, HasAttribute, IsAbove}
 use Rattle.term_model.specs.WholeRecords.{IsAttribute, IsClass, IsValueOf, IsWholeAction}
@@ -62,6 +62,10 @@ abbrev pub NamesClass : BoundClass → Set → List ℕ → Type 0
 NamesClass bound schema class =
     (bound.class ≡ class) ⊎ ((bound.subclasses ≡ true) × IsAbove schema class bound.class)
 
+-- the first instance behind ROOT, whose name is that of the system; a second one is refused at the opening
+abbrev pub first_root : List InstRec → Option InstRec
+first_root instances = find (λ (instance : InstRec). instance.root) instances
+
 abbrev pub IsRootPart : List Rdn → List ℕ → Type 0
 IsRootPart [] attribute = ⊥
 IsRootPart (first ∷ rest) attribute = (last_of first rest).attribute ≡ attribute
@@ -69,8 +73,8 @@ IsRootPart (first ∷ rest) attribute = (last_of first rest).attribute ≡ attri
 pub data CanName (schema : Set) (attribute : List ℕ) (class : List ℕ) : Type 0 where
   ByBinding : (binding : BindRec) → Contains schema.bindings binding → binding.attribute ≡ attribute
       → NamesClass binding.subordinate schema class → CanName schema attribute class
-  AsRoot : (instance : InstRec) → Contains schema.instances instance → instance.root ≡ true
-      → instance.class ≡ class → IsRootPart schema.system attribute → CanName schema attribute class
+  AsRoot : (instance : InstRec) → first_root schema.instances ≡ Some instance → instance.class ≡ class
+      → IsRootPart schema.system attribute → CanName schema attribute class
 
 -- A rule may name an attribute that a mandatory package of its class has, and by which no object of the class, or of
 -- one that derives from it, can be named.
@@ -78,9 +82,10 @@ pub record IsOfRule (schema : Set) (class attribute : List ℕ) : Type 0 where
   pub has : HasAttribute schema class [] attribute
   pub plain : (below : List ℕ) → IsAbove schema below class → CanName schema attribute below → ⊥
 
--- the information or the reply of the action has the syntax of the attribute
+-- the information or the reply of the action has the syntax of the attribute, but for the values of DEFAULTs
 abbrev pub IsTyped : Set → Option TypeSyntax → List ℕ → Type 0
-IsTyped schema type attribute = (syntax : TypeSyntax) × (type ≡ Some syntax) × HasSyntax schema attribute syntax
+IsTyped schema type attribute = (syntax : TypeSyntax) × ((own : TypeSyntax) × (type ≡ Some syntax)
+    × HasSyntax schema attribute own × AreAlike syntax own)
 
 abbrev pub FitsType : Option TypeSyntax → TypedValue → Type 0
 FitsType type value = (syntax : TypeSyntax) × (type ≡ Some syntax) × Fits syntax value
@@ -100,7 +105,8 @@ IsWholeStep schema rule action (steps.Emit id information) =
     (notification : NoteRec) × Contains schema.notifications notification × (notification.id ≡ id)
     × IfSome information (FitsType notification.information)
 IsWholeStep schema rule action steps.ReplyArgument =
-    (syntax : TypeSyntax) × (action.information ≡ Some syntax) × (action.reply ≡ Some syntax)
+    (syntax : TypeSyntax) × ((other : TypeSyntax) × (action.information ≡ Some syntax)
+    × (action.reply ≡ Some other) × AreAlike syntax other)
 IsWholeStep schema rule action (steps.ReplyAttribute attribute) =
     IsOfRule schema rule.class attribute × IsTyped schema action.reply attribute
 IsWholeStep schema rule action (steps.ReplyValue value) = FitsType action.reply value
@@ -120,18 +126,12 @@ abbrev pub IsWholePart : Set → Rdn → Type 0
 IsWholePart schema part = (value : TypedValue) × ((template : AttrRec) × Contains schema.attributes template
     × (template.id ≡ part.attribute) × Fits template.syntax value × (part.value ≡ der template.syntax value))
 
--- a package that some class has is registered under the identifier
-abbrev pub IsPackage : Set → List ℕ → Type 0
-IsPackage schema id =
-    (of_class : ClassRec) × ((of_package : PackageRec) × Contains schema.classes of_class
-    × (Contains of_class.mandatory of_package ⊎ Contains of_class.conditional of_package)
-    × (of_package.id ≡ Some id))
-
+-- The packages that an instance chooses have a record only where some class has them; whether its own class has them is
+-- judged at the opening.
 pub record IsWholeInstance (schema : Set) (instance : InstRec) : Type 0 where
   pub class : IsClass schema instance.class
   pub name : All (IsWholePart schema) instance.name
   pub given : All (λ (held : Attribute). IsValueOf schema held.id held.value) instance.given
-  pub chosen : All (IsPackage schema) instance.chosen
 
 pub record IsWhole (schema : Set) : Type 0 where
   pub identifiers : AreOnce (identifiers_of schema)

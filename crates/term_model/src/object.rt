@@ -58,10 +58,11 @@ impl Attribute {
     }
 }
 
-/// The attributes of an object by rising identifier.
+/// Attributes with their values: those of an object by rising identifier, each once; those of an instance as they are
+/// stated.
 #[derive(Drop)]
 pub struct Attrs {
-    /// Each identifier once.
+    /// The attributes.
     pub items: Vec<Attribute>,
 }
 

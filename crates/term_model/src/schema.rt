@@ -80,9 +80,9 @@ pub struct InstRec {
     pub class: Oid,
     /// Its name relative to the root; empty for the root.
     pub name: Name,
-    /// Its values by rising identifier, the one by which it is named among them.
+    /// The values behind WITH, in their order; the one by which it is named only where it stands there too.
     pub given: Attrs,
-    /// The conditional packages that it has.
+    /// The packages behind PACKAGES; the opening judges whether they are conditional ones of its class.
     pub chosen: Oids,
 }
 
