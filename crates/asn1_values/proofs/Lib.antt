@@ -1,6 +1,6 @@
 pub mod ComponentLaws
 pub mod FilterLaws
-mod Fitting
+pub mod Fitting
 mod FittingParts
 mod StandardFacts
 pub mod UnorderedLaws

@@ -1,5 +1,5 @@
 -- PairLaws: what a pair of an instance states is whole: a part of a name, or a value of an attribute.
-use Rattle.std.specs.Prelude.{◌≡◌, ℕ, List}
+use Rattle.std.specs.Prelude.{ℕ, List}
 use Rattle.std.proofs.Common.{◌∙◌, ap}
 use Rattle.std.proofs.Math.Path.{subst}
 use Rattle.asn1_values_syntax.specs.ValueTrees.{value_tree}
@@ -17,25 +17,15 @@ use Rattle.asn1_names.specs.ModuleTerms.{ModuleTerm}
 use Rattle.asn1_leaf_values.specs.TextValues.{said}
 use Rattle.linked_parts.specs.declared.linked.Linked.{Linked}
 use Rattle.linked_parts.specs.declared.linked.LinkedPair.{LinkedPair}
-use Rattle.filled_syntaxes.specs.LinkedMeanings.{linked_arcs, linked_meaning}
+use Rattle.filled_syntaxes.specs.LinkedMeanings.{linked_arcs}
 use Rattle.filled_syntaxes.specs.SaidTexts.{DenotesValue}
-use Rattle.filled_syntaxes.proofs.FilledLaws.{has_once}
 use Rattle.class_faults.specs.AttributeSyntaxes.{AttributeHas}
-use Rattle.linked_types.proofs.AttributeLaws.{end_from_has, end_named, ends_somewhere}
+use Rattle.linked_types.proofs.SyntaxLaws.{one_syntax}
 use Rattle.schema_records.specs.MemberRecords.{AreRecords}
 use Rattle.sound_laws.specs.ShortDefaults.{ValuesFit}
 use Rattle.instance_records.specs.InstanceRecords.{IsGiven, IsPart}
 use Rattle.reference_laws.proofs.ReferenceLaws.{attribute_there}
 use Rattle.instance_laws.specs.ShortInstances.{IsShortPair}
-
--- an attribute has one syntax: that of the type that is named where its bases end
-one_syntax : (ms : List ModuleTerm) (linked : Linked) (k : ℕ) (one other : TypeSyntax) →
-    AttributeHas ms linked k one → AttributeHas ms linked k other → one ≡ other
-one_syntax ms linked k one other has also =
-    let somewhere = ends_somewhere ms linked has in
-    let end = end_named ms linked somewhere.1 in
-    has_once ms (linked_arcs linked) (linked_meaning ms end.name.meaning) (end_from_has ms linked end has somewhere.1)
-    (end_from_has ms linked end also somewhere.1)
 
 module _ (ms : List ModuleTerm) (linked : Linked) (schema : Set) (are : AreRecords ms linked schema)
     (fit : ValuesFit (linked_arcs linked))

@@ -1,5 +1,4 @@
 -- The lemmas of this crate.
-mod SyntaxLaws
 mod PlaceLaws
 mod PairLaws
 mod RootLaws

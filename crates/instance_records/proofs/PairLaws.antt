@@ -16,12 +16,12 @@ use Rattle.linked_parts.specs.declared.linked.LinkedPair.{LinkedPair}
 use Rattle.filled_syntaxes.specs.LinkedMeanings.{linked_arcs}
 use Rattle.filled_syntaxes.specs.SaidTexts.{DenotesValue}
 use Rattle.linked_types.specs.PartIdentifiers.{AreEach, IsAttributeId}
+use Rattle.linked_types.proofs.SyntaxLaws.{one_syntax}
 use Rattle.section_values.specs.RegisteredSections.{IsRegisteredAttribute}
 use Rattle.section_values.specs.SectionRecords.{IsPairValue}
 use Rattle.schema_records.specs.MemberRecords.{IsAttribute}
 use Rattle.instance_records.specs.InstanceRecords.{IsGiven, IsPart}
 use Rattle.instance_records.specs.KnownRecords.{TellsRecord}
-use Rattle.instance_records.proofs.SyntaxLaws.{one_syntax}
 
 -- the element of a second list at the place of one of the first
 pub each_at : {A B : Type 0} (Is : A → B → Type 0) (xs : List A) (ys : List B) (i : ℕ) (x : A) → AreEach Is xs ys →

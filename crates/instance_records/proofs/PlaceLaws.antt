@@ -4,7 +4,7 @@ use Rattle.std.proofs.Common.{◌⊎◌, drop, inl, inr, length, refl, sym}
 use Rattle.std.specs.Prelude.{IfSome, option_and_then, slice_get}
 use Rattle.std.proofs.Math.Path.{subst}
 use Rattle.std.proofs.lemmas.List.{length-append}
-use Rattle.std.proofs.lemmas.Option.{none-some, same_Some, slice_get_past, slice_get_within}
+use Rattle.std.proofs.lemmas.Option.{none-some, same_Some, slice_get_within}
 use Rattle.term_model.specs.declared.schema.AttrRec.{AttrRec}
 use Rattle.asn1_names.specs.ModuleTerms.{ModuleTerm}
 use Rattle.linked_parts.specs.declared.linked.Linked.{Linked}
@@ -148,15 +148,3 @@ module _ (ms : List ModuleTerm) (linked : Linked) (records : List AttrRec) where
     size = let size = before.size in omega (arith, size, past);
     told = before.told;
   }
-
-  -- the record that is found through the places
-  pub record_told : (places : List (Option ℕ)) → ArePlaces ms linked records places → (k : ℕ) →
-      TellsRecord ms linked k (option_and_then (record_at records) (slice_get places k))
-  record_told places known k = by (slice_get places k) refl
-    where
-      by : (o : Option (Option ℕ)) → slice_get places k ≡ o →
-          TellsRecord ms linked k (option_and_then (record_at records) o)
-      by (Some place) at = known.told k place at
-      by None at = ap (option_and_then (λ (x : LinkedAttribute). x.head.identifier))
-          (slice_get_past linked.attributes.items k (let size = known.size in let past = none_past places k at in
-          omega (arith, size, past)))

@@ -1,9 +1,8 @@
 -- RootLaws: the first element that passes a test, as a loop looks for it.
-use Rattle.std.proofs.Common.{◌≡◌, ◌≤◌, ◌∙◌, ◌+◌, ◌∷◌, [], ℕ, suc, zero, List, Option, None, Some, ap, length}
+use Rattle.std.proofs.Common.{◌≡◌, ◌∙◌, ◌+◌, ◌∷◌, [], ℕ, suc, zero, List, Option, None, Some, ap}
 use Rattle.std.proofs.Common.{Bool, cond, false, refl, sym, take, true}
 use Rattle.std.specs.Prelude.{find, slice_get}
 use Rattle.std.specs.Option.{option_or}
-use Rattle.std.proofs.lemmas.List.{take_all}
 use Rattle.std.proofs.lemmas.List.Folds.{find-append}
 use Rattle.std.proofs.lemmas.Option.{none-some, same_Some}
 use Rattle.schema_records.proofs.EachLaws.{take_one}
@@ -26,7 +25,3 @@ pub none_further : {A : Type 0} (p : A → Bool) (xs : List A) (i : ℕ) (x : A)
     slice_get xs i ≡ Some x → p x ≡ false → find p (take (i + 1) xs) ≡ None
 none_further p xs i x none at fails = ap (find p) (take_one xs i x at) ∙ find-append p (take i xs) (x ∷ [])
     ∙ ap (λ o. option_or o (find p (x ∷ []))) none ∙ ap (λ b. cond b (Some x) None) fails
-
-pub none_whole : {A : Type 0} (p : A → Bool) (xs : List A) (i : ℕ) → length xs ≤ i → find p (take i xs) ≡ None →
-    find p xs ≡ None
-none_whole p xs i past none = sym (ap (find p) (take_all i xs past)) ∙ none

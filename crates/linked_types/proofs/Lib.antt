@@ -5,3 +5,4 @@ pub mod TableLaws
 pub mod AttributeLaws
 pub mod RuleLaws
 pub mod NamingLaws
+pub mod SyntaxLaws

@@ -1,7 +1,7 @@
--- ClassKinds: all templates of documents, those in line too, are registered where their kind always is (X.722, section
--- 8).
+-- ClassKinds: all templates of documents, those in line too, are those of texts, and registered where their kind always
+-- is (X.722, section 8).
 use Rattle.std.proofs.Common.{ℕ, List, [], ◌∷◌, Option, None, Some, refl, sym, map, subst}
-use Rattle.std.specs.Prelude.{All, flat_map}
+use Rattle.std.specs.Prelude.{All, Contains, flat_map}
 use Rattle.std.specs.declared.alloc.Global.{Global}
 use Rattle.std.specs.declared.vec.Vec.{Vec}
 use Rattle.std.proofs.lemmas.Grind.{flat_map-append}
@@ -47,11 +47,11 @@ use Rattle.gdmo_names.specs.PartTerms.{Placed}
 use Rattle.gdmo_names.specs.PartViews.{class_placed, member_placed, part_terms}
 use Rattle.gdmo_names.specs.TemplateTerms.{ReferenceTerm, ReferenceTerms, TemplateTerm}
 use Rattle.gdmo_names.specs.declared.parsed.Parsed.{Parsed}
-use Rattle.registered_laws.specs.RegisteredKinds.{AreRegisteredKinds, IsRegisteredKind}
-use Rattle.registered_laws.proofs.MemberKinds.{AreOfKinds, action_kinds, behaviours_kinds, both_kinds, clause_kinds}
-use Rattle.registered_laws.proofs.MemberKinds.{group_kinds, member_kinds, no_template, notification_kinds}
-use Rattle.registered_laws.proofs.MemberKinds.{one_attribute}
-use Rattle.registered_laws.proofs.MemberKinds.{one_behaviour, one_parameter, other_first, own_first, row_kinds}
+use Rattle.registered_laws.specs.RegisteredKinds.{AreRegisteredKinds}
+use Rattle.registered_laws.proofs.MemberKinds.{AreOfKinds, IsOfText, action_kinds, behaviours_kinds, both_kinds}
+use Rattle.registered_laws.proofs.MemberKinds.{clause_kinds, group_kinds, is_registered, member_kinds, no_template}
+use Rattle.registered_laws.proofs.MemberKinds.{notification_kinds, one_attribute, one_behaviour, one_parameter}
+use Rattle.registered_laws.proofs.MemberKinds.{other_first, own_first, row_kinds}
 
 -- ---- packages
 
@@ -127,7 +127,7 @@ one_conditional x = one_package x.package
 mutual
   one_class : (x : ClassReference) → AreOfKinds (in_reference (class_reference x))
   one_class (CLabel x) = no_template
-  one_class (CTemplate place document label superclasses packages conditional registration) = own_first _ _ _
+  one_class (CTemplate place document label superclasses packages conditional registration) = own_first _ _ _ refl
       (both_kinds (held_kinds superclasses) (both_kinds (clause_kinds package_reference one_package packages)
       (clause_kinds conditional_reference one_conditional conditional)))
 
@@ -140,7 +140,7 @@ mutual
   held_kinds (Some' shape row) = row_of_kinds row
 
 class_kinds : (x : ObjectClassTemplate) → AreOfKinds (in_template (class_term x))
-class_kinds x = own_first _ _ _ (both_kinds (clause_kinds class_reference one_class x.superclasses)
+class_kinds x = own_first _ _ _ refl (both_kinds (clause_kinds class_reference one_class x.superclasses)
     (both_kinds (clause_kinds package_reference one_package x.packages)
     (clause_kinds conditional_reference one_conditional x.conditional)))
 
@@ -155,9 +155,9 @@ deletion_kinds None = no_template
 deletion_kinds (Some x) = parameter_row x.parameters
 
 binding_kinds : (x : NameBindingTemplate) → AreOfKinds (in_template (binding_term x))
-binding_kinds x = own_first _ _ _ (both_kinds (one_class x.subordinate.class) (both_kinds (one_class x.superior.class)
-    (both_kinds (one_attribute x.attribute) (both_kinds (behaviours_kinds x.behaviour)
-    (both_kinds (creation_kinds x.create) (deletion_kinds x.delete))))))
+binding_kinds x = own_first _ _ _ refl (both_kinds (one_class x.subordinate.class)
+    (both_kinds (one_class x.superior.class) (both_kinds (one_attribute x.attribute)
+    (both_kinds (behaviours_kinds x.behaviour) (both_kinds (creation_kinds x.create) (deletion_kinds x.delete))))))
 
 level_kinds : (x : ClassTemplate) → AreOfKinds (in_template (class_placed x).template)
 level_kinds (Package x) = package_kinds x
@@ -167,15 +167,15 @@ level_kinds (NameBinding x) = binding_kinds x
 -- ---- all templates of documents
 
 IsPlacedKind : Placed → Type 0
-IsPlacedKind x = IsRegisteredKind x.template
+IsPlacedKind x = IsOfText x.template
 
-all_placed : (n : ℕ) (xs : List TemplateTerm) → All IsRegisteredKind xs →
+all_placed : (n : ℕ) (xs : List TemplateTerm) → All IsOfText xs →
     All IsPlacedKind (map (λ (t : TemplateTerm). record { document = n; template = t }) xs)
 unfolding IsPlacedKind
 all_placed n [] all = All-nil IsPlacedKind
 all_placed n (x ∷ xs) all = All-cons IsPlacedKind (record { document = n; template = x })
-    (map (λ (t : TemplateTerm). record { document = n; template = t }) xs) (All-head IsRegisteredKind x xs all)
-    (all_placed n xs (All-tail IsRegisteredKind x xs all))
+    (map (λ (t : TemplateTerm). record { document = n; template = t }) xs) (All-head IsOfText x xs all)
+    (all_placed n xs (All-tail IsOfText x xs all))
 
 classes_placed : (xs : List ClassTemplate) → All IsPlacedKind (flat_map placed_templates (map class_placed xs))
 classes_placed [] = All-nil IsPlacedKind
@@ -191,12 +191,16 @@ members_placed (x ∷ xs) = All-append IsPlacedKind (placed_templates (member_pl
     (all_placed (member_placed x).document (in_template (member_placed x).template) (member_kinds x).all)
     (members_placed xs)
 
-pub registered_kinds : (parts : Parsed) → AreRegisteredKinds (part_terms parts)
+-- each template of documents is that of a text
+pub all_of_texts : (parts : Parsed) (by : Placed) → Contains (templates (part_terms parts)) by → IsOfText by.template
 unfolding IsPlacedKind templates
-registered_kinds parts by stands =
+all_of_texts parts by stands =
     let classes = map class_placed parts.classes.items in
     let members = map member_placed parts.members.items in
     let both = All-append IsPlacedKind (flat_map placed_templates classes) (flat_map placed_templates members)
     (classes_placed parts.classes.items) (members_placed parts.members.items) in
     let all = subst (All IsPlacedKind) (sym (flat_map-append placed_templates classes members)) both in
     All-contains IsPlacedKind (templates (part_terms parts)) by all stands
+
+pub registered_kinds : (parts : Parsed) → AreRegisteredKinds (part_terms parts)
+registered_kinds parts by stands = is_registered by.template (all_of_texts parts by stands)

@@ -1,14 +1,14 @@
 -- The lemmas of this crate.
 pub mod TableLaws
-mod MemberKinds
-mod ClassKinds
+pub mod MemberKinds
+pub mod ClassKinds
 mod MentionLaws
 mod PartPlaces
 mod PackageLaws
 mod MemberLaws
 mod PartLaws
 mod LedLaws
-mod StandingLaws
+pub mod StandingLaws
 mod RuleLaws
 mod TemplateBraces
 mod MemberBraces

@@ -1,7 +1,7 @@
--- MemberKinds: attributes, parameters, groups, actions and notifications, and what stands in line in them, are
--- registered where their kind always is (X.722, sections 8.5 and 8.7 to 8.11).
+-- MemberKinds: the templates of attributes, parameters, groups, actions and notifications, and those in line in them,
+-- are those of texts, and registered where their kind always is (X.722, sections 8.5 and 8.7 to 8.11).
 use Rattle.std.proofs.Common.{◌≡◌, List, [], ◌∷◌, ◌++◌, Option, None, Some, refl, sym, ◌∙◌}
-use Rattle.std.specs.Prelude.{All, false}
+use Rattle.std.specs.Prelude.{All, Bool, false, true}
 use Rattle.std.specs.declared.alloc.Global.{Global}
 use Rattle.std.specs.declared.vec.Vec.{Vec}
 use Rattle.std.proofs.lemmas.Bool.{false≢true}
@@ -37,38 +37,58 @@ use Rattle.gdmo_members.specs.declared.parameter.ParameterTemplate.{ParameterTem
 use Rattle.gdmo_names.specs.DocumentTemplates.{in_body, in_fields, in_reference, in_references, in_syntax, in_template}
 use Rattle.gdmo_names.specs.MemberViews.{action_term, attribute_reference, attribute_syntax_term, attribute_term}
 use Rattle.gdmo_names.specs.MemberViews.{behaviour_reference, behaviour_term, behaviour_terms, clause_terms}
-use Rattle.gdmo_names.specs.MemberViews.{field_terms, fields_of, group_term, held_terms, information_fields}
-use Rattle.gdmo_names.specs.MemberViews.{notification_term, parameter_reference, parameter_syntax_term, parameter_term}
-use Rattle.gdmo_names.specs.MemberViews.{reference_terms, row_terms}
-use Rattle.gdmo_names.specs.PartTerms.{kind_of_body}
+use Rattle.gdmo_names.specs.MemberViews.{field_terms, fields_of, group_term, held_terms, identifier_term}
+use Rattle.gdmo_names.specs.MemberViews.{information_fields, notification_term, parameter_reference}
+use Rattle.gdmo_names.specs.MemberViews.{parameter_syntax_term, parameter_term, reference_terms, row_terms}
+use Rattle.gdmo_names.specs.PartTerms.{body_of, kind_of_body}
 use Rattle.gdmo_names.specs.PartViews.{member_placed}
 use Rattle.gdmo_names.specs.TemplateTerms.{BodyTerm, IdentifierTerm, ReferenceTerm, TemplateTerm}
+use Rattle.gdmo_names.specs.TemplateTerms.BodyTerm.{NotificationBody}
 use Rattle.gdmo_names.specs.TemplateTerms.TemplateTerm.{Template}
 use Rattle.registered_laws.specs.RegisteredKinds.{IsRegisteredKind, is_always_registered}
 
+abbrev pub is_notification : BodyTerm → Bool
+is_notification (NotificationBody _ _ _ _ _) = true
+is_notification _ = false
+
+-- what the template of a text is: one of a kind that need not be registered, one that is registered and no
+-- notification, or that of a notification's text
+pub data IsOfText : TemplateTerm → Type 0 where
+  of_other_kind : (label : Token) (identifier : Option IdentifierTerm) (body : BodyTerm) →
+      is_always_registered (kind_of_body body) ≡ false → IsOfText (Template label identifier body)
+  of_registered : (label : Token) (own : IdentifierTerm) (body : BodyTerm) → is_notification body ≡ false →
+      IsOfText (Template label (Some own) body)
+  of_notification : (x : NotificationTemplate) → IsOfText (notification_term x)
+
+pub is_registered : (x : TemplateTerm) → IsOfText x → IsRegisteredKind x
+is_registered _ (of_other_kind label identifier body other) always = absurd (false≢true (sym other ∙ always))
+is_registered _ (of_registered label own body other) always = (own, refl)
+is_registered _ (of_notification x) always = (identifier_term x.registration, refl)
+
 pub record AreOfKinds (xs : List TemplateTerm) : Type 0 where
-  pub all : All IsRegisteredKind xs
+  pub all : All IsOfText xs
 
 pub no_template : AreOfKinds []
-no_template = record { all = All-nil IsRegisteredKind }
+no_template = record { all = All-nil IsOfText }
 
 pub both_kinds : {xs ys : List TemplateTerm} → AreOfKinds xs → AreOfKinds ys → AreOfKinds (xs ++ ys)
-both_kinds {xs} {ys} one two = record { all = All-append IsRegisteredKind xs ys one.all two.all }
+both_kinds {xs} {ys} one two = record { all = All-append IsOfText xs ys one.all two.all }
 
 -- a template of another kind, before those in line in it
 pub other_first : (label : Token) (identifier : Option IdentifierTerm) (body : BodyTerm) →
     is_always_registered (kind_of_body body) ≡ false → AreOfKinds (in_body body) →
     AreOfKinds (in_template (Template label identifier body))
 other_first label identifier body other others = record {
-  all = All-cons IsRegisteredKind (Template label identifier body) (in_body body)
-      (λ always. absurd (false≢true (sym other ∙ always))) others.all;
+  all = All-cons IsOfText (Template label identifier body) (in_body body)
+      (of_other_kind label identifier body other) others.all;
 }
 
 -- a template that is registered
-pub own_first : (label : Token) (own : IdentifierTerm) (body : BodyTerm) → AreOfKinds (in_body body) →
-    AreOfKinds (in_template (Template label (Some own) body))
-own_first label own body others = record {
-  all = All-cons IsRegisteredKind (Template label (Some own) body) (in_body body) (λ always. (own, refl)) others.all;
+pub own_first : (label : Token) (own : IdentifierTerm) (body : BodyTerm) → is_notification body ≡ false →
+    AreOfKinds (in_body body) → AreOfKinds (in_template (Template label (Some own) body))
+own_first label own body other others = record {
+  all = All-cons IsOfText (Template label (Some own) body) (in_body body) (of_registered label own body other)
+      others.all;
 }
 
 -- references in a row
@@ -140,10 +160,10 @@ parameter_kinds x =
 -- ---- groups, actions and notifications
 
 pub group_kinds : (x : GroupTemplate) → AreOfKinds (in_template (group_term x))
-group_kinds x = own_first _ _ _ (clause_kinds attribute_reference one_attribute x.elements)
+group_kinds x = own_first _ _ _ refl (clause_kinds attribute_reference one_attribute x.elements)
 
 pub action_kinds : (x : ActionTemplate) → AreOfKinds (in_template (action_term x))
-action_kinds x = own_first _ _ _ (both_kinds (behaviours_kinds x.behaviour) (parameters_kinds x.parameters))
+action_kinds x = own_first _ _ _ refl (both_kinds (behaviours_kinds x.behaviour) (parameters_kinds x.parameters))
 
 fields_kinds : (xs : List Field) → AreOfKinds (in_fields (field_terms xs))
 fields_kinds [] = no_template
@@ -158,8 +178,13 @@ information_kinds None = no_template
 information_kinds (Some x) = clause_fields x.fields
 
 pub notification_kinds : (x : NotificationTemplate) → AreOfKinds (in_template (notification_term x))
-notification_kinds x = own_first _ _ _ (both_kinds (behaviours_kinds x.behaviour)
-    (both_kinds (parameters_kinds x.parameters) (information_kinds x.information)))
+notification_kinds x =
+    let others = both_kinds (behaviours_kinds x.behaviour)
+    (both_kinds (parameters_kinds x.parameters) (information_kinds x.information)) in
+    record {
+      all = All-cons IsOfText (notification_term x) (in_body (body_of (notification_term x))) (of_notification x)
+          others.all;
+    }
 
 pub member_kinds : (x : MemberTemplate) → AreOfKinds (in_template (member_placed x).template)
 member_kinds (Behaviour x) = behaviour_kinds x

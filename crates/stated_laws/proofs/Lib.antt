@@ -1,9 +1,9 @@
 -- The lemmas of this crate.
 pub mod DecidingLaws
 mod BoundLaws
-mod ListLaws
+pub mod ListLaws
 pub mod UseLaws
-mod TemplateLaws
+pub mod TemplateLaws
 mod RecordLaws
 mod PropertyLaws
 mod JoinedLaws

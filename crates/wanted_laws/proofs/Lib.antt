@@ -1,8 +1,8 @@
 -- The lemmas of this crate.
-mod MeaningLaws
+pub mod MeaningLaws
 mod SortLaws
 mod TableLaws
 mod TemplateLaws
-mod WantedLaws
+pub mod WantedLaws
 mod InstanceLaws
 pub mod DocumentLaws

@@ -1,4 +1,4 @@
--- SyntaxLaws: an attribute has one syntax.
+-- SyntaxLaws: an attribute has one syntax (X.722, section 8.7).
 use Rattle.std.proofs.Common.{◌≡◌, ℕ, List}
 use Rattle.term_values.specs.Syntaxes.{TypeSyntax}
 use Rattle.asn1_names.specs.ModuleTerms.{ModuleTerm}
