@@ -1,0 +1,2 @@
+-- The definitions that the lemmas of this crate cite.
+pub mod NamedAttributes
