@@ -1,0 +1,3 @@
+-- The lemmas of this crate.
+mod ClassLaws
+pub mod WholeLaws
