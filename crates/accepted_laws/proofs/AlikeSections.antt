@@ -14,16 +14,16 @@ use Rattle.linked_parts.specs.declared.linked.LinkedPair.{LinkedPair}
 use Rattle.linked_parts.specs.declared.linked.LinkedRule.{LinkedRule}
 use Rattle.linked_parts.specs.declared.linked.LinkedStep.{LinkedStep}
 use Rattle.linked_parts.specs.declared.linked.LinkedStep.TheVariants.{Add, Emit, ReplyAttribute, SetArgument}
-use Rattle.linked_sections.specs.LinkedSections.{IsInstance, IsPair, IsRule, IsStep, add, emit, reply_argument}
-use Rattle.linked_sections.specs.LinkedSections.{reply_attribute, reply_value, reply_word, set_argument, set_value}
-use Rattle.linked_sections.specs.LinkedSections.{set_word}
+use Rattle.linked_sections.specs.LinkedSections.{IsChosen, IsInstance, IsPair, IsRule, IsStep, add, emit}
+use Rattle.linked_sections.specs.LinkedSections.{reply_argument, reply_attribute, reply_value, reply_word}
+use Rattle.linked_sections.specs.LinkedSections.{set_argument, set_value, set_word}
 use Rattle.linked_documents.specs.LinkedParts.{AreLinkedParts}
-use Rattle.accepted_laws.specs.AlikeParts.{ActionsAlike, AreAlike, AttributesAlike, ClassesAlike, InstancesAlike}
-use Rattle.accepted_laws.specs.AlikeParts.{NotificationsAlike, PackagesAlike, PairsAlike, RulesAlike, StepsAlike}
-use Rattle.accepted_laws.specs.AlikeParts.{two_emissions, two_equal, two_replies, two_values}
-use Rattle.accepted_laws.proofs.AlikeTemplates.{actions_alike, attributes_alike, classes_alike, each_alike}
-use Rattle.accepted_laws.proofs.AlikeTemplates.{notifications_alike}
-use Rattle.accepted_laws.proofs.AlikeTemplates.{packages_alike}
+use Rattle.accepted_laws.specs.AlikeParts.{ActionsAlike, AreAlike, AttributesAlike, BindingsAlike, ClassesAlike}
+use Rattle.accepted_laws.specs.AlikeParts.{GroupsAlike, InstancesAlike, NotificationsAlike, PackagesAlike, PairsAlike}
+use Rattle.accepted_laws.specs.AlikeParts.{RulesAlike, StepsAlike, two_emissions, two_equal, two_replies, two_values}
+use Rattle.accepted_laws.proofs.AlikeMembers.{actions_alike, attributes_alike, bindings_alike, groups_alike}
+use Rattle.accepted_laws.proofs.AlikeMembers.{notifications_alike}
+use Rattle.accepted_laws.proofs.AlikeTemplates.{classes_alike, each_alike, each_equal, packages_alike}
 use Rattle.accepted_laws.proofs.FirstNameLaws.{arcs_determined}
 use Rattle.accepted_laws.proofs.LinkLaws.{one_link}
 use Rattle.accepted_laws.proofs.StepValues.{one_tree}
@@ -65,6 +65,7 @@ module _ (parts : PartTerms) (apart : ArePlacedApart parts) where
       RulesAlike one other
   rules_alike x one other is too = record {
     document = is.document ∙ sym too.document;
+    class = one_link parts apart is.is_class too.is_class;
     action = one_link parts apart is.is_action too.is_action;
     steps = each_alike (IsStep parts x) StepsAlike steps_alike x.steps one.steps.items other.steps.items is.steps_are
         too.steps_are;
@@ -82,8 +83,12 @@ module _ (parts : PartTerms) (apart : ArePlacedApart parts) where
       IsInstance parts x other → InstancesAlike one other
   instances_alike x one other is too = record {
     document = is.document ∙ sym too.document;
+    is_root = is.is_root ∙ sym too.is_root;
+    class = one_link parts apart is.is_class too.is_class;
     name = each_alike _ PairsAlike pairs_alike x.name one.name.items other.name.items is.name_is too.name_is;
     given = each_alike _ PairsAlike pairs_alike x.given one.given.items other.given.items is.given_are too.given_are;
+    packages = each_equal (IsChosen parts x.document) (λ label j k one other. one_link parts apart one other)
+        x.packages one.packages.items other.packages.items is.packages_are too.packages_are;
   }
 
   pub linked_alike : (linked other : Linked) → AreLinkedParts parts linked → AreLinkedParts parts other →
@@ -94,8 +99,12 @@ module _ (parts : PartTerms) (apart : ArePlacedApart parts) where
         is.tables.classes too.tables.classes;
     packages = each_alike _ PackagesAlike (packages_alike parts apart) _ linked.packages.items other.packages.items
         is.tables.packages too.tables.packages;
+    bindings = each_alike _ BindingsAlike (bindings_alike parts apart) _ linked.bindings.items other.bindings.items
+        is.tables.bindings too.tables.bindings;
     attributes = each_alike _ AttributesAlike (attributes_alike parts apart) _ linked.attributes.items
         other.attributes.items is.tables.attributes too.tables.attributes;
+    groups = each_alike _ GroupsAlike (groups_alike parts apart) _ linked.groups.items other.groups.items
+        is.tables.groups too.tables.groups;
     actions = each_alike _ ActionsAlike (actions_alike parts apart) _ linked.actions.items other.actions.items
         is.tables.actions too.tables.actions;
     notifications = each_alike _ NotificationsAlike (notifications_alike parts apart) _ linked.notifications.items

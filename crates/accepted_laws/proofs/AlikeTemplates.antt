@@ -1,33 +1,26 @@
--- AlikeTemplates: the linked classes, packages, attributes, actions and notifications of one set of documents are alike
--- (X.722, section 8; docs/PROFILE.md, sections 12 and 18).
-use Rattle.std.proofs.Common.{◌≡◌, ℕ, List, [], ◌∷◌, refl, sym, ◌∙◌, ap}
+-- AlikeTemplates: the heads of linked templates of one set of documents, and its linked classes and packages, are alike
+-- (X.722, sections 8.3 and 8.4; docs/PROFILE.md, sections 12 and 18).
+use Rattle.std.proofs.Common.{◌≡◌, ℕ, List, [], ◌∷◌, refl, sym, ◌∙◌}
 use Rattle.gdmo_names.specs.InStep.{AreEach}
-use Rattle.gdmo_names.specs.PartTerms.{Placed, PartTerms}
-use Rattle.gdmo_names.specs.PartTerms.{body_of}
+use Rattle.gdmo_names.specs.Mentions.{Role}
+use Rattle.gdmo_names.specs.PartTerms.{Placed, PartTerms, body_of, identifier_of}
 use Rattle.gdmo_names.specs.TargetTables.{ArePlacedApart}
-use Rattle.gdmo_names.specs.TemplateTerms.{BodyTerm, SyntaxTerm, UseTerms}
+use Rattle.gdmo_names.specs.TemplateTerms.{BodyTerm, RowTerms, UseTerms}
 use Rattle.gdmo_names.specs.TemplateTerms.BodyTerm.{ActionBody, AttributeBody, BehaviourBody, BindingBody, ClassBody}
 use Rattle.gdmo_names.specs.TemplateTerms.BodyTerm.{GroupBody, NotificationBody, PackageBody, ParameterBody}
-use Rattle.gdmo_names.specs.TemplateTerms.SyntaxTerm.{OfAttribute, OfType}
+use Rattle.gdmo_names.specs.TemplateTerms.RowTerms.{NoRows, Row}
 use Rattle.gdmo_names.specs.TemplateTerms.UseTerms.{NoUses, Use}
 use Rattle.gdmo_linking.specs.LinkedNames.{IsHead}
-use Rattle.linked_parts.specs.declared.linked.LinkedAction.{LinkedAction}
-use Rattle.linked_parts.specs.declared.linked.LinkedAttribute.{LinkedAttribute}
 use Rattle.linked_parts.specs.declared.linked.LinkedClass.{LinkedClass}
+use Rattle.linked_parts.specs.declared.linked.LinkedGroupUse.{LinkedGroupUse}
 use Rattle.linked_parts.specs.declared.linked.LinkedHead.{LinkedHead}
-use Rattle.linked_parts.specs.declared.linked.LinkedNotification.{LinkedNotification}
 use Rattle.linked_parts.specs.declared.linked.LinkedPackage.{LinkedPackage}
-use Rattle.linked_parts.specs.declared.linked.LinkedSyntax.{LinkedSyntax}
-use Rattle.linked_parts.specs.declared.linked.LinkedSyntax.TheVariants.{OfAttribute as LinkedBase, OfType as LinkedType}
 use Rattle.linked_parts.specs.declared.linked.LinkedUse.{LinkedUse}
-use Rattle.linked_packages.specs.LinkedPackages.{AreUses, IsPackageOf, IsUse}
-use Rattle.linked_templates.specs.LinkedMembers.{IsActionOf, IsAttributeOf, IsNotificationOf, IsSyntax}
+use Rattle.linked_packages.specs.LinkedPackages.{AreGroupUses, AreRows, AreUses, IsPackageOf, IsUse}
 use Rattle.linked_templates.specs.LinkedTemplates.{IsClassOf}
 use Rattle.linked_templates.specs.TemplateTables.{IsTemplate}
-use Rattle.linked_sections.specs.LinkedSections.{add}
-use Rattle.accepted_laws.specs.AlikeParts.{ActionsAlike, AttributesAlike, ClassesAlike, HeadsAlike, NotificationsAlike}
-use Rattle.accepted_laws.specs.AlikeParts.{PackagesAlike}
-use Rattle.accepted_laws.proofs.LinkLaws.{one_link, one_name, one_optional, one_row}
+use Rattle.accepted_laws.specs.AlikeParts.{ClassesAlike, GroupUsesAlike, HeadsAlike, PackagesAlike}
+use Rattle.accepted_laws.proofs.LinkLaws.{one_identifier, one_link, one_optional, one_row}
 
 -- ---- two lists that tell one list
 
@@ -42,11 +35,31 @@ each_alike is alike step (x ∷ xs) (y ∷ ys) [] one other = absurd other
 each_alike is alike step (x ∷ xs) (y ∷ ys) (z ∷ zs) one other =
     (step x y z one.0 other.0, each_alike is alike step xs ys zs one.1 other.1)
 
--- ---- linked templates of one set of documents
+pub each_equal : {A B : Type 0} (is : A → B → Type 0) → ((x : A) (y z : B) → is x y → is x z → y ≡ z) →
+    (xs : List A) (ys zs : List B) → AreEach is xs ys → AreEach is xs zs → ys ≡ zs
+each_equal is step [] [] [] one other = refl
+each_equal is step [] [] (z ∷ zs) one other = absurd other
+each_equal is step [] (y ∷ ys) zs one other = absurd one
+each_equal is step (x ∷ xs) [] zs one other = absurd one
+each_equal is step (x ∷ xs) (y ∷ ys) [] one other = absurd other
+each_equal is step (x ∷ xs) (y ∷ ys) (z ∷ zs) one other =
+    let first = step x y z one.0 other.0 in
+    let behind = each_equal is step xs ys zs one.1 other.1 in
+    λ i. first i ∷ behind i
+
+-- ---- heads
+
+pub heads_alike : (parts : PartTerms) {x : Placed} {one other : LinkedHead} → IsHead parts x one →
+    IsHead parts x other → HeadsAlike one other
+heads_alike parts {x} {one} {other} is too = record {
+  document = is.document ∙ sym too.document;
+  label = is.label ∙ sym too.label;
+  identifier = one_identifier parts (identifier_of x.template) one.identifier other.identifier is.identifier
+      too.identifier;
+}
 
 module _ (parts : PartTerms) (apart : ArePlacedApart parts) where
-  heads_alike : {x : Placed} {one other : LinkedHead} → IsHead parts x one → IsHead parts x other → HeadsAlike one other
-  heads_alike is too = record { document = is.document ∙ sym too.document; label = is.label ∙ sym too.label }
+  -- ---- classes
 
   pub classes_alike : (x : Placed) (one other : LinkedClass) → IsTemplate parts (λ y. y.head) (IsClassOf parts) x one →
       IsTemplate parts (λ y. y.head) (IsClassOf parts) x other → ClassesAlike one other
@@ -55,7 +68,7 @@ module _ (parts : PartTerms) (apart : ArePlacedApart parts) where
       by : (body : BodyTerm) → IsClassOf parts x.document body one → IsClassOf parts x.document body other →
           ClassesAlike one other
       by (ClassBody _ _ _) a b = record {
-        head = heads_alike is.0 too.0;
+        head = heads_alike parts is.0 too.0;
         superclasses = one_row parts apart a.superclasses_are b.superclasses_are;
         mandatory = one_row parts apart a.mandatory_are b.mandatory_are;
         conditional = one_row parts apart a.conditional_are b.conditional_are;
@@ -68,6 +81,8 @@ module _ (parts : PartTerms) (apart : ArePlacedApart parts) where
       by BehaviourBody a b = absurd a
       by (ActionBody _ _ _ _ _) a b = absurd a
       by (NotificationBody _ _ _ _ _) a b = absurd a
+
+  -- ---- packages
 
   -- attributes of a package
   uses_equal : {document : ℕ} {attribute : _} {default initial : _} {permitted required : _} {words : _}
@@ -111,6 +126,32 @@ module _ (parts : PartTerms) (apart : ArePlacedApart parts) where
       let behind = use_lists_equal document rest xs ys one.1 other.1 in
       λ i. first i ∷ behind i
 
+  -- groups of a package
+  group_uses_alike : (document : ℕ) (rows : RowTerms) (xs ys : List LinkedGroupUse) →
+      AreGroupUses parts document rows xs → AreGroupUses parts document rows ys → AreEach GroupUsesAlike xs ys
+  group_uses_alike document NoRows [] [] one other = tt
+  group_uses_alike document NoRows [] (y ∷ ys) one other = absurd other
+  group_uses_alike document NoRows (x ∷ xs) ys one other = absurd one
+  group_uses_alike document (Row _ _ _) [] ys one other = absurd one
+  group_uses_alike document (Row _ _ _) (x ∷ xs) [] one other = absurd other
+  group_uses_alike document (Row _ _ rest) (x ∷ xs) (y ∷ ys) one other = (
+    record { group = one_link parts apart one.0 other.0; added = one_row parts apart one.1 other.1 },
+    group_uses_alike document rest xs ys one.2 other.2,
+  )
+
+  -- actions, or notifications, of a package
+  rows_equal : (document : ℕ) (role : Role) (rows : RowTerms) (js ks : List ℕ) →
+      AreRows parts document role rows js → AreRows parts document role rows ks → js ≡ ks
+  rows_equal document role NoRows [] [] one other = refl
+  rows_equal document role NoRows [] (k ∷ ks) one other = absurd other
+  rows_equal document role NoRows (j ∷ js) ks one other = absurd one
+  rows_equal document role (Row _ _ _) [] ks one other = absurd one
+  rows_equal document role (Row _ _ _) (j ∷ js) [] one other = absurd other
+  rows_equal document role (Row _ _ rest) (j ∷ js) (k ∷ ks) one other =
+      let first = one_link parts apart one.0 other.0 in
+      let behind = rows_equal document role rest js ks one.1 other.1 in
+      λ i. first i ∷ behind i
+
   pub packages_alike : (x : Placed) (one other : LinkedPackage) →
       IsTemplate parts (λ y. y.head) (IsPackageOf parts) x one →
       IsTemplate parts (λ y. y.head) (IsPackageOf parts) x other → PackagesAlike one other
@@ -118,10 +159,14 @@ module _ (parts : PartTerms) (apart : ArePlacedApart parts) where
     where
       by : (body : BodyTerm) → IsPackageOf parts x.document body one → IsPackageOf parts x.document body other →
           PackagesAlike one other
-      by (PackageBody _ uses _ _ _) a b = record {
-        head = heads_alike is.0 too.0;
+      by (PackageBody _ uses groups actions notifications) a b = record {
+        head = heads_alike parts is.0 too.0;
         attributes = use_lists_equal x.document uses one.attributes.items other.attributes.items a.attributes_are
             b.attributes_are;
+        groups = group_uses_alike x.document groups one.groups.items other.groups.items a.groups_are b.groups_are;
+        actions = rows_equal x.document _ actions one.actions.items other.actions.items a.actions_are b.actions_are;
+        notifications = rows_equal x.document _ notifications one.notifications.items other.notifications.items
+            a.notifications_are b.notifications_are;
       }
       by (ClassBody _ _ _) a b = absurd a
       by (ParameterBody _ _) a b = absurd a
@@ -131,70 +176,3 @@ module _ (parts : PartTerms) (apart : ArePlacedApart parts) where
       by BehaviourBody a b = absurd a
       by (ActionBody _ _ _ _ _) a b = absurd a
       by (NotificationBody _ _ _ _ _) a b = absurd a
-
-  -- attributes
-  syntaxes_equal : (document : ℕ) (syntax : SyntaxTerm) (x y : LinkedSyntax) → IsSyntax parts document syntax x →
-      IsSyntax parts document syntax y → x ≡ y
-  syntaxes_equal document (OfType _) (LinkedType x) (LinkedType y) one other = ap LinkedType (one_name one other)
-  syntaxes_equal document (OfType _) (LinkedType _) (LinkedBase _) one other = absurd other
-  syntaxes_equal document (OfType _) (LinkedBase _) y one other = absurd one
-  syntaxes_equal document (OfAttribute _) (LinkedType _) y one other = absurd one
-  syntaxes_equal document (OfAttribute _) (LinkedBase _) (LinkedType _) one other = absurd other
-  syntaxes_equal document (OfAttribute _) (LinkedBase x) (LinkedBase y) one other =
-      ap LinkedBase (one_link parts apart one other)
-
-  pub attributes_alike : (x : Placed) (one other : LinkedAttribute) →
-      IsTemplate parts (λ y. y.head) (IsAttributeOf parts) x one →
-      IsTemplate parts (λ y. y.head) (IsAttributeOf parts) x other → AttributesAlike one other
-  attributes_alike x one other is too = by (body_of x.template) is.1 too.1
-    where
-      by : (body : BodyTerm) → IsAttributeOf parts x.document body one → IsAttributeOf parts x.document body other →
-          AttributesAlike one other
-      by (AttributeBody syntax _ _ _) a b = record {
-        head = heads_alike is.0 too.0;
-        syntax = syntaxes_equal x.document syntax one.syntax other.syntax a.0 b.0;
-      }
-      by (ClassBody _ _ _) a b = absurd a
-      by (PackageBody _ _ _ _ _) a b = absurd a
-      by (ParameterBody _ _) a b = absurd a
-      by (BindingBody _ _ _ _ _ _ _ _) a b = absurd a
-      by (GroupBody _ _) a b = absurd a
-      by BehaviourBody a b = absurd a
-      by (ActionBody _ _ _ _ _) a b = absurd a
-      by (NotificationBody _ _ _ _ _) a b = absurd a
-
-  -- actions and notifications
-  pub actions_alike : (x : Placed) (one other : LinkedAction) →
-      IsTemplate parts (λ y. y.head) (IsActionOf parts) x one →
-      IsTemplate parts (λ y. y.head) (IsActionOf parts) x other → ActionsAlike one other
-  actions_alike x one other is too = by (body_of x.template) is.1 too.1
-    where
-      by : (body : BodyTerm) → IsActionOf parts x.document body one → IsActionOf parts x.document body other →
-          ActionsAlike one other
-      by (ActionBody _ _ _ _ reply) a b = one_optional parts reply one.reply other.reply a.is_reply b.is_reply
-      by (ClassBody _ _ _) a b = absurd a
-      by (PackageBody _ _ _ _ _) a b = absurd a
-      by (ParameterBody _ _) a b = absurd a
-      by (BindingBody _ _ _ _ _ _ _ _) a b = absurd a
-      by (AttributeBody _ _ _ _) a b = absurd a
-      by (GroupBody _ _) a b = absurd a
-      by BehaviourBody a b = absurd a
-      by (NotificationBody _ _ _ _ _) a b = absurd a
-
-  pub notifications_alike : (x : Placed) (one other : LinkedNotification) →
-      IsTemplate parts (λ y. y.head) (IsNotificationOf parts) x one →
-      IsTemplate parts (λ y. y.head) (IsNotificationOf parts) x other → NotificationsAlike one other
-  notifications_alike x one other is too = by (body_of x.template) is.1 too.1
-    where
-      by : (body : BodyTerm) → IsNotificationOf parts x.document body one →
-          IsNotificationOf parts x.document body other → NotificationsAlike one other
-      by (NotificationBody _ _ information _ _) a b =
-          one_optional parts information one.information other.information a.is_information b.is_information
-      by (ClassBody _ _ _) a b = absurd a
-      by (PackageBody _ _ _ _ _) a b = absurd a
-      by (ParameterBody _ _) a b = absurd a
-      by (BindingBody _ _ _ _ _ _ _ _) a b = absurd a
-      by (AttributeBody _ _ _ _) a b = absurd a
-      by (GroupBody _ _) a b = absurd a
-      by BehaviourBody a b = absurd a
-      by (ActionBody _ _ _ _ _) a b = absurd a

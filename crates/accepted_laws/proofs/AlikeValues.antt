@@ -122,7 +122,7 @@ module _ (ms : List ModuleTerm) (linked other : Linked) (alike : AreAlike linked
       let found = each_at NotificationsAlike linked.notifications.items other.notifications.items j notification
       alike.notifications stands in
       emit (subst (λ n. slice_get other.notifications.items n ≡ Some found.0) same found.1)
-      (of_type_alike x y alike found.2 tree fault)
+      (of_type_alike x y alike found.2.information tree fault)
 
   reply_alike : {at : ℕ} (x y : ValueText) → value_tree x ≡ value_tree y →
       IsBadStep ms linked rule (ReplyValue x) at → IsBadStep ms other its_rule (ReplyValue y) at
@@ -130,7 +130,7 @@ module _ (ms : List ModuleTerm) (linked other : Linked) (alike : AreAlike linked
       let found = each_at ActionsAlike linked.actions.items other.actions.items rule.action action alike.actions
       stands in
       reply (subst (λ n. slice_get other.actions.items n ≡ Some found.0) rules.action found.1)
-      (of_type_alike x y alike found.2 tree fault)
+      (of_type_alike x y alike found.2.reply tree fault)
 
   value_alike : {j k at : ℕ} (x y : ValueText) → j ≡ k → value_tree x ≡ value_tree y →
       IsBadStep ms linked rule (SetValue j x) at → IsBadStep ms other its_rule (SetValue k y) at

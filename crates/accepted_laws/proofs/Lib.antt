@@ -12,11 +12,11 @@ mod LinkLaws
 mod FirstNameLaws
 mod StepValues
 mod AlikeTemplates
+mod AlikeMembers
 pub mod AlikeSections
-mod AlikeClasses
+pub mod AlikeClasses
 pub mod AlikeValues
 pub mod FaultLaws
 mod ToldFaults
 pub mod AcceptedLaws
 pub mod OneFaultLaws
-pub mod WholeLaws

@@ -1,5 +1,6 @@
 -- LinkLaws: a reference is linked by one number, and a name of a type or a value by one meaning, where no two templates
--- have their labels at one place (X.722, section 8; docs/PROFILE.md, section 12).
+-- have their labels at one place; and the identifier of a template is one list of arcs (X.722, section 8;
+-- docs/PROFILE.md, section 12).
 use Rattle.std.specs.Prelude.{AllPairs, slice_get}
 use Rattle.std.proofs.Common.{◌≡◌, ◌⊎◌, ◌<◌, ℕ, List, ◌∷◌, Option, None, Some, refl, sym, ◌∙◌, ap, inl, inr}
 use Rattle.std.proofs.lemmas.Bool.{cases_order}
@@ -11,8 +12,10 @@ use Rattle.gdmo_names.specs.DocumentTemplates.{templates}
 use Rattle.gdmo_names.specs.Mentions.{Role, wanted_kind}
 use Rattle.gdmo_names.specs.PartTerms.{Placed, PartTerms}
 use Rattle.gdmo_names.specs.TargetTables.{ArePlacedApart, AreTwo}
-use Rattle.gdmo_names.specs.TemplateTerms.{ReferenceTerm, ReferenceTerms, TemplateKind}
-use Rattle.gdmo_linking.specs.LinkedNames.{IsLinkedName, IsMeant, IsOptionalName, of_standard, of_type, of_value}
+use Rattle.gdmo_names.specs.TemplateTerms.{IdentifierTerm, ReferenceTerm, ReferenceTerms, TemplateKind}
+use Rattle.identifier_arcs.proofs.KnownLaws.{one_arcs}
+use Rattle.gdmo_linking.specs.LinkedNames.{IsLinkedIdentifier, IsLinkedName, IsMeant, IsOptionalName, of_standard}
+use Rattle.gdmo_linking.specs.LinkedNames.{of_type, of_value}
 use Rattle.gdmo_linking.specs.LinkedTables.{AreLinked, Links, another, no_more, table}
 use Rattle.linked_parts.specs.declared.linked.LinkedName.{LinkedName}
 use Rattle.linked_parts.specs.declared.linked.NamedMeaning.{NamedMeaning}
@@ -71,3 +74,14 @@ one_optional parts None (Some _) y one other = absurd one
 one_optional parts (Some _) None y one other = absurd one
 one_optional parts (Some _) (Some _) None one other = absurd other
 one_optional parts (Some name) (Some x) (Some y) one other = ap Some (one_name one other)
+
+-- ---- identifiers
+
+pub one_identifier : (parts : PartTerms) (x : Option IdentifierTerm) (a b : Option (List ℕ)) →
+    IsLinkedIdentifier parts x a → IsLinkedIdentifier parts x b → a ≡ b
+one_identifier parts None None None one other = refl
+one_identifier parts None None (Some _) one other = absurd other
+one_identifier parts None (Some _) b one other = absurd one
+one_identifier parts (Some _) None b one other = absurd one
+one_identifier parts (Some _) (Some _) None one other = absurd other
+one_identifier parts (Some _) (Some _) (Some _) one other = ap Some (one_arcs one.has other.has)

@@ -1,0 +1,23 @@
+-- The lemmas of this crate.
+mod AlikeBack
+mod CarriedNames
+mod CarriedPackages
+mod CarriedMembers
+mod CarriedSections
+pub mod AlikeRecords
+pub mod OneSchemaLaws
+pub mod WholeLaws
+mod OctetLaws
+mod TreeOctets
+mod LeafOctets
+mod ValueOctets
+mod SpellingOctets
+mod DocumentOctets
+mod IdentifierLaws
+mod NameLaws
+mod ValueLaws
+pub mod EncodableLaws
+pub mod PlayLaws
+pub mod IntegerLaws
+pub mod IntegerTypes
+pub mod IntegerPlays

@@ -1,0 +1,5 @@
+-- The definitions that the laws of this crate cite.
+pub mod IntegerDocuments
+pub mod IntegerModules
+pub mod OctetDocuments
+pub mod ShortStated
