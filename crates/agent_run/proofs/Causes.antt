@@ -108,18 +108,14 @@ pub of_run : (files : Told) (script_name : List ℕ) (names : List (List ℕ)) (
     (before after : ℕ) (r : Refusal) → AreRunFiles files script_name names script docs →
     HasRunCause script docs r → HasCauseBy files (Run script_name names) before after r
 of_run files script_name names script docs before after (BadDocument number line kind) run cause =
-    (docs, (script, run, cause.0), cause.1)
+    (docs, (script, run), cause)
 of_run files script_name names script docs before after (BadInstance index error) run cause =
-    (docs, (script, run, cause.0), cause.1)
-of_run files script_name names script docs before after (BadScript line) run cause =
-    (script, docs, run, cause.0, cause.1)
-of_run files script_name names script docs before after (NotBuilt Document) run cause =
-    (script, docs, run, cause.0, cause.1)
-of_run files script_name names script docs before after (NotBuilt Script) run cause =
-    (script, docs, run, cause.0, cause.1)
+    (docs, (script, run), cause)
+of_run files script_name names script docs before after (BadScript line) run cause = (script, docs, run, cause)
+of_run files script_name names script docs before after (NotBuilt Document) run cause = (script, docs, run, cause)
+of_run files script_name names script docs before after (NotBuilt Script) run cause = (script, docs, run, cause)
 of_run files script_name names script docs before after (NotBuilt ACommand) run cause = absurd cause
-of_run files script_name names script docs before after (JournalFull text) run cause =
-    (script, docs, run, cause.0, cause.1)
+of_run files script_name names script docs before after (JournalFull text) run cause = (script, docs, run, cause)
 of_run files script_name names script docs before after OutOfMemory run cause = tt
 of_run files script_name names script docs before after Usage run cause = cause
 of_run files script_name names script docs before after (FileFault name) run cause = absurd cause

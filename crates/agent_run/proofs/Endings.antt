@@ -1,31 +1,15 @@
--- Endings: from why a command is not done to what its status says, and that none of it holds of a run whose words and
--- files are in their forms.
-use Rattle.std.proofs.Common.{◌≡◌, ◌≢◌, ℕ, ◌<◌, ◌≤◌, ◌⊎◌, List, [], ◌∷◌, Option, None, Some, length}
-use Rattle.std.proofs.Common.{sym, ap, ◌∙◌, inl, inr, refl, arith}
+-- Endings: from why a command is not done to what its status says.
+use Rattle.std.proofs.Common.{◌≡◌, ◌≢◌, ℕ, ◌⊎◌, List, Option, sym, ◌∙◌, inl, inr, refl, arith}
 use Rattle.std.proofs.Math.Path.{subst}
-use Rattle.std.specs.Prelude.{Contains, IsSomeAnd}
-use Rattle.std.specs.Option.{option_map_or}
-use Rattle.agent_bytes.specs.Faults.{Rose}
-use Rattle.agent_bytes.specs.Told.{IsFile, IsLonger}
+use Rattle.std.specs.Prelude.{Contains}
 use Rattle.agent_run.specs.declared.refusal.Refusal.{Refusal}
 use Rattle.agent_run.specs.declared.refusal.Refusal.TheVariants.{Usage, FileFault, FileTooLarge, BadDocument}
 use Rattle.agent_run.specs.declared.refusal.Refusal.TheVariants.{BadInstance, BadScript, JournalFull, NotBuilt}
 use Rattle.agent_run.specs.declared.refusal.Refusal.TheVariants.{OutOfMemory}
-use Rattle.agent_run.specs.declared.refusal.Unbuilt.{Unbuilt}
-use Rattle.agent_run.specs.declared.refusal.Unbuilt.TheVariants.{Command as ACommand, Document, Script}
-use Rattle.command_line.specs.WordForms.{Command, IsUnbuilt}
-use Rattle.command_line.specs.WordForms.Command.{Run}
-use Rattle.command_line.proofs.CommandLaws.{one_run}
-use Rattle.document_parts.specs.declared.documents.Doc.{Doc}
 use Rattle.agent_run.specs.Answers.{EndsByBadDocument, EndsByBadScript, EndsByFileFault, EndsByFileTooLarge}
-use Rattle.agent_run.specs.Answers.{EndsByJournalFull, EndsByNotBuilt, EndsByUsage, HasBytes, IsPut, IsRunnable}
-use Rattle.agent_run.specs.Files.{AreDocuments, NamesLonger, Told, most_document, most_script}
-use Rattle.agent_run.specs.Files.{run_files}
-use Rattle.agent_run.specs.Files.AreDocuments.{no_document, document}
-use Rattle.agent_run.specs.Files.Reaches.{here, behind}
-use Rattle.first_run.specs.FirstRuns.{AreInFirstForms, IsDocument, IsFirst, IsScriptFor}
-use Rattle.agent_run.specs.Refusing.{AreRunFiles, HasCause, HasRunFault, IsOutside}
-use Rattle.agent_run.specs.Refusing.{OfCommand, status_of, text_of}
+use Rattle.agent_run.specs.Answers.{EndsByJournalFull, EndsByNotBuilt, EndsByUsage, IsPut}
+use Rattle.agent_run.specs.Files.{Told}
+use Rattle.agent_run.specs.Refusing.{HasCause, status_of, text_of}
 use Rattle.agent_run.specs.Statuses.{all_statuses}
 
 -- what the status of a refusal is
@@ -205,107 +189,3 @@ journal_full_of files words faults later out_before out_after before after statu
     by (BadDocument number at kind) cause line s = absurd (omega (arith, s))
     by (BadInstance index error) cause line s = absurd (omega (arith, s))
     by OutOfMemory cause line s = absurd (omega (arith, s))
-
--- a file that is told has one content, and isn't longer than it is
-one_content : (files : Told) (name other bytes others : List ℕ) → name ≡ other → HasBytes files name bytes
-    → IsFile files other others → others ≡ bytes
-one_content None name other bytes others e told file = absurd told
-one_content (Some bytes_of) name other bytes others e told file =
-    ap (λ o. option_map_or (λ (b : List ℕ). b) o []) (sym file ∙ (ap bytes_of (sym e) ∙ told))
-
-not_longer : (files : Told) (name bytes : List ℕ) (limit : ℕ) → HasBytes files name bytes → length bytes ≤ limit
-    → IsLonger files name limit → ⊥
-not_longer None name bytes limit told small longer = told
-not_longer (Some bytes_of) name bytes limit told small longer =
-    let more : limit < length bytes = subst (λ o. IsSomeAnd o (λ b. limit < length b)) told longer in
-    omega (arith, more, small)
-
-small_enough : (files : Told) (words : List (List ℕ)) (run : IsRunnable files words) (name : List ℕ) →
-    NamesLonger files (run_files run.script_name (run.document_name ∷ [])) name → ⊥
-small_enough files words run name (here longer) =
-    not_longer files run.script_name run.script most_script run.script_told run.script_small longer.1
-small_enough files words run name (behind within (here longer)) =
-    not_longer files run.document_name run.document most_document run.document_told run.document_small longer.1
-small_enough files words run name (behind within (behind other rest)) = elim rest [ ]
-
--- the documents of the run are the one in the first form
-first_of : (files : Told) (words : List (List ℕ)) (run : IsRunnable files words) (docs : List Doc) →
-    AreDocuments files (run.document_name ∷ []) docs → IsFirst docs run.schema
-first_of files words run [] docs = elim docs [ ]
-first_of files words run (doc ∷ (other ∷ rest)) (document one others) = elim others [ ]
-first_of files words run (doc ∷ []) (document one no_document) = record {
-  document = doc;
-  only = refl;
-  document_is = subst (λ bytes. IsDocument bytes run.schema)
-      (sym (one_content files run.document_name run.document_name run.document doc.bytes.items refl run.document_told
-      one.told)) run.document_is;
-}
-
--- what is said of the command of the words of the run
-of_the_run : (files : Told) (words : List (List ℕ)) (Holds : Command → Type 0) (run : IsRunnable files words) →
-    OfCommand words Holds → Holds (Run run.script_name (run.document_name ∷ []))
-of_the_run files words Holds run of = subst Holds
-    (one_run words run.script_name (run.document_name ∷ []) of.0 run.words_are of.1) of.2
-
-unbuilt_is_no_run : (command : Command) (script : List ℕ) (names : List (List ℕ)) → IsUnbuilt command →
-    command ≡ Run script names → ⊥
-unbuilt_is_no_run command script names unbuilt same = absurd_of (subst IsUnbuilt same unbuilt)
-  where
-    absurd_of : IsUnbuilt (Run script names) → ⊥
-    absurd_of u = elim u [ ]
-
--- the script and the documents of the run are in the first forms
-first_forms : (files : Told) (words : List (List ℕ)) (run : IsRunnable files words) (script : List ℕ)
-    (docs : List Doc) → AreRunFiles files run.script_name (run.document_name ∷ []) script docs →
-    AreInFirstForms script docs
-first_forms files words run script docs are = record {
-  schema = run.schema;
-  first = first_of files words run docs are.documents;
-  bind = run.bind;
-  sends = run.sends;
-  script_is = subst (λ text. IsScriptFor run.schema text run.bind run.sends)
-      (sym (sym are.script_is ∙ one_content files run.script_name run.script_name run.script are.within.bytes refl
-      run.script_told are.within.told)) run.script_is;
-}
-
-no_fault : (files : Told) (words : List (List ℕ)) (Fault : List ℕ → List Doc → Type 0)
-    (run : IsRunnable files words) → OfCommand words (λ command. HasRunFault files command Fault) → ⊥
-no_fault files words Fault run of =
-    let found = of_the_run files words (λ command. HasRunFault files command Fault) run of in
-    found.3 (first_forms files words run found.0 found.1 found.2)
-
-inside : (files : Told) (words : List (List ℕ)) (what : Unbuilt) → IsRunnable files words
-    → IsOutside files words what → ⊥
-inside files words ACommand run outside = unbuilt_is_no_run outside.command run.script_name (run.document_name ∷ [])
-    outside.unbuilt (one_run words run.script_name (run.document_name ∷ []) outside.command run.words_are outside.are)
-inside files words Document run outside = no_fault files words _ run outside
-inside files words Script run outside = no_fault files words _ run outside
-
--- no refusal but that for want of memory has its cause
-no_cause : (files : Told) (words : List (List ℕ)) (faults later status : ℕ) (r : Refusal)
-    → status ≡ status_of r → HasCause files words faults later r → IsRunnable files words → (Rose faults later → ⊥)
-    → (status ≡ 0) ⊎ (status ≡ 8)
-no_cause files words faults later status Usage s cause run quiet =
-    absurd (cause (Run run.script_name (run.document_name ∷ [])) run.words_are)
-no_cause files words faults later status (FileFault name) s cause run quiet = absurd (quiet cause.1)
-no_cause files words faults later status (FileTooLarge name) s cause run quiet =
-    absurd (small_enough files words run name.now (of_the_run files words _ run cause))
-no_cause files words faults later status (BadDocument number line kind) s cause run quiet =
-    let found = of_the_run files words _ run cause in
-    absurd (found.1.2 (first_forms files words run found.1.0 found.0 found.1.1))
-no_cause files words faults later status (BadInstance index error) s cause run quiet =
-    let found = of_the_run files words _ run cause in
-    absurd (found.1.2 (first_forms files words run found.1.0 found.0 found.1.1))
-no_cause files words faults later status (BadScript line) s cause run quiet =
-    absurd (no_fault files words _ run cause)
-no_cause files words faults later status (NotBuilt what) s cause run quiet = absurd (inside files words what run cause)
-no_cause files words faults later status (JournalFull text) s cause run quiet =
-    absurd (no_fault files words _ run cause)
-no_cause files words faults later status OutOfMemory s cause run quiet = inr s
-
-pub complete_of : (files : Told) (words : List (List ℕ)) (faults later status : ℕ) (r : Refusal)
-    → Answered status r → HasCause files words faults later r → IsRunnable files words → (Rose faults later → ⊥)
-    → (status ≡ 0) ⊎ (status ≡ 8)
-complete_of files words faults later status r (inl s) cause run quiet =
-    no_cause files words faults later status r s cause run quiet
-complete_of files words faults later status r (inr s) cause run quiet = inr s

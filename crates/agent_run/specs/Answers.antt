@@ -1,20 +1,18 @@
 -- Answers: what each status of the top call says of the words and the files, and what was written then: README.md,
 -- Answers.
-use Rattle.std.specs.Prelude.{◌≡◌, ◌≤◌, ◌⊎◌, ℕ, List, [], ◌∷◌, ◌++◌, Option, None, Some, length}
+use Rattle.std.specs.Prelude.{◌≡◌, ◌⊎◌, ℕ, List, ◌++◌, IsSome, Option}
 use Rattle.agent_bytes.specs.Faults.{Rose}
 use Rattle.agent_bytes.specs.Told.{GainsPart, gained}
 use Rattle.agent_run.specs.declared.refusal.Unbuilt.{Unbuilt}
-use Rattle.command_line.specs.WordForms.{AreInNoForm, AreWordsOf}
-use Rattle.command_line.specs.WordForms.Command.{Run}
+use Rattle.command_line.specs.WordForms.{AreInNoForm}
 use Rattle.document_parts.specs.declared.documents.Doc.{Doc}
 use Rattle.template_compile.specs.declared.refusal.Kind.{Kind}
-use Rattle.first_run.specs.FirstRuns.{IsDocument, IsScriptFor}
 use Rattle.template_compile.specs.DocumentFaults.{IsTold}
-use Rattle.term_model.specs.declared.schema.Set.{Set}
-use Rattle.agent_run.specs.Files.{IsNamed, IsTooLarge, Told, most_document, most_script}
+use Rattle.agent_run.specs.Files.{IsNamed, IsTooLarge, Told}
 use Rattle.agent_run.specs.Refusing.{AreCompiledBy, HasBadScript, HasFullJournal, IsBadInstanceBy, IsOutside, IsTextBy}
 use Rattle.agent_run.specs.Refusing.{OfCommand, bad_document_line, bad_instance_line, bad_script_line, file_line}
 use Rattle.agent_run.specs.Refusing.{journal_full_line, not_built_line, too_large_line, usage_line}
+use Rattle.agent_run.specs.Runnable.{CanBeDoneBy}
 
 -- These bytes were written; or, where a call of the output failed, a part of them. The counts are those of the output's
 -- faults.
@@ -107,24 +105,7 @@ pub record EndsByWriteFault (files : Told) (words : List (List ℕ)) (out_before
   pub part : GainsPart before after text
   pub text_is : IsTextOf files words text
 
--- the file is told, and has these bytes
-abbrev pub HasBytes : Told → List ℕ → List ℕ → Type 0
-HasBytes None name bytes = ⊥
-HasBytes (Some bytes_of) name bytes = bytes_of name ≡ Some bytes
-
--- the words are in the form of a run with one document, and so are the files that they name, within their limits
-pub record IsRunnable (files : Told) (words : List (List ℕ)) : Type 0 where
-  pub script_name : List ℕ
-  pub document_name : List ℕ
-  pub words_are : AreWordsOf words (Run script_name (document_name ∷ []))
-  pub script : List ℕ
-  pub document : List ℕ
-  pub script_told : HasBytes files script_name script
-  pub document_told : HasBytes files document_name document
-  pub script_small : length script ≤ most_script
-  pub document_small : length document ≤ most_document
-  pub schema : Set
-  pub document_is : IsDocument document schema
-  pub bind : List ℕ
-  pub sends : List (List ℕ)
-  pub script_is : IsScriptFor schema script bind sends
+-- the words are those of a command that comes to its end with the files that it reads, which are told
+pub record CanBeDone (files : Told) (words : List (List ℕ)) : Type 0 where
+  pub told : IsSome files
+  pub done : OfCommand words (λ command. CanBeDoneBy files command)

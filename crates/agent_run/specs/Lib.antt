@@ -2,5 +2,5 @@
 pub mod Answers
 pub mod Files
 pub mod Refusing
-pub mod Running
+pub mod Runnable
 pub mod Statuses

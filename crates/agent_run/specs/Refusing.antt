@@ -13,15 +13,13 @@ use Rattle.command_line.specs.WordForms.Command.{Check, Report, Run, Replay, Ser
 use Rattle.document_parts.specs.declared.documents.Doc.{Doc}
 use Rattle.template_compile.specs.declared.refusal.Kind.{Kind}
 use Rattle.template_compile.specs.declared.refusal.Kind.TheVariants as K
-use Rattle.first_run.specs.FirstRuns.{AreInOtherForms}
-use Rattle.run_command.specs.ScriptRuns.{IsBadInstance as IsUnopened, IsBadScript, IsJournalFull, IsUnplayedDocument}
-use Rattle.run_command.specs.ScriptRuns.{IsUnplayedScript}
+use Rattle.run_command.specs.ScriptRuns.{IsBadInstance as IsUnopened, IsBadScript, IsJournalFull, IsRun}
+use Rattle.run_command.specs.ScriptRuns.{IsUnplayedDocument, IsUnplayedScript}
 use Rattle.set_commands.specs.CommandTexts.{IsBadInstance, IsChecked, IsReported}
 use Rattle.template_compile.specs.DocumentFaults.{IsTold}
 use Rattle.term_model.specs.Texts.{line_feed}
 use Rattle.agent_run.specs.Files.{AreDocuments, FileToRead, IsWithin, Names, NamesLonger, Told}
 use Rattle.agent_run.specs.Files.{files_of, most_script}
-use Rattle.agent_run.specs.Running.{IsRun}
 use Rattle.agent_run.specs.Statuses.{bad_document, bad_script, file_fault, file_too_large, journal_full, not_built}
 use Rattle.agent_run.specs.Statuses.{out_of_memory, usage}
 
@@ -42,12 +40,12 @@ IsTextBy files (Replay journal names) text = ⊥
 IsTextBy files (Serve address sessions workers names) text = ⊥
 IsTextBy files (Load seed count) text = ⊥
 
--- the documents that a command compiles: those of `run` where they and the script are not in the first forms
+-- the documents that a command compiles
 abbrev pub AreCompiledBy : Told → Command → List Doc → Type 0
 AreCompiledBy files (Check names) docs = AreDocuments files names docs
 AreCompiledBy files (Report names) docs = AreDocuments files names docs
-AreCompiledBy files (Run script_name names) docs = (script : List ℕ)
-    × AreRunFiles files script_name names script docs × AreInOtherForms script docs
+AreCompiledBy files (Run script_name names) docs =
+    (script : List ℕ) × AreRunFiles files script_name names script docs
 AreCompiledBy files (Replay journal names) docs = ⊥
 AreCompiledBy files (Serve address sessions workers names) docs = ⊥
 AreCompiledBy files (Load seed count) docs = ⊥
@@ -62,10 +60,10 @@ IsBadInstanceBy (Replay journal names) docs index error = ⊥
 IsBadInstanceBy (Serve address sessions workers names) docs index error = ⊥
 IsBadInstanceBy (Load seed count) docs index error = ⊥
 
--- a script and documents of a run that are compiled have this fault
+-- a script and documents of a run have this fault
 abbrev pub HasRunFault : Told → Command → (List ℕ → List Doc → Type 0) → Type 0
 HasRunFault files (Run script_name names) Fault = (script : List ℕ) × (docs : List Doc)
-    × AreRunFiles files script_name names script docs × AreInOtherForms script docs × Fault script docs
+    × AreRunFiles files script_name names script docs × Fault script docs
 HasRunFault files (Check names) Fault = ⊥
 HasRunFault files (Report names) Fault = ⊥
 HasRunFault files (Replay journal names) Fault = ⊥
@@ -156,12 +154,12 @@ HasSetCause docs _ = ⊥
 
 -- the causes that a script and documents may give together
 abbrev pub HasRunCause : List ℕ → List Doc → Refusal → Type 0
-HasRunCause script docs (BadDocument document line kind) = AreInOtherForms script docs × IsTold docs document line kind
-HasRunCause script docs (BadInstance index error) = AreInOtherForms script docs × IsUnopened docs index error
-HasRunCause script docs (BadScript line) = AreInOtherForms script docs × IsBadScript script docs line
-HasRunCause script docs (NotBuilt Document) = AreInOtherForms script docs × IsUnplayedDocument docs
-HasRunCause script docs (NotBuilt Script) = AreInOtherForms script docs × IsUnplayedScript script docs
-HasRunCause script docs (JournalFull text) = AreInOtherForms script docs × IsJournalFull script docs text.items
+HasRunCause script docs (BadDocument document line kind) = IsTold docs document line kind
+HasRunCause script docs (BadInstance index error) = IsUnopened docs index error
+HasRunCause script docs (BadScript line) = IsBadScript script docs line
+HasRunCause script docs (NotBuilt Document) = IsUnplayedDocument docs
+HasRunCause script docs (NotBuilt Script) = IsUnplayedScript script docs
+HasRunCause script docs (JournalFull text) = IsJournalFull script docs text.items
 HasRunCause script docs OutOfMemory = Unit {0}
 HasRunCause script docs _ = ⊥
 

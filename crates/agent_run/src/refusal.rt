@@ -5,7 +5,6 @@ ghost use Rattle.term_model.specs.Texts.{line_feed};
 ghost use Rattle.agent_run.specs.Refusing.{HasRunCause, HasSetCause, bad_document_line, bad_instance_line};
 ghost use Rattle.agent_run.specs.Refusing.{bad_script_line, kind_name, line_of, numbered, status_of, two_numbers};
 ghost use Rattle.agent_run.specs.Refusing.{text_before, text_of, unbuilt_name};
-ghost use Rattle.first_run.specs.FirstRuns.{AreInOtherForms};
 ghost use Rattle.run_command.specs.RunCauses.{HasCause as HasRunRefusalCause};
 ghost use Rattle.set_commands.specs.CommandTexts.{HasCause as HasSetRefusalCause};
 ghost use Rattle.document_parts.specs.declared.documents.Doc.{Doc};
@@ -184,7 +183,7 @@ fn write_script_line(line: u64, into: &mut Vec<u8>) -> Result<(), AllocError>
 
 /// Why a script is not played on documents.
 pub(crate) fn of_run(refusal: RunRefusal) -> Refusal<'static>
-    ensures { (script : List ℕ) (docs : List Doc) → AreInOtherForms script docs
+    ensures { (script : List ℕ) (docs : List Doc)
         → HasRunRefusalCause script docs refusal → HasRunCause script docs result }
 {
     match refusal {

@@ -5,9 +5,9 @@ ghost use Rattle.std.specs.Prelude.{◌≡◌, ◌≢◌, ◌⊎◌, ◌≤◌, 
 ghost use Rattle.std.specs.Prelude.{IsSome, OnOk};
 ghost use Rattle.agent_bytes.specs.Faults.{Rose};
 ghost use Rattle.agent_bytes.specs.Told.{GainsPart, gained};
-ghost use Rattle.agent_run.specs.Answers.{EndsByBadDocument, EndsByBadScript, EndsByFileFault, EndsByFileTooLarge};
-ghost use Rattle.agent_run.specs.Answers.{EndsByJournalFull, EndsByNotBuilt, EndsByUsage, EndsByWriteFault, IsPut};
-ghost use Rattle.agent_run.specs.Answers.{IsRunnable, IsTextOf, Prints};
+ghost use Rattle.agent_run.specs.Answers.{CanBeDone, EndsByBadDocument, EndsByBadScript, EndsByFileFault};
+ghost use Rattle.agent_run.specs.Answers.{EndsByFileTooLarge, EndsByJournalFull, EndsByNotBuilt, EndsByUsage};
+ghost use Rattle.agent_run.specs.Answers.{EndsByWriteFault, IsPut, IsTextOf, Prints};
 ghost use Rattle.agent_run.specs.Refusing.{HasCause, HasCauseBy, IsTextBy, KeepsCount, memory_line, status_of, text_of};
 ghost use Rattle.agent_run.specs.Statuses as status;
 ghost use Rattle.command_line.specs.WordForms.Command.{Check, Report, Run};
@@ -197,9 +197,10 @@ pub fn agent<R: AllocGlobal, F: Files, O: Sink>(
     ensures quiet { result ≢ status.file_fault → result ≢ status.out_of_memory
         → F.faults files.new ≡ F.faults files.old }
 
-    // Where words and files are those of a run in the first forms and no call failed, everything was written, or there
-    // was no memory.
-    ensures complete { IsRunnable (F.files files.old) (map string_bytes words.now)
+    // Where the words are those of a command that comes to its end with its files, and no call failed, everything was
+    // written, or there was no memory: the documents are accepted, their instances can be opened, and the script is
+    // played to its end.
+    ensures complete { CanBeDone (F.files files.old) (map string_bytes words.now)
         → (Rose (F.faults files.old) (F.faults files.new) → ⊥) → (Rose (O.faults out.old) (O.faults out.new) → ⊥)
         → result ≡ status.done ⊎ result ≡ status.out_of_memory }
 {

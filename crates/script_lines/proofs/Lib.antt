@@ -1,4 +1,4 @@
 mod PartLaws
 mod LineLaws
 mod ScriptFacts
-mod ScriptLaws
+pub mod ScriptLaws

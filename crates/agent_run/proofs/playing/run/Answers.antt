@@ -3,9 +3,8 @@ use Rattle.std.proofs.Math.Path.{subst}
 use Rattle.std.specs.Prelude.{string_bytes}
 use Rattle.command_line.specs.WordForms.Command.{Run}
 use Rattle.agent_run.specs.Files.{FileToRead, document_files, most_script}
-use Rattle.agent_run.specs.Refusing.{HasCauseBy, HasFileCause, HasRunCause, IsTextBy}
-use Rattle.agent_run.specs.Running.{IsRun}
-use Rattle.agent_run.proofs.Causes.{exit_with, in_err, in_ok, of_files, of_first, of_others, of_run}
+use Rattle.agent_run.specs.Refusing.{HasCauseBy, HasFileCause}
+use Rattle.agent_run.proofs.Causes.{exit_with, of_files, of_first, of_others, of_run}
 use Rattle.agent_run.proofs.ReadingLaws.{few_documents, run_files_of}
 use Rattle.agent_run.proofs.playing.run.Goals as goal
 
@@ -41,37 +40,33 @@ returns-in_err-documents-clause-cause g c =
     (subst (λ told. HasFileCause told (document_files names) between after r) c.read_file.ensures.same
     c.in_err-documents.ensures.cause)))
 
-pub perform-requires : goal.perform-requires
-perform-requires g c = record {
+pub run_text-requires : goal.run_text-requires
+run_text-requires g c = record {
   few = subst (λ ds. length ds ≤ 64) (sym c.as_slice-2.ensures.value)
       (few_documents string_bytes c.args.names.now (g.F.Files.files c.read_file.new.files)
       c.in_ok-documents.documents.items c.in_ok-documents.ensures.told c.requires.few);
 }
 
-pub returns-clause-text : goal.returns-clause-text
-returns-clause-text g c =
-    let files = g.F.Files.files c.args.files.now in
-    let names = map string_bytes c.args.names.now in
-    let script = c.as_slice.result.now in
-    let docs = c.as_slice-2.result.now in
-    let run_files = run_files_of files (g.F.Files.files c.read_file.new.files) c.args.script.now names
-    c.in_ok-text.text.items script c.in_ok-documents.documents.items docs c.in_ok-text.ensures.told
-    c.in_ok-text.ensures.within c.as_slice.ensures.value c.read_file.ensures.same c.as_slice-2.ensures.value
-    c.in_ok-documents.ensures.told in
-    in_ok (λ text. IsRun script docs text.items) (λ text. IsTextBy files (Run c.args.script.now names) text.items)
-    c.perform.result (λ text run. (script, docs, run_files, run)) c.perform.ensures.text
+pub returns-in-Ok-clause-text : goal.returns-in-Ok-clause-text
+returns-in-Ok-clause-text g c = (
+  c.as_slice.result.now,
+  c.as_slice-2.result.now,
+  run_files_of (g.F.Files.files c.args.files.now) (g.F.Files.files c.read_file.new.files) c.args.script.now
+      (map string_bytes c.args.names.now) c.in_ok-text.text.items c.as_slice.result.now
+      c.in_ok-documents.documents.items c.as_slice-2.result.now c.in_ok-text.ensures.told c.in_ok-text.ensures.within
+      c.as_slice.ensures.value c.read_file.ensures.same c.as_slice-2.ensures.value c.in_ok-documents.ensures.told,
+  c.in-Ok.ensures.text,
+)
 
 pub returns-clause-cause : goal.returns-clause-cause
 returns-clause-cause g c =
     let files = g.F.Files.files c.args.files.now in
     let names = map string_bytes c.args.names.now in
-    let before = g.F.Files.faults c.args.files.now in
-    let after = g.F.Files.faults c.read_documents.new.files in
     let script = c.as_slice.result.now in
     let docs = c.as_slice-2.result.now in
-    let run_files = run_files_of files (g.F.Files.files c.read_file.new.files) c.args.script.now names
-    c.in_ok-text.text.items script c.in_ok-documents.documents.items docs c.in_ok-text.ensures.told
-    c.in_ok-text.ensures.within c.as_slice.ensures.value c.read_file.ensures.same c.as_slice-2.ensures.value
-    c.in_ok-documents.ensures.told in
-    in_err (HasRunCause script docs) (HasCauseBy files (Run c.args.script.now names) before after) c.perform.result
-    (λ r cause. of_run files c.args.script.now names script docs before after r run_files cause) c.perform.ensures.cause
+    of_run files c.args.script.now names script docs (g.F.Files.faults c.args.files.now)
+    (g.F.Files.faults c.read_documents.new.files) c.of_run.result
+    (run_files_of files (g.F.Files.files c.read_file.new.files) c.args.script.now names c.in_ok-text.text.items script
+    c.in_ok-documents.documents.items docs c.in_ok-text.ensures.told c.in_ok-text.ensures.within
+    c.as_slice.ensures.value c.read_file.ensures.same c.as_slice-2.ensures.value c.in_ok-documents.ensures.told)
+    (c.of_run.ensures script docs c.in-Err.ensures.cause)

@@ -2,8 +2,9 @@ use Rattle.std.proofs.Common.{map}
 use Rattle.std.proofs.Math.Path.{subst}
 use Rattle.std.specs.Prelude.{string_bytes}
 use Rattle.agent_bytes.specs.Told.{GainsPart}
-use Rattle.agent_run.proofs.Endings.{answered_listed, bad_document_of, bad_script_of, complete_of, file_fault_of}
-use Rattle.agent_run.proofs.Endings.{journal_full_of, not_built_of, too_large_of, usage_of, written_listed}
+use Rattle.agent_run.proofs.DoneLaws.{complete_of}
+use Rattle.agent_run.proofs.Endings.{answered_listed, bad_document_of, bad_script_of, file_fault_of, journal_full_of}
+use Rattle.agent_run.proofs.Endings.{not_built_of, too_large_of, usage_of, written_listed}
 use Rattle.agent_run.proofs.running.agent.Goals as goal
 
 pub returns-in-Ok-clause-statuses : goal.returns-in-Ok-clause-statuses
@@ -70,10 +71,10 @@ returns-in-Err-clause-journal_full g c =
 
 pub returns-in-Err-clause-complete : goal.returns-in-Err-clause-complete
 returns-in-Err-clause-complete g c =
-    λ run quiet written.
+    λ can quiet written.
     complete_of (g.F.Files.files c.args.files.now) (map string_bytes c.args.words.now)
     (g.F.Files.faults c.args.files.now) (g.F.Files.faults c.prepare.new.files) c.refuse.result c.in-Err.refusal
-    c.refuse.ensures.status c.in-Err.ensures.cause run quiet
+    c.refuse.ensures.status c.in-Err.ensures.cause can quiet
 
 pub returns-in-Ok-clause-write_fault : goal.returns-in-Ok-clause-write_fault
 returns-in-Ok-clause-write_fault g c = λ e. record {
