@@ -3,8 +3,6 @@
 #![tactic(auto)]
 
 mod devices;
-mod documents;
-mod records;
 mod rows;
 mod runs;
 mod stand_ins;

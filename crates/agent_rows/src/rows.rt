@@ -3,7 +3,6 @@
 use crate::devices::{
     show_memory_files, show_output, show_read_up_to, show_real_file, show_sink, show_source,
 };
-use crate::documents::{DocumentCall, show_document, show_stored_document};
 use crate::runs::{
     show_changed_run, show_command, show_real_run, show_run, show_run_end, show_run_with_faults,
 };
@@ -41,7 +40,6 @@ fn answer_call(
     rest: &str,
     answer: &mut String,
 ) -> Result<(), AllocError> {
-    let alloc = rt.alloc();
     match call {
         "agent" => show_run(rt, files, rest, answer),
         "ends" => show_run_end(rt, files, rest, answer),
@@ -49,10 +47,6 @@ fn answer_call(
         "fails" => show_run_with_faults(rt, files, rest, answer),
         "command" => show_command(rt, files, rest, answer),
         "examples" => show_real_run(rt, rest, answer),
-        "parts" => show_document(alloc, DocumentCall::Parts, rest, answer),
-        "cuts" => show_document(alloc, DocumentCall::Cuts, rest, answer),
-        "records" => show_stored_document(alloc, DocumentCall::Records, files, rest, answer),
-        "count" => show_stored_document(alloc, DocumentCall::Count, files, rest, answer),
         _ => answer_device(rt, files, call, rest, answer),
     }
 }

@@ -72,7 +72,7 @@ pub(crate) fn add_numbered(number: u64, text: &str, into: &mut String) -> Result
 }
 
 /// Appends octets as they are.
-pub(crate) fn show_octets(octets: &[u8], answer: &mut String) -> Result<(), AllocError> {
+fn show_octets(octets: &[u8], answer: &mut String) -> Result<(), AllocError> {
     match std::str::from_utf8(octets) {
         Ok(text) => show_text(text, answer),
         Err(_) => answer.push_str("no text"),

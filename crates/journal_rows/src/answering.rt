@@ -1,7 +1,7 @@
 //! From a line to its answer.
 
 use crate::row_fault::RowFault;
-use crate::{entry_rows, line_rows, script_rows};
+use crate::{entry_rows, line_rows};
 use std::alloc::{AllocError, Global};
 
 /// Appends the answer to a call, whose crate, name and arguments these are.
@@ -14,7 +14,6 @@ fn answer_call(
 ) -> Result<(), RowFault> {
     match place {
         "journal_text" => entry_rows::answer(alloc, call, arguments, out),
-        "first_script" => script_rows::answer(alloc, call, arguments, out),
         "script_lines" => line_rows::answer(alloc, call, arguments, out),
         _ => Err(RowFault::Call),
     }

@@ -9,7 +9,6 @@ mod line_rows;
 mod reading;
 mod row_fault;
 mod run_rows;
-mod script_rows;
 mod showing;
 
 use answering::answer_line;

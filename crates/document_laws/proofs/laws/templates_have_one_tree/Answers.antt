@@ -1,5 +1,0 @@
-use Rattle.document_laws.proofs.Trees.{templates_have_one_tree}
-use Rattle.document_laws.proofs.laws.templates_have_one_tree.Goals as goal
-
-pub returns : goal.returns
-returns c = templates_have_one_tree

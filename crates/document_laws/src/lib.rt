@@ -1,4 +1,0 @@
-//! Laws of documents: docs/PROFILE.md, section 6.
-#![tactic(auto)]
-
-pub mod laws;

@@ -1,3 +1,0 @@
-mod ScriptFacts
-pub mod ScriptLaws
-pub mod WrittenGets

@@ -1,5 +1,0 @@
-mod CommitLaws
-mod JournalLaws
-mod OpeningLaws
-pub mod PlayLaws
-mod StandardFacts

@@ -1,0 +1,2 @@
+-- The law that the contract of this crate cites.
+pub mod OneTemplate
