@@ -1,11 +1,11 @@
 //! From a line to its answer.
 
-use crate::reading::documents_of;
+use crate::reading::{documents_of, octets_of};
 use crate::row_fault::RowFault;
 use crate::showing::{show_counts, show_report};
 use mib_opening::{OpeningRefusal, opening};
 use std::alloc::{AllocError, Global};
-use template_compile::{CompileRefusal, Compiled, Doc, compile_documents};
+use template_compile::{CompileRefusal, Compiled, DMI, Doc, compile_documents};
 use term_model::{StepLedger, Steps};
 
 /// How many objects there are at the opening, or the line of the instance that can't be opened.
@@ -84,6 +84,17 @@ fn answer_documents<L: StepLedger>(
     }
 }
 
+/// `shipped TEXT`: whether this is the text of the document that is shipped.
+fn answer_shipped(alloc: Global, text: &str, out: &mut String) -> Result<(), RowFault> {
+    let octets = octets_of(alloc, text.as_bytes())?;
+    if octets.as_slice() == DMI.as_bytes() {
+        out.push_str("the text of DMI")?;
+    } else {
+        out.push_str("another text")?;
+    }
+    Ok(())
+}
+
 fn answer_row<L: StepLedger>(
     alloc: Global,
     row: &str,
@@ -91,6 +102,9 @@ fn answer_row<L: StepLedger>(
     out: &mut String,
 ) -> Result<(), RowFault> {
     let (word, text) = row.split_once(' ').ok_or(RowFault::BadRow)?;
+    if word == "shipped" {
+        return answer_shipped(alloc, text, out);
+    }
     let call = call_of(word).ok_or(RowFault::BadRow)?;
     let documents = documents_of(alloc, text)?;
     answer_documents(alloc, call, documents.as_slice(), steps, out)

@@ -28,7 +28,7 @@ fn escaped(behind: &[u8]) -> Option<(u8, usize)> {
 }
 
 /// The octets of a text.
-fn octets_of(alloc: Global, text: &[u8]) -> Result<Vec<u8>, RowFault> {
+pub fn octets_of(alloc: Global, text: &[u8]) -> Result<Vec<u8>, RowFault> {
     let mut octets = Vec::new(alloc);
     let mut skipped = 0usize;
     for (place, octet) in text.iter().enumerate() {

@@ -11,3 +11,4 @@ pub use compiling::{Compiled, compile, compile_documents};
 pub use counts::Counts;
 pub use document_parts::Doc;
 pub use refusal::{CompileRefusal, Kind};
+pub use shipped_documents::DMI;
