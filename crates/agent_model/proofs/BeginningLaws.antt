@@ -10,8 +10,12 @@ use Rattle.term_model.specs.declared.agent_state.Association.{Association}
 use Rattle.term_model.specs.declared.agent_state.AssociationState.{AssociationState}
 use Rattle.term_model.specs.AgentState.{association_of, numbered}
 use Rattle.term_model.specs.Step.{changed_association, with_placed, with_state, with_taken}
-use Rattle.term_model.proofs.HistoryLaws.{Begins}
 use Rattle.agent_model.specs.Performing.{with_own}
+
+-- a list of octets begins another
+pub record Begins (shorter longer : List ℕ) : Type 0 where
+  pub rest : List ℕ
+  pub whole : longer ≡ shorter ++ rest
 
 pub begins_itself : (xs : List ℕ) → Begins xs xs
 begins_itself xs = record { rest = []; whole = sym (append-nil xs) }

@@ -15,7 +15,6 @@ use Rattle.term_model.specs.History.{brought, came}
 use Rattle.term_model.specs.Played.{Play}
 use Rattle.term_model.specs.RemoteOperation.{frame}
 use Rattle.term_model.specs.Step.{changed_association, is_legal}
-use Rattle.term_model.proofs.ScriptLaws.{BringsNone}
 use Rattle.agent_model.specs.declared.script_line.ScriptLine.{ScriptLine}
 use Rattle.agent_model.specs.declared.script_line.ScriptLine.TheVariants as line
 use Rattle.agent_model.specs.Binding.{answer_to, associated}
@@ -23,7 +22,8 @@ use Rattle.agent_model.specs.Playing.{beginning, ended, frames_of, line_played, 
 use Rattle.agent_model.specs.Stepping.{after_effect, effect, step}
 use Rattle.agent_model.proofs.KeepingLaws.{OpensNone, effect_same, placed_same}
 use Rattle.agent_model.proofs.PlacingLaws.{changed_count, placed_for_keeps}
-use Rattle.agent_model.proofs.ScriptLaws.{closed_keeps, ended_keeps, lines_end, lines_more, open_keeps, send_keeps}
+use Rattle.agent_model.proofs.ScriptLaws.{BringsNone, closed_keeps, ended_keeps, lines_end, lines_more, open_keeps}
+use Rattle.agent_model.proofs.ScriptLaws.{send_keeps}
 use Rattle.agent_model.proofs.StepLaws.{next_opens, opened_at}
 
 -- no entry but one that opens an association changes their number

@@ -7,12 +7,12 @@ use Rattle.term_model.specs.declared.entry.Entry.{Entry}
 use Rattle.term_model.specs.declared.entry.Entry.TheVariants as entry
 use Rattle.term_model.specs.Bind.{title_in}
 use Rattle.term_model.specs.Step.{is_legal}
-use Rattle.term_model.proofs.HistoryLaws.{Begins}
 use Rattle.agent_model.specs.Binding.{answer_to, associated}
 use Rattle.agent_model.specs.Journals.{is_legal_journal, out, replayed}
 use Rattle.agent_model.specs.Placing.{Sent, placed}
 use Rattle.agent_model.specs.Stepping.{after_effect, effect, step}
-use Rattle.agent_model.proofs.BeginningLaws.{begins_itself, begins_through, change_begins, more_begins, placed_in}
+use Rattle.agent_model.proofs.BeginningLaws.{Begins, begins_itself, begins_through, change_begins, more_begins}
+use Rattle.agent_model.proofs.BeginningLaws.{placed_in}
 use Rattle.agent_model.proofs.KeepingLaws.{effect_keeps, placed_keeps}
 
 -- a journal that follows another goes on where that one ended

@@ -16,7 +16,7 @@ use Rattle.term_model.specs.declared.entry.Why.TheVariants as why
 use Rattle.term_model.specs.declared.name.Rdn.{Rdn}
 use Rattle.term_model.specs.declared.objects.NamedObject.{NamedObject}
 use Rattle.term_model.specs.AgentLimits.{shipped}
-use Rattle.term_model.specs.AgentState.{association_of, with_opened}
+use Rattle.term_model.specs.AgentState.{association_of}
 use Rattle.term_model.specs.Played.{Play}
 use Rattle.term_model.specs.SentApdus.{sent_reply}
 use Rattle.term_model.proofs.ExampleNetwork.{element, id_oid, load_value, network}
@@ -28,7 +28,7 @@ use Rattle.agent_model.specs.Starting.{started}
 use Rattle.agent_model.specs.Stepping.{step}
 
 abbrev first_agent : AgentState
-first_agent = started network shipped (with_opened [] network.instances)
+first_agent = started network shipped (record { name = []; object = element } ∷ [])
 
 -- title 2.999.11.1, and an m-Get of the root with the invoke id 1
 abbrev bind_octets : List ℕ

@@ -12,7 +12,6 @@ use Rattle.term_model.specs.declared.entry.Why.TheVariants as why
 use Rattle.term_model.specs.AgentState.{association_of, left_to_take, is_live_state, is_closed_state}
 use Rattle.term_model.specs.Played.{Play}
 use Rattle.term_model.specs.Step.{last_moment}
-use Rattle.term_model.proofs.ScriptLaws.{BringsNone}
 use Rattle.agent_model.specs.declared.script_line.ScriptLine.{ScriptLine}
 use Rattle.agent_model.specs.declared.script_line.ScriptLine.TheVariants as line
 use Rattle.agent_model.specs.Journals.{replayed}
@@ -20,6 +19,12 @@ use Rattle.agent_model.specs.Playing.{all_taken, answered, beginning, closed, cl
 use Rattle.agent_model.specs.Playing.{line_played, lines_played, may_play, played, taken_all, taken_from, with_entry}
 use Rattle.agent_model.specs.Stepping.{step}
 use Rattle.agent_model.proofs.HistoryLaws.{replay_more}
+
+-- an entry that brings no frame
+abbrev pub BringsNone : Entry → Type 0
+BringsNone (entry.Opened number bind) = ⊥
+BringsNone (entry.Arrived number apdu) = ⊥
+BringsNone _ = Unit {0}
 
 -- what each entry without a frame keeps, a line keeps behind its frame, and the end of a script keeps
 module _ (P : Play → Type 0) (keeps : (play : Play) (next : Entry) → BringsNone next → P play

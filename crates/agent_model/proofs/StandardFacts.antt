@@ -269,6 +269,16 @@ unfolding sent_reply oid_in subidentifier integer_in integer_contents identifier
     length_at front_of
 cancels_get = refl
 
+-- where its association is closed, a Get that is granted ends without a reply, at the entry's place
+closed_ends : effect got (entry.Closed 1 why.WriteFault) ≡ record {
+  agent = record got {
+    associations = record accepted_association { state = association.Closed why.WriteFault } ∷ [];
+    operations = record get_of_root { state = operation.Ended 9 } ∷ [];
+  };
+  sent = [];
+}
+closed_ends = refl
+
 -- of what is no Get: mistypedOperation, 21, and it goes on
 abbrev set_nothing : Request
 set_nothing =

@@ -14,7 +14,7 @@ use Rattle.term_values.specs.Typed.{TypedValue}
 use Rattle.term_model.specs.declared.object.Attribute.{Attribute}
 use Rattle.term_model.specs.Comparing.{is_same_oid}
 use Rattle.term_model.specs.FilterTruth.{value_in}
-use Rattle.term_model.specs.WellFormedMib.{identifiers}
+use Rattle.term_model.specs.ObjectAttributes.{identifiers}
 use Rattle.cmis_filter.specs.Rising.{AreRising, do_rise}
 
 abbrev pub order : List ℕ → List ℕ → Ordering

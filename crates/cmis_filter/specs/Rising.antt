@@ -4,7 +4,7 @@ use Rattle.std.specs.Cmp.Lexicographic.{slice_cmp}
 use Rattle.std.specs.List.Sorted.{IsStrictlySortedBy}
 use Rattle.std.specs.Ordering.{is_lt, nat_cmp}
 use Rattle.term_model.specs.declared.object.Attribute.{Attribute}
-use Rattle.term_model.specs.WellFormedMib.{identifiers}
+use Rattle.term_model.specs.ObjectAttributes.{identifiers}
 
 -- they stand by rising identifier, each identifier once
 abbrev pub AreRising : List Attribute → Type 0

@@ -1,7 +1,7 @@
 //! From a line to its answer.
 
 use crate::row_fault::RowFault;
-use crate::{apdu_rows, encoding_rows, object_rows, schema_rows};
+use crate::{bind_rows, encoding_rows, object_rows, schema_rows};
 use std::alloc::{AllocError, Global};
 use term_model::Set;
 
@@ -18,7 +18,7 @@ fn answer_call(
         "ber_values" => encoding_rows::answer(alloc, call, arguments, out),
         "schema" => schema_rows::answer(alloc, schema, call, arguments, out),
         "op_object" => object_rows::answer(alloc, schema, call, arguments, out),
-        "cmip_apdus" => apdu_rows::answer(alloc, call, arguments, out),
+        "bind_apdus" => bind_rows::answer(alloc, call, arguments, out),
         _ => Err(RowFault::Call),
     }
 }

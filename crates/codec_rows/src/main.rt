@@ -3,7 +3,7 @@
 #![tactic(auto)]
 
 mod answering;
-mod apdu_rows;
+mod bind_rows;
 mod encoding_rows;
 mod object_rows;
 mod reading;

@@ -1,7 +1,6 @@
 //! Answers in texts.
 
 use std::alloc::AllocError;
-use term_model::Name;
 use term_values::Oid;
 
 /// So many equal octets and more in a row are a word of their own.
@@ -43,22 +42,6 @@ pub fn show_oid(oid: &Oid, out: &mut String) -> Result<(), AllocError> {
     for arc in oid.arcs() {
         write!(out, "{between}{arc}")?;
         between = ".";
-    }
-    Ok(())
-}
-
-/// Appends the parts of a name, with commas between them; that of the root is `root`.
-pub fn show_name(name: &Name, out: &mut String) -> Result<(), AllocError> {
-    if name.parts.is_empty() {
-        return out.push_str("root");
-    }
-    let mut between = "";
-    for part in &name.parts {
-        out.push_str(between)?;
-        show_oid(&part.attribute, out)?;
-        out.push_str("=")?;
-        show_octets(part.value.as_slice(), out)?;
-        between = ", ";
     }
     Ok(())
 }

@@ -19,7 +19,7 @@ use Rattle.term_model.specs.CreateSteps.{created_object, fails, first_error, lis
 use Rattle.term_model.specs.CreateSteps.{missing_ids}
 use Rattle.term_model.specs.CreateSteps.{others_error, size_error, sized, values_error}
 use Rattle.term_model.specs.CreateValues.{created_value}
-use Rattle.term_model.specs.WellFormedMib.{identifiers}
+use Rattle.term_model.specs.ObjectAttributes.{identifiers}
 
 -- ---- the errors that there aren't
 

@@ -29,7 +29,7 @@ use Rattle.term_model.specs.LogRecords.{counted, counted_attribute, counted_entr
 use Rattle.term_model.specs.LogRecords.{records_of}
 use Rattle.term_model.specs.ObjectOperation.{object_octets}
 use Rattle.term_model.specs.Opening.{asking_of, opened, opened_instances}
-use Rattle.term_model.specs.WellFormedMib.{identifiers}
+use Rattle.term_model.specs.ObjectAttributes.{identifiers}
 use Rattle.package_laws.proofs.Attributes.{attribute_is_listed, listed_has_attribute}
 use Rattle.package_laws.proofs.Members.{here, there}
 use Rattle.opening_laws.specs.OpeningLaws.{HasEachAttribute, IsOpenedObject, OpenedHaveAttributes, OpenedHaveObjects}

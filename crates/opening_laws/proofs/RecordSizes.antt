@@ -24,7 +24,7 @@ use Rattle.term_model.specs.ClassAttributes.{is_labelled}
 use Rattle.term_model.specs.GetRequest.{global_form}
 use Rattle.term_model.specs.LogRecords.{record_size}
 use Rattle.term_model.specs.ObjectOperation.{attribute_octets, value_octets}
-use Rattle.term_model.specs.WellFormedMib.{identifiers}
+use Rattle.term_model.specs.ObjectAttributes.{identifiers}
 use Rattle.term_model.specs.WholeSet.{IsWhole}
 use Rattle.opening_laws.proofs.EncodingLengths.{contents_within, encoded_short, identifier_contents_short}
 use Rattle.opening_laws.proofs.Full.{IsBounded}

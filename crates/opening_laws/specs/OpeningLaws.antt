@@ -13,7 +13,7 @@ use Rattle.term_model.specs.BoundClasses.{object_size}
 use Rattle.term_model.specs.Inheritance.{HasAttribute, HasRecord}
 use Rattle.term_model.specs.NamedObjects.{IsByName, names, object_at}
 use Rattle.term_model.specs.Opening.{opened}
-use Rattle.term_model.specs.WellFormedMib.{identifiers}
+use Rattle.term_model.specs.ObjectAttributes.{identifiers}
 use Rattle.term_model.specs.WellFormedObjects.{AreGood}
 use Rattle.term_model.specs.WholeSet.{IsWhole}
 use Rattle.opening_laws.specs.Encodable.{IsEncodable}

@@ -12,7 +12,6 @@ use Rattle.term_model.specs.AgentState.{is_ended_state, numbered}
 use Rattle.term_model.specs.Played.{Play}
 use Rattle.term_model.specs.Settled.{IsSettled}
 use Rattle.term_model.specs.Step.{is_legal, last_moment}
-use Rattle.term_model.proofs.ScriptLaws.{BringsNone}
 use Rattle.term_model.proofs.StepLaws.{ground_of, stands_from_some}
 use Rattle.agent_model.specs.declared.script_line.ScriptLine.{ScriptLine}
 use Rattle.agent_model.specs.declared.script_line.ScriptLine.TheVariants as line
@@ -21,8 +20,8 @@ use Rattle.agent_model.specs.Playing.{answered, beginning, closed, closed_from, 
 use Rattle.agent_model.specs.Playing.{lines_played, may_play, played, taken_all, with_entry}
 use Rattle.agent_model.proofs.FrameLaws.{step_count}
 use Rattle.agent_model.proofs.KeepingLaws.{OpensNone}
-use Rattle.agent_model.proofs.ScriptLaws.{answered_keeps, closed_from_keeps, closed_keeps, lines_end, lines_more}
-use Rattle.agent_model.proofs.ScriptLaws.{taken_all_keeps, whole_keeps}
+use Rattle.agent_model.proofs.ScriptLaws.{BringsNone, answered_keeps, closed_from_keeps, closed_keeps, lines_end}
+use Rattle.agent_model.proofs.ScriptLaws.{lines_more, taken_all_keeps, whole_keeps}
 use Rattle.agent_model.proofs.StepLaws.{next_opens, step_ground}
 use Rattle.script_playing.specs.Ready.{AreTaken, HaveEnded, IsFresh, IsJournaled, IsKept, IsReady}
 use Rattle.script_playing.proofs.AnsweringLaws.{answered_midway, grant_legal}

@@ -15,7 +15,7 @@ use Rattle.term_model.specs.declared.request.IdRef.TheVariants as ids
 use Rattle.term_model.specs.declared.schema.Set.{Set}
 use Rattle.term_model.specs.Inheritance.{HasAttribute}
 use Rattle.term_model.specs.Modifications.{Modified, modified, modified_by, settled, tried, unmodified, with_value}
-use Rattle.term_model.specs.WellFormedMib.{identifiers}
+use Rattle.term_model.specs.ObjectAttributes.{identifiers}
 use Rattle.term_model.specs.WellFormedObjects.{IsGoodObject, IsPlainRecord}
 use Rattle.term_model.specs.WholeSet.{IsWhole}
 use Rattle.set_laws.specs.KeptMaps.{ObjectStaysGood, under}

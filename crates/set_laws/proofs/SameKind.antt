@@ -19,7 +19,7 @@ use Rattle.term_model.specs.ClassAttributes.{is_labelled, syntax_of}
 use Rattle.term_model.specs.Comparing.{is_same_oid}
 use Rattle.term_model.specs.Modifications.{Modified, ends_full, modified, modified_by, replaced, settled, tried}
 use Rattle.term_model.specs.Modifications.{unmodified, with_value, without_full}
-use Rattle.term_model.specs.WellFormedMib.{identifiers}
+use Rattle.term_model.specs.ObjectAttributes.{identifiers}
 use Rattle.set_laws.specs.ModificationLaws.{IdentifiersStay, KindStays}
 use Rattle.set_laws.proofs.Members.{either_way}
 

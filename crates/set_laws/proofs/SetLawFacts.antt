@@ -12,7 +12,7 @@ use Rattle.term_model.specs.declared.request.Change.{Change}
 use Rattle.term_model.specs.declared.request.IdRef.{IdRef}
 use Rattle.term_model.specs.declared.request.IdRef.TheVariants as ids
 use Rattle.term_model.specs.BoundClasses.{object_size}
-use Rattle.term_model.specs.WellFormedMib.{identifiers}
+use Rattle.term_model.specs.ObjectAttributes.{identifiers}
 use Rattle.term_model.proofs.ExampleNetwork.{element, element_oid, id_oid, id_value, load_oid, load_value, network}
 use Rattle.set_laws.specs.ModificationLaws.{HasShortValue, IsNamed, IsNoLogStatus, made_of}
 use Rattle.set_laws.proofs.Members.{first_or_later, here, nowhere}

@@ -13,7 +13,7 @@ use Rattle.term_model.specs.BoundClasses.{counts, is_bound_log, object_size}
 use Rattle.term_model.specs.ClassAttributes.{is_labelled, syntax_of}
 use Rattle.term_model.specs.Modifications.{modified, unmodified}
 use Rattle.term_model.specs.ObjectSet.{set_effect}
-use Rattle.term_model.specs.WellFormedMib.{identifiers}
+use Rattle.term_model.specs.ObjectAttributes.{identifiers}
 
 -- a modification names the attribute, by its identifier
 abbrev pub IsNamed : List Change → List ℕ → Type 0

@@ -8,10 +8,9 @@ use Rattle.term_values.specs.Tree.{TreeValue}
 use Rattle.term_values.specs.Tree.TreeValue.{Constructed, Primitive}
 use Rattle.term_values.specs.Tree.TreeValues.{Nothing, Then}
 use Rattle.term_model.specs.declared.apdu.Apdu.TheVariants as apdus
-use Rattle.term_model.specs.Apdu.{IsApdu, IsInvoke}
-use Rattle.term_model.specs.ApduReading.{apdu_of, invoke_of}
+use Rattle.term_model.specs.Apdu.{IsApdu}
+use Rattle.term_model.specs.ApduReading.{apdu_of}
 use Rattle.term_model.specs.ApduWriting.{apdu_octets}
-use Rattle.term_model.specs.RemoteOperation.{Invoke}
 
 abbrev one : TreeValue
 one = Primitive (universal 2) (1 ∷ [])
@@ -26,10 +25,7 @@ null = Primitive (universal 5) []
 abbrev invoke_tree : TreeValue
 invoke_tree = Constructed (context 1) (Then one (Then three (Then null Nothing)))
 
-abbrev called : Invoke
-called = record { id = pos 1; operation = pos 3; argument = null }
-
-invoke_denoted : IsInvoke invoke_tree called
+invoke_denoted : IsApdu invoke_tree (apdus.Invoke (pos 1) None (pos 3) (Some null))
 unfolding integer_contents
 invoke_denoted = record {
   denotes = (
@@ -45,11 +41,11 @@ invoke_denoted = record {
   any = refl;
 }
 
-invoke_read : invoke_of invoke_tree ≡ Some called
+invoke_read : apdu_of invoke_tree ≡ Some (apdus.Invoke (pos 1) None (pos 3) (Some null))
 unfolding integer_in
 invoke_read = refl
 
--- with a linked id it is an APDU, and invokes nothing of the agent
+-- the same with the linked id 2
 abbrev linked_tree : TreeValue
 linked_tree =
     Constructed (context 1) (Then one (Then (Primitive (context 0) (2 ∷ [])) (Then three (Then null Nothing))))
@@ -73,9 +69,9 @@ linked_denoted = record {
   any = refl;
 }
 
-linked_invokes_nothing : invoke_of linked_tree ≡ None
+linked_read : apdu_of linked_tree ≡ Some (apdus.Invoke (pos 1) (Some (pos 2)) (pos 3) (Some null))
 unfolding integer_in
-linked_invokes_nothing = refl
+linked_read = refl
 
 -- [2] { 1, { 3, NULL } }: the result NULL of the operation 3
 abbrev operation_and_value : TreeValue

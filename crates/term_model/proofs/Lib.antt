@@ -4,25 +4,20 @@ mod FilterReadingFacts
 mod CreatingFacts
 pub mod ExampleNetwork
 pub mod FindingLaws
-pub mod FrameLaws
-pub mod HistoryLaws
 mod FollowingFacts
 mod FurtherCreatingFacts
 mod InheritanceFacts
-pub mod InvokeLaws
-mod ObeyingFacts
+mod ElementFacts
 mod LicensingFacts
 mod LogFacts
 mod MapFacts
 pub mod MapLaws
-pub mod ObjectLaws
 mod ObjectGetFacts
 mod ObjectSetFacts
 mod OperationFacts
 pub mod PlaceLaws
 mod ReplyFacts
 mod RequestFacts
-pub mod ScriptLaws
 mod ScopeFacts
 mod SelectionFacts
 mod StandardFacts

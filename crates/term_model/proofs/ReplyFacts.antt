@@ -15,7 +15,7 @@ use Rattle.term_model.specs.declared.results.SetInfoStatus.TheVariants as set_in
 use Rattle.term_model.specs.declared.scope.Scope.TheVariants as scopes
 use Rattle.term_model.specs.CmisErrors as errors
 use Rattle.term_model.specs.FailureValues.{failure_value}
-use Rattle.term_model.specs.Replies.{linked}
+use Rattle.term_model.specs.Replies.{contents_of}
 use Rattle.term_model.specs.ResultValues.{attributes_value, local_instance, set_list_value}
 use Rattle.term_model.specs.SentApdus.{sent_event, sent_reject, sent_reply}
 
@@ -48,8 +48,8 @@ time_part = 0x85 ∷ 0x0F ∷ time
 
 -- a linked setListError: replacing the load, operator 0, gave invalidAttributeValue, 6
 refused_load : sent_reply (pos 2) (pos 5) (pos 1)
-    (linked 3 set_list_error
-    (set_list_value element five time (set_info.Error (pos 6) (pos 0) (ids.Global load) ∷ [])))
+    (reply.Linked 3 (contents_of set_list_error
+    (set_list_value element five time (set_info.Error (pos 6) (pos 0) (ids.Global load) ∷ []))))
     ≡ 0x00 ∷ 0x00 ∷ 0x00 ∷ 0x43 ∷ 0xA1 ∷ 0x41 ∷ 0x02 ∷ 0x01 ∷ 0x01 ∷ 0x80 ∷ 0x01 ∷ 0x02 ∷ 0x02 ∷ 0x01 ∷ 0x02 ∷ 0xA3
     ∷ 0x36 ∷ (class_part ++ (five_part ++ (time_part
     ++ (0xA6 ∷ 0x0E ∷ 0xA0 ∷ 0x0C ∷ 0x0A ∷ 0x01 ∷ 0x06 ∷ 0x82 ∷ 0x01 ∷ 0x00 ∷ 0x80 ∷ 0x04 ∷ 0x88 ∷ 0x37 ∷ 0x07 ∷ 0x02

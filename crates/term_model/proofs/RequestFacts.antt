@@ -1,30 +1,22 @@
--- Examples of what managers and the agent send, computed: X.229, section 9; X.711, section 7.4; docs/PROFILE.md,
--- section 4.
-use Rattle.std.proofs.Common.{inl, inr}
-use Rattle.std.specs.Prelude.{◌≡◌, ℕ, pos, true, List, [], ◌∷◌, None, Some, refl}
+-- Examples of the parts of APDUs, of BINDs and of APDUs that the agent sends, computed: X.229, section 9; X.711,
+-- section 7.4; docs/PROFILE.md, section 4.
+use Rattle.std.proofs.Common.{inl}
+use Rattle.std.specs.Prelude.{◌≡◌, ℕ, pos, List, [], ◌∷◌, None, Some, refl}
 use Rattle.term_values.specs.BerReading.{front_of, identifier_of, length_at}
 use Rattle.term_values.specs.Der.{identifier_octets, length_octets}
 use Rattle.term_values.specs.Octets.{integer_contents, integer_in}
 use Rattle.term_values.specs.Oid.{oid_in, subidentifier}
-use Rattle.term_values.specs.Tag.{context, universal}
+use Rattle.term_values.specs.Tag.{universal}
 use Rattle.term_values.specs.Tree.{TreeValue}
 use Rattle.term_values.specs.Tree.TreeValue.{Constructed, Primitive}
 use Rattle.term_values.specs.Tree.TreeValues.{Nothing, Then}
-use Rattle.term_model.specs.declared.request.IdRef.TheVariants.{Global}
-use Rattle.term_model.specs.declared.request.Instance.{Instance}
-use Rattle.term_model.specs.declared.request.Invocation.{Invocation}
-use Rattle.term_model.specs.declared.request.Named.TheVariants as named
-use Rattle.term_model.specs.AgentLimits.{shipped}
-use Rattle.term_model.specs.AgentState.{start}
 use Rattle.term_model.specs.ApduReading.{id_under}
-use Rattle.term_model.specs.Arriving.{arriving}
-use Rattle.term_model.specs.Arriving.Arriving.{NoEffect, Queued}
-use Rattle.term_model.specs.Bind.{IsBind, accepted, bad_bind, bind, bind_answer, title_in}
-use Rattle.term_model.specs.GetRequest.{IsGet, get_alone, get_apdu, get_request, instance_octets, invocation_in}
+use Rattle.term_model.specs.Bind.{IsBind, bind_answer, title_in}
+use Rattle.term_model.specs.GetRequest.{instance_octets}
 use Rattle.term_model.specs.Parts.{contents_under, inside_under, integer_under, oid_under, one_under, two_under}
 use Rattle.term_model.specs.RemoteOperation.{empty_result_apdu, error_apdu, frame, linked_apdu, reject_apdu}
 use Rattle.term_model.specs.RemoteOperation.{result_apdu}
-use Rattle.term_model.proofs.ExampleNetwork.{element_oid, id_oid, network}
+use Rattle.term_model.proofs.ExampleNetwork.{element_oid, id_oid}
 
 -- SEQUENCE { INTEGER 5, OBJECT IDENTIFIER 2.999.3.1 }
 abbrev five : TreeValue
@@ -69,13 +61,9 @@ id_too_great : id_under (universal 2) (Primitive (universal 2) (0 ∷ 0x80 ∷ 0
 unfolding integer_in
 id_too_great = refl
 
--- the BIND of the title 2.999.11.1, and the answers to it
+-- the BIND of the title 2.999.11.1, a SEQUENCE without a title, and the answers accepted(0) and badBind(2)
 abbrev bind_octets : List ℕ
 bind_octets = 0x30 ∷ 0x06 ∷ 0x06 ∷ 0x04 ∷ 0x88 ∷ 0x37 ∷ 0x0B ∷ 0x01 ∷ []
-
-bind_example : bind (2 ∷ 999 ∷ 11 ∷ 1 ∷ []) ≡ bind_octets
-unfolding subidentifier identifier_octets length_octets
-bind_example = refl
 
 title_example : title_in bind_octets ≡ Some (2 ∷ 999 ∷ 11 ∷ 1 ∷ [])
 unfolding oid_in subidentifier identifier_of length_at front_of
@@ -90,62 +78,13 @@ bind_denoted : IsBind (Constructed (universal 16) (Then class Nothing)) element_
 unfolding subidentifier
 bind_denoted = (class ∷ [], _, refl, inl ((element_oid, (refl, refl, refl), refl), (refl, refl)), refl)
 
-answer_example : bind_answer accepted 1 ≡ 0x30 ∷ 0x06 ∷ 0x0A ∷ 0x01 ∷ 0x00 ∷ 0x02 ∷ 0x01 ∷ 0x01 ∷ []
+answer_example : bind_answer 0 1 ≡ 0x30 ∷ 0x06 ∷ 0x0A ∷ 0x01 ∷ 0x00 ∷ 0x02 ∷ 0x01 ∷ 0x01 ∷ []
 unfolding identifier_octets length_octets integer_contents
 answer_example = refl
 
-bad_example : bind_answer bad_bind 1 ≡ 0x30 ∷ 0x06 ∷ 0x0A ∷ 0x01 ∷ 0x02 ∷ 0x02 ∷ 0x01 ∷ 0x01 ∷ []
+bad_example : bind_answer 2 1 ≡ 0x30 ∷ 0x06 ∷ 0x0A ∷ 0x01 ∷ 0x02 ∷ 0x02 ∷ 0x01 ∷ 0x01 ∷ []
 unfolding identifier_octets length_octets integer_contents
 bad_example = refl
-
--- an m-Get of the root with invoke id 1: what is written for it, and what it says
-abbrev get_root : List ℕ
-get_root =
-    0xA1 ∷ 0x10 ∷ 0x02 ∷ 0x01 ∷ 0x01 ∷ 0x02 ∷ 0x01 ∷ 0x03 ∷ 0x30 ∷ 0x08 ∷ 0x80 ∷ 0x04 ∷ 0x88 ∷ 0x37 ∷ 0x03 ∷ 0x01 ∷
-    0xA4 ∷ 0x00 ∷ []
-
-written_example : get_apdu (pos 1) element_oid [] ≡ get_root
-unfolding subidentifier identifier_octets length_octets integer_contents
-written_example = refl
-
-abbrev root_instance : Instance
-root_instance = record { raw = 0xA4 ∷ 0x00 ∷ []; named = named.Object [] }
-
-abbrev root_invocation : Invocation
-root_invocation = record {
-  id = pos 1;
-  request = get_alone (Global element_oid) root_instance;
-}
-
-read_example : invocation_in get_root ≡ Some root_invocation
-unfolding oid_in subidentifier integer_in integer_contents identifier_octets length_octets identifier_of length_at
-    front_of
-read_example = refl
-
--- and its argument as a tree
-abbrev global_class : TreeValue
-global_class = Primitive (context 0) (0x88 ∷ 0x37 ∷ 3 ∷ 1 ∷ [])
-
-abbrev root : TreeValue
-root = Constructed (context 4) Nothing
-
-get_denoted : IsGet (Constructed (universal 16) (Then global_class (Then root Nothing))) (get_request element_oid [])
-unfolding subidentifier
-get_denoted = (
-  element_oid,
-  [],
-  (
-    global_class ∷ (root ∷ []),
-    _,
-    refl,
-    inl (
-      (0, _, (element_oid, (refl, refl, refl), refl), refl),
-      inl ((2, _, ([], [], refl, tt, refl, refl), refl), inr (inr (inr (inr (inr (refl, refl)))))),
-    ),
-    refl,
-  ),
-  refl,
-)
 
 -- the instance elementId = 5, an RDNSequence of one part
 instance_example : instance_octets (record { attribute = id_oid; value = 0x02 ∷ 0x01 ∷ 0x05 ∷ [] } ∷ [])
@@ -153,19 +92,7 @@ instance_example : instance_octets (record { attribute = id_oid; value = 0x02 �
 unfolding subidentifier identifier_octets length_octets
 instance_example = refl
 
--- an m-Get is queued, and an APDU that is none has no effect
-queued_example : arriving (start network shipped) 1 get_root ≡ Queued root_invocation
-unfolding oid_in subidentifier integer_in integer_contents identifier_octets length_octets identifier_of length_at
-    front_of
-queued_example = refl
-
-no_effect : arriving (start network shipped) 1 (0xA1 ∷ 0x00 ∷ []) ≡ NoEffect
-unfolding oid_in subidentifier integer_in integer_contents identifier_octets length_octets identifier_of length_at
-    front_of
-no_effect = refl
-
--- the frames of APDUs, with invoke id 1: a result of m-Get, one without a value, a linked reply with the own invoke
--- id 2,
+-- the frames of APDUs, with invoke id 1: a result without a value, one of m-Get, a linked reply with the own invoke id 2,
 -- an error 1 without a parameter, and rejects with and without an invoke id
 frame_example : frame (empty_result_apdu (pos 1)) ≡ 0 ∷ 0 ∷ 0 ∷ 5 ∷ 0xA2 ∷ 0x03 ∷ 0x02 ∷ 0x01 ∷ 0x01 ∷ []
 unfolding identifier_octets length_octets integer_contents

@@ -1,14 +1,9 @@
--- Worked runs, computed from the definitions alone: a Get of the root, and a Get of an object that is not there. Then
--- which entries the program can hold, at the bounds.
-use Rattle.std.specs.Prelude.{◌≡◌, ℕ, zero, suc, pos, ◌<◌, List, [], ◌∷◌, ◌++◌, None, codes, refl}
+-- Examples of settled agents and of lines of a journal, and which entries the program can hold, at the bounds.
+use Rattle.std.specs.Prelude.{◌≡◌, ℕ, zero, suc, pos, ◌<◌, [], ◌∷◌, None, codes, refl}
 use Rattle.std.specs.Fmt.{digits}
 use Rattle.std.proofs.Common.{arith, subst}
 use Rattle.std.proofs.lemmas.Bool.{false≢true}
-use Rattle.hex.specs.Hex.{IsBytes, encode_with}
-use Rattle.term_values.specs.Oid.{subidentifier, oid_in}
-use Rattle.term_values.specs.Octets.{integer_contents, integer_in}
-use Rattle.term_values.specs.Der.{identifier_octets, length_octets}
-use Rattle.term_values.specs.BerReading.{identifier_of, length_at, front_of}
+use Rattle.hex.specs.Hex.{IsBytes}
 use Rattle.term_model.specs.declared.agent_state.AgentState.{AgentState}
 use Rattle.term_model.specs.declared.agent_state.Association.{Association}
 use Rattle.term_model.specs.declared.agent_state.AssociationState.{AssociationState}
@@ -16,72 +11,22 @@ use Rattle.term_model.specs.declared.agent_state.AssociationState.TheVariants.{L
 use Rattle.term_model.specs.declared.entry.Entry.TheVariants as entry
 use Rattle.term_model.specs.declared.entry.Why.TheVariants as why
 use Rattle.term_model.specs.AgentLimits.{shipped}
-use Rattle.term_model.specs.AgentState.{start}
-use Rattle.term_model.specs.JournalLaws.{frames_of}
-use Rattle.term_values.specs.Moment.{moment_text, date_from, date_in_year}
-use Rattle.term_model.specs.Played.{ScriptLine, played, run_text}
-use Rattle.term_model.specs.Played.ScriptLine.{Open, Send}
 use Rattle.term_model.specs.Settled.{IsDone, IsSettled}
-use Rattle.term_model.specs.SentApdus.{sent_reply}
-use Rattle.term_model.specs.Step.{step}
 use Rattle.term_model.specs.Texts.{line}
 use Rattle.term_model.specs.TextLaws.{IsEntry}
 use Rattle.term_model.proofs.ExampleNetwork.{network}
 use Rattle.term_model.proofs.StepLaws.{numbered_alone}
 
--- title 2.999.11.1
-abbrev bind_octets : List ℕ
-bind_octets = 0x30 ∷ 0x06 ∷ 0x06 ∷ 0x04 ∷ 0x88 ∷ 0x37 ∷ 0x0B ∷ 0x01 ∷ []
-
--- m-Get of the root with invoke id 1
-abbrev get_root : List ℕ
-get_root =
-    0xA1 ∷ 0x10 ∷ 0x02 ∷ 0x01 ∷ 0x01 ∷ 0x02 ∷ 0x01 ∷ 0x03 ∷ 0x30 ∷ 0x08 ∷ 0x80 ∷ 0x04 ∷ 0x88 ∷ 0x37 ∷ 0x03 ∷ 0x01
-    ∷ 0xA4 ∷ 0x00 ∷ []
-
-run_of_the_root : run_text network shipped (Open bind_octets ∷ Send 1 get_root ∷ []) ≡
-    codes "opened 1 3006060488370B01\ntaken 1 12\narrived 1 A1100201010201033008800488370301A400\n"
-    ++ (codes "granted 1 0\ncommitted 1\ntaken 1 65\nfinished 1\nclosed 1 end\n--\n"
-    ++ (codes "out 1 0000000830060A01000201010000003DA23B02010130360201033031800488370301A40085"
-    ++ (codes "0F31393730303130313030303030305AA61630098004883707010201013009800488370702020107\nobjects 1\n")))
-unfolding sent_reply digits encode_with subidentifier oid_in integer_contents integer_in identifier_octets length_octets
-    identifier_of length_at front_of moment_text date_from date_in_year played step
-run_of_the_root = refl
-
--- m-Get of the object 5 with invoke id 1, which is not there
-abbrev get_five : List ℕ
-get_five =
-    0xA1 ∷ 0x1D ∷ 0x02 ∷ 0x01 ∷ 0x01 ∷ 0x02 ∷ 0x01 ∷ 0x03 ∷ 0x30 ∷ 0x15 ∷ 0x80 ∷ 0x04 ∷ 0x88 ∷ 0x37 ∷ 0x03 ∷ 0x01 ∷ 0xA4
-    ∷ 0x0D ∷ 0x31 ∷ 0x0B ∷ 0x30 ∷ 0x09 ∷ 0x06 ∷ 0x04 ∷ 0x88 ∷ 0x37 ∷ 0x07 ∷ 0x01 ∷ 0x02 ∷ 0x01 ∷ 0x05 ∷ []
-
-run_of_five : run_text network shipped (Open bind_octets ∷ Send 1 get_five ∷ []) ≡
-    codes "opened 1 3006060488370B01\ntaken 1 12\n"
-    ++ (codes "arrived 1 A11D0201010201033015800488370301A40D310B3009060488370701020105\ngranted 1 0\n"
-    ++ (codes "committed 1\ntaken 1 27\nfinished 1\nclosed 1 end\n--\n"
-    ++ (codes "out 1 0000000830060A010002010100000017A315020101020101A40D310B3009060488370701020105\n"
-    ++ (codes "objects 1\n"))))
-unfolding sent_reply digits encode_with subidentifier oid_in integer_contents integer_in identifier_octets length_octets
-    identifier_of length_at front_of moment_text date_from date_in_year played step
-run_of_five = refl
-
--- of a script with two associations, the frames of each, and none of one that is never opened and to which nothing is
--- sent
-abbrev two_managers : List ScriptLine
-two_managers = Open bind_octets ∷ Send 1 get_root ∷ Open (1 ∷ []) ∷ Send 2 get_five ∷ Send 1 get_five ∷ []
-
-frames_of_first : frames_of 1 0 two_managers ≡ bind_octets ∷ get_root ∷ get_five ∷ []
-frames_of_first = refl
-
-frames_of_second : frames_of 2 0 two_managers ≡ (1 ∷ []) ∷ get_five ∷ []
-frames_of_second = refl
-
-frames_of_third : frames_of 3 0 two_managers ≡ []
-frames_of_third = refl
-
 -- an association for which two octets were placed
 abbrev one_association : AssociationState → ℕ → AgentState
-one_association state taken = record (start network shipped) {
+one_association state taken = record {
+  schema = network;
+  limits = shipped;
+  objects = [];
   associations = record { title = None; state = state; next_own = pos 1; placed = 1 ∷ 2 ∷ []; taken = taken } ∷ [];
+  operations = [];
+  waiting = [];
+  entries = 0;
 }
 
 -- nothing is left to do once it is closed and both were taken

@@ -27,7 +27,7 @@ use Rattle.term_model.specs.WellFormedObjects.{AreGood, HasPart, HasValue, IsGoo
 use Rattle.term_model.proofs.CreatingFacts.{element_binding, element_five, five, id_is, six, two_elements}
 use Rattle.term_model.proofs.ExampleNetwork.{element, element_class, element_oid, element_package, id_oid, id_property}
 use Rattle.term_model.proofs.ExampleNetwork.{id_template, id_value, load_oid, load_property, load_template, load_value}
-use Rattle.term_model.proofs.ObeyingFacts.{both, contains_one, mandatory_of}
+use Rattle.term_model.proofs.ElementFacts.{both, contains_one, mandatory_of}
 use Rattle.term_model.proofs.WholeFacts.{attribute_stated, contains_two, has_element, ids_differ}
 use Rattle.term_model.proofs.WholeFacts.{network_is_whole, stated_by_element, syntax_is, whole_network}
 

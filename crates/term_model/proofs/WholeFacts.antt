@@ -36,7 +36,7 @@ use Rattle.term_model.specs.WholeSet.{labels_of}
 use Rattle.term_model.proofs.CreatingFacts.{bound_network, element_at, element_binding, five, id_is, root_at}
 use Rattle.term_model.proofs.ExampleNetwork.{element_class, element_oid, element_package, id_oid, id_property}
 use Rattle.term_model.proofs.ExampleNetwork.{id_template, load_oid, load_property, load_template, load_value}
-use Rattle.term_model.proofs.ObeyingFacts.{both, contains_none, contains_one}
+use Rattle.term_model.proofs.ElementFacts.{both, contains_none, contains_one}
 
 -- the element and its binding, with a root and the element {elementId = 5} below it at the opening
 abbrev pub whole_network : Set

@@ -38,7 +38,7 @@ use Rattle.term_model.specs.WholeSet.CanName.{AsRoot, ByBinding}
 use Rattle.term_model.proofs.CreatingFacts.{element_binding, extra_oid, root_at, topped}
 use Rattle.term_model.proofs.ExampleNetwork.{element_class, element_oid, element_package, id_oid, id_property}
 use Rattle.term_model.proofs.ExampleNetwork.{id_template, id_value, load_oid, load_property, load_template, load_value}
-use Rattle.term_model.proofs.ObeyingFacts.{both, contains_none, contains_one}
+use Rattle.term_model.proofs.ElementFacts.{both, contains_none, contains_one}
 use Rattle.term_model.proofs.ObjectGetFacts.{heavy_class, heavy_network, heavy_oid}
 use Rattle.term_model.proofs.WholeFacts.{ids_differ, is_within, one, whole_network}
 

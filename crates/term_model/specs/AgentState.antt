@@ -1,6 +1,5 @@
--- The state of the one-manager agent: what it starts from, and what it holds of associations and operations;
--- docs/PROFILE.md, section 7.
-use Rattle.std.specs.Prelude.{ℕ, ◌-◌, ◌==◌, ◌&&◌, Bool, true, false, not, List, [], ◌∷◌}
+-- What the one-manager agent holds of associations and operations; docs/PROFILE.md, section 7.
+use Rattle.std.specs.Prelude.{ℕ, ◌-◌, ◌==◌, ◌&&◌, Bool, true, false, not, List}
 use Rattle.std.specs.Prelude.{length, count_by, slice_get, Option, None, Some, if◌then◌else◌}
 use Rattle.term_model.specs.declared.agent_state.AgentState.{AgentState}
 use Rattle.term_model.specs.declared.agent_state.Association.{Association}
@@ -11,35 +10,6 @@ use Rattle.term_model.specs.declared.agent_state.OperationState.{OperationState}
 use Rattle.term_model.specs.declared.agent_state.OperationState.TheVariants as operation
 use Rattle.term_model.specs.declared.agent_state.Work.{Work}
 use Rattle.term_model.specs.declared.agent_state.Work.TheVariants as work
-use Rattle.term_model.specs.declared.limits.Limits.{Limits}
-use Rattle.term_model.specs.declared.objects.NamedObject.{NamedObject}
-use Rattle.term_model.specs.declared.schema.InstRec.{InstRec}
-use Rattle.term_model.specs.declared.schema.Set.{Set}
-use Rattle.term_model.specs.NamedObjects.{stored}
-
--- the object that an instance states
-abbrev pub opened_object : InstRec → NamedObject
-opened_object instance = record {
-  name = instance.name;
-  object = record { class = instance.class; binding = None; chosen = instance.chosen; attrs = instance.given };
-}
-
--- the map with the objects that instances state
-abbrev pub with_opened : List NamedObject → List InstRec → List NamedObject
-with_opened objects [] = objects
-with_opened objects (instance ∷ others) = with_opened (stored (opened_object instance) objects) others
-
--- the agent before any entry: the objects at the opening, and nothing else
-abbrev pub start : Set → Limits → AgentState
-start schema limits = record {
-  schema = schema;
-  limits = limits;
-  objects = with_opened [] schema.instances;
-  associations = [];
-  operations = [];
-  waiting = [];
-  entries = 0;
-}
 
 -- what stands under a number, which counts from 1
 abbrev pub numbered : {T : Type 0} → List T → ℕ → Option T

@@ -1,6 +1,6 @@
 -- Which tree is which APDU of remote operations: X.229, section 9; docs/PROFILE.md, section 4. The syntaxes are in
 -- PduSyntaxes. The function that reads is in ApduReading, what is written in ApduWriting.
-use Rattle.std.specs.Prelude.{◌≡◌, ℕ, ℤ, List, [], ◌∷◌, Option, None, Some}
+use Rattle.std.specs.Prelude.{◌≡◌, ℤ, Option, None, Some}
 use Rattle.term_values.specs.Denotes.{Denotes}
 use Rattle.term_values.specs.Der.{written}
 use Rattle.term_values.specs.PduSyntaxes.{invoke, return_result, return_error, reject}
@@ -11,7 +11,6 @@ use Rattle.term_values.specs.Tree.TreeValues.{Nothing, Then}
 use Rattle.term_values.specs.Typed.{TypedValue, TypedSlots}
 use Rattle.term_values.specs.Typed.TypedValue.{Int, Null, Parts, Pick, Raw}
 use Rattle.term_values.specs.Typed.TypedSlots.{NoSlots, Filled, Empty}
-use Rattle.term_model.specs.RemoteOperation.{Invoke}
 use Rattle.term_model.specs.declared.apdu.Apdu.{Apdu}
 use Rattle.term_model.specs.declared.apdu.Apdu.TheVariants as apdus
 
@@ -83,7 +82,3 @@ HasAny (apdus.Reject id class problem) tree = Unit {0}
 pub record IsApdu (tree : TreeValue) (apdu : Apdu) : Type 0 where
   pub denotes : Denotes (apdu_syntax apdu) tree (apdu_value apdu)
   pub any : HasAny apdu tree
-
--- the tree is an Invoke of this operation, with this argument and without a linked id
-abbrev pub IsInvoke : TreeValue → Invoke → Type 0
-IsInvoke tree called = IsApdu tree (apdus.Invoke called.id None called.operation (Some called.argument))

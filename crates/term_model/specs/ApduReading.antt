@@ -1,5 +1,5 @@
 -- The APDU of remote operations that a tree is: X.229, section 9. The relation is in Apdu.
-use Rattle.std.specs.Prelude.{ℕ, ℤ, List, [], ◌∷◌, Bool, true, false, ◌==◌, ◌&&◌, nat_le, nat_lt, Option, None, Some}
+use Rattle.std.specs.Prelude.{ℕ, ℤ, [], ◌∷◌, Bool, false, ◌==◌, ◌&&◌, nat_le, nat_lt, Option, None, Some}
 use Rattle.std.specs.Prelude.{option_map, option_and_then, if◌then◌else◌}
 use Rattle.term_values.specs.LeafReading.{no_trees}
 use Rattle.term_values.specs.Octets.{integer_in}
@@ -10,7 +10,7 @@ use Rattle.term_values.specs.Tree.TreeValues.{Nothing, Then}
 use Rattle.term_values.specs.TreeTags.{tag_of}
 use Rattle.term_values.specs.declared.tag.Tag.{Tag}
 use Rattle.term_model.specs.Parts.{integer_under, two, two_under}
-use Rattle.term_model.specs.RemoteOperation.{Invoke, is_within_32_bits}
+use Rattle.term_model.specs.RemoteOperation.{is_within_32_bits}
 use Rattle.term_model.specs.declared.apdu.Apdu.{Apdu}
 use Rattle.term_model.specs.declared.apdu.Apdu.TheVariants as apdus
 
@@ -128,16 +128,3 @@ fields_in tag inside =
 abbrev pub apdu_of : TreeValue → Option Apdu
 apdu_of (Primitive tag contents) = None
 apdu_of (Constructed tag inside) = fields_in tag inside
-
--- what an APDU invokes, without a linked id and with an argument
-abbrev pub invoke_by : Apdu → Option Invoke
-invoke_by (apdus.Invoke id None op (Some argument)) =
-    Some (record { id = id; operation = op; argument = argument })
-invoke_by (apdus.Invoke id None op None) = None
-invoke_by (apdus.Invoke id (Some linked) op argument) = None
-invoke_by (apdus.Result id op value) = None
-invoke_by (apdus.Error id error parameter) = None
-invoke_by (apdus.Reject id class problem) = None
-
-abbrev pub invoke_of : TreeValue → Option Invoke
-invoke_of tree = option_and_then invoke_by (apdu_of tree)

@@ -1,9 +1,6 @@
--- What an APDU of an association brings, read with the agent as it is: X.229, section 9; X.711, section 7.
-use Rattle.std.specs.Prelude.{ℕ, ℤ, List, Option}
-use Rattle.std.specs.Option.{option_map_or}
-use Rattle.term_model.specs.declared.agent_state.AgentState.{AgentState}
+-- What an APDU of an association brings: X.229, section 9; X.711, section 7.
+use Rattle.std.specs.Prelude.{ℕ, ℤ, Option}
 use Rattle.term_model.specs.declared.request.Invocation.{Invocation}
-use Rattle.term_model.specs.GetRequest.{invocation_in}
 
 pub data Arriving : Type 0 where
   -- it is rejected: the invoke id where it could be read, the kind of the problem, and the problem
@@ -14,7 +11,3 @@ pub data Arriving : Type 0 where
   NoEffect : Arriving
   -- a request, which is queued
   Queued : Invocation → Arriving
-
--- what an APDU of the association under a number brings; so far only an m-Get has an effect
-abbrev pub arriving : AgentState → ℕ → List ℕ → Arriving
-arriving agent number apdu = option_map_or Queued (invocation_in apdu) NoEffect

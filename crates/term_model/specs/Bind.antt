@@ -6,7 +6,6 @@ use Rattle.term_values.specs.BerReading.{tree_in}
 use Rattle.term_values.specs.Denotes.{Denotes}
 use Rattle.term_values.specs.Der.{encoded}
 use Rattle.term_values.specs.Octets.{integer_contents}
-use Rattle.term_values.specs.Oid.{oid_contents}
 use Rattle.term_values.specs.PduSyntaxes.{bind as bind_syntax}
 use Rattle.term_values.specs.Tag.{universal}
 use Rattle.term_values.specs.Tree.{TreeValue}
@@ -14,10 +13,6 @@ use Rattle.term_values.specs.Typed.TypedSlots.{Filled, NoSlots}
 use Rattle.term_values.specs.Typed.TypedValue.{Identifier, Parts}
 use Rattle.term_model.specs.Parts.{oid_under, one_under}
 use Rattle.term_model.specs.RemoteOperation.{integer}
-
--- the written BIND of a manager with this title
-abbrev pub bind : List ℕ → List ℕ
-bind title = encoded true (universal 16) (encoded false (universal 6) (oid_contents title))
 
 -- the tree is the BIND of a manager with this title
 abbrev pub IsBind : TreeValue → List ℕ → Type 0
@@ -29,13 +24,6 @@ title_of tree = option_and_then (oid_under (universal 6)) (one_under (universal 
 
 abbrev pub title_in : List ℕ → Option (List ℕ)
 title_in bytes = option_and_then title_of (tree_in bytes)
-
--- the results of a BIND
-abbrev pub accepted : ℕ
-accepted = 0
-
-abbrev pub bad_bind : ℕ
-bad_bind = 2
 
 -- the answer to the BIND of an association with this number
 abbrev pub bind_answer : ℕ → ℕ → List ℕ

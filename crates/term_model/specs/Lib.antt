@@ -39,7 +39,6 @@ pub mod History
 pub mod Inheritance
 pub mod InstanceNames
 pub mod JoinedProperties
-pub mod JournalLaws
 pub mod Licensing
 pub mod LogRecords
 pub mod MapLaws
@@ -75,7 +74,7 @@ pub mod StepCounts
 pub mod Superiors
 pub mod TextLaws
 pub mod Texts
-pub mod WellFormedMib
+pub mod ObjectAttributes
 pub mod WellFormedObjects
 pub mod WholeRecords
 pub mod WholeSet

@@ -25,7 +25,7 @@ use Rattle.term_model.specs.declared.schema.AttrRec.{AttrRec}
 use Rattle.term_model.specs.declared.schema.Set.{Set}
 use Rattle.term_model.specs.Comparing.{is_same_oid}
 use Rattle.term_model.specs.Modifiable.{is_operator, modifiable}
-use Rattle.term_model.specs.WellFormedMib.{most_object, most_value}
+use Rattle.term_model.specs.ObjectAttributes.{most_object, most_value}
 use Rattle.term_model.specs.BoundClasses.{is_bound_log, object_size}
 use Rattle.term_model.specs.ClassAttributes.{is_labelled, is_permitted, syntax_of}
 use Rattle.term_values.specs.FitTest.{value_fits}

@@ -5,7 +5,6 @@ use Rattle.term_values.specs.declared.tag.Tag.{Tag}
 use Rattle.term_values.specs.Der.{encoded}
 use Rattle.term_values.specs.Octets.{octets, integer_contents}
 use Rattle.term_values.specs.Tag.{context, universal}
-use Rattle.term_values.specs.Tree.{TreeValue}
 
 -- the tags of the APDUs
 abbrev pub invoke_tag : Tag
@@ -66,12 +65,6 @@ reject_apdu invoke kind problem =
 -- ROER: the invoke id, the error and its parameter
 abbrev pub error_apdu : ℤ → ℤ → List ℕ → List ℕ
 error_apdu invoke error parameter = encoded true error_tag (integer invoke ++ (integer error ++ parameter))
-
--- what an APDU invokes: the invoke id, the operation and its argument
-pub record Invoke : Type 0 where
-  pub id : ℤ
-  pub operation : ℤ
-  pub argument : TreeValue
 
 abbrev pub is_within_32_bits : ℤ → Bool
 is_within_32_bits (pos n) = nat_lt n (2 ^ 31)

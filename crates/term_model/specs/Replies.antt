@@ -22,10 +22,6 @@ contents_of _ value = []
 abbrev pub single : TypeSyntax → TypedValue → Reply
 single syntax value = reply.Single (der syntax value)
 
--- a linked reply, by its number in LinkedReply; the tag of that number stands in place of the SEQUENCE's own
-abbrev pub linked : ℕ → TypeSyntax → TypedValue → Reply
-linked number syntax value = reply.Linked number (contents_of syntax value)
-
 -- the error of this number. Its parameter is a value of the syntax that the number has; some have none.
 abbrev pub cmis_error : ℕ → TypedValue → CmisError
 cmis_error code value = record {

@@ -1,7 +1,7 @@
--- One step of the one-manager agent: what an entry of the journal does, and when it may stand there; docs/PROFILE.md,
--- section 7.
-use Rattle.std.specs.Prelude.{ℕ, ℤ, pos, ◌+◌, ◌-◌, ◌==◌, ◌&&◌, ◌||◌, not, Bool, true, false, List, [], ◌∷◌, ◌++◌}
-use Rattle.std.specs.Prelude.{length, map, nat_lt, nat_le, slice_get, slice_set, position, Option, None, Some, is_some}
+-- When an entry of the journal may stand next, and the changes of associations and operations of which steps are made;
+-- docs/PROFILE.md, section 7.
+use Rattle.std.specs.Prelude.{ℕ, ℤ, pos, ◌+◌, ◌-◌, ◌==◌, ◌&&◌, ◌||◌, not, Bool, true, false, List, ◌++◌}
+use Rattle.std.specs.Prelude.{length, nat_lt, nat_le, slice_get, slice_set, is_some}
 use Rattle.std.specs.Prelude.{if◌then◌else◌}
 use Rattle.std.specs.Ordering.{int_eq}
 use Rattle.std.specs.Option.{option_map_or}
@@ -21,15 +21,9 @@ use Rattle.term_model.specs.declared.entry.Why.TheVariants as why
 use Rattle.term_model.specs.AgentState.{association_of, operation_of, outstanding, is_outstanding, left_to_take}
 use Rattle.term_model.specs.AgentState.{is_live_state, is_finished_state, is_closed_state, is_waiting_state}
 use Rattle.term_model.specs.AgentState.{granted_moment}
-use Rattle.term_model.specs.Arriving.{Arriving, arriving}
-use Rattle.term_model.specs.Arriving.Arriving.{Rejected, Cancels, NoEffect, Queued}
-use Rattle.term_model.specs.Bind.{title_in, bind_answer, accepted, bad_bind}
-use Rattle.term_model.specs.declared.reply.Reply.{Reply}
 use Rattle.term_model.specs.declared.request.Invocation.{Invocation}
 use Rattle.term_model.specs.declared.request.Request.{Request}
 use Rattle.term_model.specs.declared.request.Request.TheVariants.{Get}
-use Rattle.term_model.specs.Operation.{exec, operation_number, replied}
-use Rattle.term_model.specs.RemoteOperation.{empty_result_apdu, error_apdu, frame, integer, reject_apdu}
 
 -- the most operations of an association that have not ended
 abbrev pub most_outstanding : ℕ
@@ -69,23 +63,6 @@ is_legal agent (entry.Finished number) =
 is_legal agent (entry.Closed number cause) =
     option_map_or (may_close agent number cause) (association_of agent number) false
 
--- the association whose manager bound with these octets; one that is turned away is finished at once
-abbrev pub bound : ℕ → Option (List ℕ) → Association
-bound number (Some title) = record {
-  title = Some title;
-  state = association.Live;
-  next_own = pos 1;
-  placed = frame (bind_answer accepted number);
-  taken = 0;
-}
-bound number None = record {
-  title = None;
-  state = association.Finished;
-  next_own = pos 1;
-  placed = frame (bind_answer bad_bind number);
-  taken = 0;
-}
-
 -- the operation that a request of an association becomes
 abbrev pub queued : ℕ → Invocation → Operation
 queued number invocation = record {
@@ -113,31 +90,10 @@ with_taken count a = record a { taken = a.taken + count }
 abbrev pub with_state : AssociationState → Association → Association
 with_state state a = record a { state = state }
 
--- the frames of replies to an invoke are placed; linked replies take own invoke ids
-abbrev pub with_replies : ℤ → ℤ → List Reply → Association → Association
-with_replies invoke number replies a =
-    let frames = replied invoke number a.next_own replies in
-    record a { placed = a.placed ++ frames.octets; next_own = frames.own }
-
 -- the operation under a number ends with this entry
 abbrev pub ended : AgentState → ℕ → AgentState
 ended agent number = record agent
     { operations = changed_operation agent.operations number (operation.Ended agent.entries) }
-
--- what a granted operation does on the objects as they are: a request's replies are placed for its association. An
--- append is begun by no entry so far.
-abbrev pub carried_out : AgentState → Work → ℕ → AgentState
-carried_out agent (work.Asked association_ invoke request) moment =
-    let outcome = exec agent.schema agent.objects request moment in
-    record agent {
-      objects = outcome.objects;
-      associations = changed_association agent.associations association_
-          (with_replies invoke (operation_number request) outcome.replies);
-    }
-carried_out agent (work.Append log own) moment = agent
-
-abbrev pub performed : AgentState → ℕ → Work → ℕ → AgentState
-performed agent number w moment = ended (carried_out agent w moment) number
 
 -- operations of a closed association end without a reply
 abbrev pub ended_with : ℕ → ℕ → Operation → Operation
@@ -169,67 +125,5 @@ abbrev pub is_get : Work → Bool
 is_get (work.Asked association_ invoke request) = is_get_request request
 is_get (work.Append log own) = false
 
--- what a cancel-get places where it cancels an invoke: the Get's error, and then its own result
-abbrev pub cancelling : ℤ → ℤ → List ℕ
-cancelling id cancelled = frame (error_apdu cancelled operation_cancelled []) ++ frame (empty_result_apdu id)
-
--- a cancel-get ends the Get that it names, an index of an operation; what is no Get goes on
-abbrev pub cancelled_at : AgentState → ℕ → ℤ → ℤ → ℕ → Operation → AgentState
-cancelled_at agent number id cancelled index o =
-    if is_get o.work
-    then record (ended agent (index + 1)) {
-      associations = changed_association agent.associations number (with_placed (cancelling id cancelled));
-    }
-    else record agent {
-      associations = changed_association agent.associations number
-          (with_placed (frame (error_apdu id mistyped_operation [])));
-    }
-
-abbrev pub cancelled_where : AgentState → ℕ → ℤ → ℤ → Option ℕ → AgentState
-cancelled_where agent number id cancelled None = record agent {
-  associations = changed_association agent.associations number
-      (with_placed (frame (error_apdu id no_such_invoke_id (integer cancelled))));
-}
-cancelled_where agent number id cancelled (Some index) =
-    option_map_or (cancelled_at agent number id cancelled index) (slice_get agent.operations index) agent
-
--- what an APDU of an association does: a reject is placed, a cancel-get ends a Get, a request is queued
-abbrev pub received : AgentState → ℕ → Arriving → AgentState
-received agent number (Rejected invoke kind problem) = record agent {
-  associations = changed_association agent.associations number (with_placed (frame (reject_apdu invoke kind problem)));
-}
-received agent number (Cancels id cancelled) =
-    cancelled_where agent number id cancelled (position (is_outstanding_as number cancelled) agent.operations)
-received agent number NoEffect = agent
-received agent number (Queued invocation) =
-    record agent { operations = agent.operations ++ queued number invocation ∷ [] }
-
--- what the entry does
-abbrev pub effect : AgentState → Entry → AgentState
-effect agent (entry.Opened number bind) = record agent {
-  associations = agent.associations ++ bound number (title_in bind) ∷ [];
-}
-effect agent (entry.Arrived number apdu) = received agent number (arriving agent number apdu)
-effect agent (entry.Granted number moment) = record agent {
-  operations = changed_operation agent.operations number (operation.Granted moment);
-}
-effect agent (entry.Committed number) =
-    option_map_or (λ (o : Operation). option_map_or (performed agent number o.work) (granted_moment o.state) agent)
-    (operation_of agent number) agent
-effect agent (entry.Taken number count) = record agent {
-  associations = changed_association agent.associations number (with_taken count);
-}
-effect agent (entry.Finished number) = record agent {
-  associations = changed_association agent.associations number (with_state association.Finished);
-}
-effect agent (entry.Closed number cause) = record agent {
-  associations = changed_association agent.associations number (with_state (association.Closed cause));
-  operations = map (ended_with number agent.entries) agent.operations;
-}
-
 abbrev pub counted : AgentState → AgentState
 counted agent = record agent { entries = agent.entries + 1 }
-
--- an entry that is not legal changes nothing
-unfoldable pub step : AgentState → Entry → AgentState
-step agent next = if is_legal agent next then counted (effect agent next) else agent

@@ -1,5 +1,5 @@
 -- Which maps of objects are well-formed under a schema: X.720, sections 5 and 6; X.722, sections 8.3 to 8.6; the limits
--- are this project's own. Here the definition is whole; WellFormedMib has a part of it.
+-- are this project's own.
 use Rattle.std.specs.Prelude.{◌≡◌, ◌≤◌, ◌⊎◌, ◌++◌, ℕ, List, [], ◌∷◌, false, true, All, Contains, Some}
 use Rattle.std.specs.Prelude.{codes, length}
 use Rattle.std.specs.Cmp.Lexicographic.{slice_cmp}
@@ -22,7 +22,7 @@ use Rattle.term_model.specs.BoundClasses.{counts, is_bound_log, object_size}
 use Rattle.term_model.specs.Inheritance.{HasAttribute, HasRecord}
 use Rattle.term_model.specs.LogRecords.{is_record_name}
 use Rattle.term_model.specs.NamedObjects.{IsByName, names, object_at}
-use Rattle.term_model.specs.WellFormedMib.{identifiers}
+use Rattle.term_model.specs.ObjectAttributes.{identifiers}
 use Rattle.term_model.specs.WholeSet.{IsWhole, NamesClass}
 
 -- a value of an attribute fits its syntax and has at most 8192 octets; those of the attributes by which a bound log

@@ -4,7 +4,7 @@
 ghost use Rattle.std.specs.Prelude.{◌≡◌, pos};
 ghost use Rattle.term_model.specs.Operation.{invalid_object, no_such_object};
 ghost use Rattle.term_model.specs.Scope.{base_object, first_level_only, whole_subtree};
-ghost use Rattle.term_model.specs.WellFormedMib.{most_object};
+ghost use Rattle.term_model.specs.ObjectAttributes.{most_object};
 
 use crate::filter_item::{ANY_PIECE, FINAL_PIECE, INITIAL_PIECE};
 use crate::object::MOST_OBJECT;

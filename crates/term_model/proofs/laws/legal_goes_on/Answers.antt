@@ -1,5 +1,0 @@
-use Rattle.term_model.proofs.HistoryLaws.{legal_append}
-use Rattle.term_model.proofs.laws.legal_goes_on.Goals as goal
-
-pub returns : goal.returns
-returns c = legal_append

@@ -1,5 +1,0 @@
-use Rattle.term_model.proofs.HistoryLaws.{replay_append}
-use Rattle.term_model.proofs.laws.replay_goes_on.Goals as goal
-
-pub returns : goal.returns
-returns c = replay_append

@@ -1,5 +1,0 @@
-use Rattle.term_model.proofs.FrameLaws.{script_frames}
-use Rattle.term_model.proofs.laws.script_frames.Goals as goal
-
-pub returns : goal.returns
-returns c = script_frames
