@@ -1,0 +1,2 @@
+-- The laws that the contract of this crate states.
+pub mod SelectionLaws
