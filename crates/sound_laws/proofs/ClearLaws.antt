@@ -1,5 +1,5 @@
--- ClearLaws: the tags of a syntax that a type of modules without a fault denotes are clear (X.680, sections 24.5, 26.3,
--- 28.3 and 31.2; docs/PROFILE.md, section 11).
+-- ClearLaws: the tags of a syntax that a type of modules without a fault denotes are clear (X.680, sections 25.6, 27.3,
+-- 29.3 and 31.2; docs/PROFILE.md, section 11).
 use Rattle.std.proofs.Common.{◌≡◌, ◌||◌, ◌&&◌, ℕ, ℤ, List, [], Bool, true, false, refl, sym, ◌∙◌}
 use Rattle.std.specs.Prelude.{not}
 use Rattle.token_grammar.specs.declared.token.Token.{Token}

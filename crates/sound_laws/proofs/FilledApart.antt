@@ -1,5 +1,5 @@
 -- FilledApart: the components of a syntax with the values of its DEFAULTs are as far apart as those of the one without
--- (X.680, sections 24.5, 26.3 and 28.3).
+-- (X.680, sections 25.6, 27.3 and 29.3).
 use Rattle.std.proofs.Common.{◌≡◌, ◌∙◌, ◌+◌, ◌||◌, ◌&&◌, ℕ, List, [], ◌∷◌, ◌++◌, Bool, true, false, Option, refl, sym}
 use Rattle.std.proofs.Common.{ap, is_some, subst, true≢false}
 use Rattle.std.specs.Prelude.{not}

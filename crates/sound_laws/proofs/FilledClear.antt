@@ -1,5 +1,5 @@
 -- FilledClear: the tags of a syntax with the values of its DEFAULTs are as clear as those of the one without (X.680,
--- sections 24.5, 25, 26.3 and 28.3; docs/PROFILE.md, section 11).
+-- sections 25, 27.3 and 29.3; docs/PROFILE.md, section 11).
 use Rattle.std.proofs.Common.{◌≡◌, ◌∙◌, ◌+◌, ◌||◌, ℕ, List, [], ◌∷◌, ◌++◌, true, refl, sym, ap, subst}
 use Rattle.std.proofs.lemmas.Bool.{and_parts}
 use Rattle.term_values.specs.Soundness.{are_all_apart, are_runs_apart, has_clear_tags, has_own_tag, have_clear_tags}

@@ -1,5 +1,5 @@
 -- SoundLaws: the syntaxes that modules without a fault give to types, and those of attributes, are sound (X.680,
--- sections 24.5, 25, 26.3, 28.3 and 30.6; docs/PROFILE.md, section 11).
+-- sections 25, 27.3, 29.3 and 31.2; docs/PROFILE.md, section 11).
 use Rattle.std.proofs.Common.{ℕ, List, refl}
 use Rattle.term_values.specs.Soundness.{IsSound}
 use Rattle.term_values.specs.Syntaxes.{TypeSyntax}
