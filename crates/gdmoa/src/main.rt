@@ -6,14 +6,34 @@ use agent_bytes::{RealFiles, StdoutSink};
 use agent_run::refusal::OUT_OF_MEMORY;
 use agent_run::{agent, command_words};
 use std::process::ExitCode;
+use std::thread;
+use std::thread::Builder;
+
+/// The stack on which the agent runs, in octets. The compiler calls itself down what documents nest, with at most some
+/// 3,000 octets for each level; the system gives of the stack what is used.
+const STACK: usize = 0x1000_0000;
+
+/// The status with which the agent answers the words.
+fn answer(rt: &HostRuntime) -> u8 {
+    match command_words(rt) {
+        Ok(words) => {
+            let mut files = RealFiles::new(rt);
+            let mut out = StdoutSink::new(rt);
+            agent(rt, &words, &mut files, &mut out)
+        }
+        Err(_) => OUT_OF_MEMORY,
+    }
+}
 
 fn main(rt: HostRuntime) -> ExitCode {
-    match command_words(&rt) {
-        Ok(words) => {
-            let mut files = RealFiles::new(&rt);
-            let mut out = StdoutSink::new(&rt);
-            ExitCode::from(agent(&rt, &words, &mut files, &mut out))
+    let status = thread::scope(thread::scope_env(), &rt, |scope| {
+        match Builder::new()
+            .stack_size(STACK)
+            .spawn_scoped(scope, || answer(&rt))
+        {
+            Ok(handle) => handle.join(&rt),
+            Err(_) => answer(&rt),
         }
-        Err(_) => ExitCode::from(OUT_OF_MEMORY),
-    }
+    });
+    ExitCode::from(status)
 }
