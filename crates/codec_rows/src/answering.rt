@@ -1,7 +1,7 @@
 //! From a line to its answer.
 
-use crate::row_fault::RowFault;
 use crate::{bind_rows, encoding_rows, object_rows, schema_rows};
+use row_arguments::RowFault;
 use std::alloc::{AllocError, Global};
 use term_model::Set;
 

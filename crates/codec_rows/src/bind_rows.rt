@@ -2,11 +2,10 @@
 
 ghost use Rattle.std.specs.Prelude.{◌<◌, ◌^◌, IfOk};
 
-use crate::reading;
-use crate::row_fault::RowFault;
-use crate::showing::{show_octets, show_oid};
 use bind_apdus::bind_reading::title_in;
 use bind_apdus::bind_writing::bind_answer_frame;
+use row_arguments::showing::{show_octets, show_oid};
+use row_arguments::{RowFault, reading};
 use std::alloc::Global;
 
 /// The greatest number of an association.

@@ -1,10 +1,9 @@
 //! Rows of `ber_values`: encodings.
 
-use crate::reading;
-use crate::row_fault::RowFault;
-use crate::showing::show_octets;
 use ber_tree::tree_writing::reverse_from;
 use ber_values::encoding::{encode_into, write_rising};
+use row_arguments::showing::show_octets;
+use row_arguments::{RowFault, reading};
 use std::alloc::Global;
 use term_values::{Names, Ranges, Syntax, SyntaxForm, Value};
 

@@ -5,11 +5,9 @@
 mod answering;
 mod bind_rows;
 mod encoding_rows;
+mod names;
 mod object_rows;
-mod reading;
-mod row_fault;
 mod schema_rows;
-mod showing;
 
 use answering::answer_line;
 use schema_rows::empty_schema;

@@ -1,13 +1,13 @@
 //! Rows of `op_object`: what is written of values, names and attributes, and the result of a Get.
 
-use crate::reading;
-use crate::row_fault::RowFault;
-use crate::showing::show_octets;
+use crate::names;
 use ber_tree::tree_writing::reverse_from;
 use ber_tree::value_writing::write_oid_backwards;
 use op_object::object_reading::{attribute_set, get_one};
 use op_object::property_lists::readable_attributes;
 use result_contents::names::write_instance;
+use row_arguments::showing::show_octets;
+use row_arguments::{RowFault, reading};
 use std::alloc::Global;
 use term_model::{Attribute, Attrs, Object, Oids, Set};
 use term_values::{Tag, Value};
@@ -40,7 +40,7 @@ fn attributes(alloc: Global, text: &str) -> Result<Attrs, RowFault> {
 
 /// An ObjectInstance of a name.
 fn write_instance_row(alloc: Global, text: &str, out: &mut String) -> Result<(), RowFault> {
-    let name = reading::name(alloc, text)?;
+    let name = names::name(alloc, text)?;
     let mut into = Vec::new(alloc);
     write_instance(&name.parts, &mut into)?;
     reverse_from(0, &mut into);
@@ -89,7 +89,7 @@ fn object(alloc: Global, class: &str, text: &str) -> Result<Object, RowFault> {
 /// The result of a Get of an object under a name, at the moment 0.
 fn get_one_row(alloc: Global, schema: &Set, text: &str, out: &mut String) -> Result<(), RowFault> {
     let (class, place, values) = reading::three(text)?;
-    let name = reading::name(alloc, place)?;
+    let name = names::name(alloc, place)?;
     let object = object(alloc, class, values)?;
     let result = get_one(alloc, schema, &name.parts, &object, START)?;
     Ok(show_octets(result.as_slice(), out)?)

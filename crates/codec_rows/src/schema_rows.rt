@@ -1,8 +1,7 @@
 //! Attributes and classes that rows of `op_object` speak of: X.722, sections 8.7 and 8.4.
 
 use crate::encoding_rows::any_integer;
-use crate::reading;
-use crate::row_fault::RowFault;
+use row_arguments::{RowFault, reading};
 use std::alloc::Global;
 use term_model::{
     ActRecs, AttrRec, AttrRecs, BindRecs, ClassRec, ClassRecs, GroupRecs, InstRecs, Name, NoteRecs,

@@ -1,11 +1,10 @@
 //! Rows of APDUs of remote operations, read and written.
 
-use crate::reading;
-use crate::row_fault::RowFault;
-use crate::showing::show_octets;
 use ber_tree::tree_reading::read_front_tree;
 use ber_tree::tree_writing::write_tree;
 use rose_frames::{Apdu, ApduRefusal, read_apdu, write_apdu};
+use row_arguments::showing::show_octets;
+use row_arguments::{RowFault, reading};
 use std::alloc::{AllocError, Global};
 use term_values::Tree;
 

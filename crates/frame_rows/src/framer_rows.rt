@@ -1,9 +1,8 @@
 //! Rows of streams that come in pieces.
 
-use crate::reading;
-use crate::row_fault::RowFault;
-use crate::showing::show_octets;
 use rose_frames::{FrameRefusal, Framer};
+use row_arguments::showing::show_octets;
+use row_arguments::{RowFault, reading};
 use std::alloc::Global;
 
 /// Appends a refusal.

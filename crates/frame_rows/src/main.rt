@@ -4,11 +4,8 @@
 
 mod apdu_rows;
 mod framer_rows;
-mod reading;
-mod row_fault;
-mod showing;
 
-use row_fault::RowFault;
+use row_arguments::RowFault;
 use std::alloc::{AllocError, Global};
 use std::io;
 

@@ -1,7 +1,6 @@
 //! The agents of rows: what was placed for each association, and how many objects there are.
 
-use crate::reading;
-use crate::row_fault::RowFault;
+use row_arguments::{RowFault, reading};
 use std::alloc::Global;
 use term_model::{
     ActRecs, AgentState, Association, AssociationState, Associations, AttrRecs, Attrs, BindRecs,

@@ -1,8 +1,8 @@
 //! Rows of `journal_text`: the lines of entries, and digits. An entry is given in the words of its line.
 
-use crate::row_fault::RowFault;
-use crate::{reading, run_rows};
+use crate::run_rows;
 use journal_text::texts::{write_decimal, write_entry, write_journal};
+use row_arguments::{RowFault, reading};
 use std::alloc::Global;
 use std::str;
 use term_model::{Entry, Why};

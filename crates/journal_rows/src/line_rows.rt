@@ -1,9 +1,8 @@
 //! Rows of `script_lines`: the lines at the front of a text.
 
-use crate::reading;
-use crate::row_fault::RowFault;
-use crate::showing::show_octets;
 use agent_model::ScriptLine;
+use row_arguments::showing::show_octets;
+use row_arguments::{RowFault, reading};
 use script_lines::{ScriptText, read_script_text};
 use std::alloc::{AllocError, Global};
 

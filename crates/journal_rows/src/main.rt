@@ -6,10 +6,7 @@ mod agents;
 mod answering;
 mod entry_rows;
 mod line_rows;
-mod reading;
-mod row_fault;
 mod run_rows;
-mod showing;
 
 use answering::answer_line;
 use std::io;

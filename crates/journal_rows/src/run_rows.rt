@@ -2,9 +2,8 @@
 
 use crate::agents::agent;
 use crate::entry_rows::{entries, show_text};
-use crate::reading;
-use crate::row_fault::RowFault;
 use journal_text::texts::{run_text, write_outs};
+use row_arguments::{RowFault, reading};
 use std::alloc::Global;
 use term_model::{AgentState, Entry};
 

@@ -1,14 +1,14 @@
 //! What stands in results and linked replies. Each is of the moment 0.
 
+use crate::names;
 use crate::parts::{attributes, get_statuses, id_ref, reason, set_statuses};
-use crate::reading;
-use crate::row_fault::RowFault;
 use result_contents::Contents;
 use result_contents::failures::failure_contents;
 use result_contents::results::{
     action_contents, action_error_contents, attributes_contents, get_list_contents, plain_contents,
     set_list_contents,
 };
+use row_arguments::{RowFault, reading};
 use std::alloc::Global;
 use term_model::{ActionReply, Name, Rdn};
 use term_values::Oid;
@@ -94,6 +94,6 @@ pub fn contents(alloc: Global, text: &str) -> Result<Contents, RowFault> {
     }
     let (class, name, rest) = reading::three(rest)?;
     let class = reading::oid(alloc, class)?;
-    let name = reading::name(alloc, name)?;
+    let name = names::name(alloc, name)?;
     told(alloc, kind, &class, &name, rest)
 }

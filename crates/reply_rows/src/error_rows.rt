@@ -2,10 +2,9 @@
 
 use crate::contents_rows::contents;
 use crate::parts::{id_ref, oids, reason};
-use crate::reading;
-use crate::row_fault::RowFault;
 use result_contents::error_codes::{GET_LIST_ERROR, SET_LIST_ERROR};
 use result_contents::errors;
+use row_arguments::{RowFault, reading};
 use std::alloc::Global;
 use term_model::{CmisError, IdRef, Scope};
 

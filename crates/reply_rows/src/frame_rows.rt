@@ -2,10 +2,10 @@
 
 use crate::contents_rows::{TIME, contents};
 use crate::error_rows::error;
-use crate::reading;
-use crate::row_fault::RowFault;
-use crate::showing::show_octets;
+use crate::names;
 use cmip_replies::{write_event, write_reject, write_reply};
+use row_arguments::showing::show_octets;
+use row_arguments::{RowFault, reading};
 use std::alloc::{AllocError, Global};
 use term_model::{CmisError, Event, Reply};
 use term_values::Bytes;
@@ -90,7 +90,7 @@ fn event(alloc: Global, text: &str) -> Result<Event, RowFault> {
     let (class, name, rest) = reading::three(text)?;
     let (kind, info) = reading::two(rest)?;
     let class = reading::oid(alloc, class)?;
-    let name = reading::name(alloc, name)?;
+    let name = names::name(alloc, name)?;
     let kind = reading::oid(alloc, kind)?;
     let time = Bytes::from_slice(alloc, TIME)?;
     let info = parameter(alloc, info)?;

@@ -6,12 +6,10 @@
 mod contents_rows;
 mod error_rows;
 mod frame_rows;
+mod names;
 mod parts;
-mod reading;
-mod row_fault;
-mod showing;
 
-use row_fault::RowFault;
+use row_arguments::RowFault;
 use std::alloc::{AllocError, Global};
 use std::io;
 

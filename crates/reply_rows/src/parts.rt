@@ -1,7 +1,6 @@
 //! Identifiers, attributes, errors in lists, and reasons.
 
-use crate::reading;
-use crate::row_fault::RowFault;
+use row_arguments::{RowFault, reading};
 use std::alloc::Global;
 use term_model::{AttributeValue, FailureReason, GetInfoStatus, IdRef, SetInfoStatus};
 use term_values::Oid;

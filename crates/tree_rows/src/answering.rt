@@ -1,7 +1,7 @@
 //! From a line to its answer.
 
-use crate::row_fault::RowFault;
 use crate::{tree_rows, value_rows};
+use row_arguments::RowFault;
 use std::alloc::{AllocError, Global};
 
 /// Appends the answer to a call, whose crate, name and arguments these are.

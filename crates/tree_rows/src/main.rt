@@ -3,8 +3,6 @@
 #![tactic(auto)]
 
 mod answering;
-mod reading;
-mod row_fault;
 mod showing;
 mod tree_rows;
 mod value_rows;

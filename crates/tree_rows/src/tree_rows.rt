@@ -1,13 +1,13 @@
 //! Rows of `ber_tree`: trees and contents octets, read and written.
 
-use crate::reading;
-use crate::row_fault::RowFault;
-use crate::showing::{show_octets, show_oid, show_tree};
+use crate::showing::show_tree;
 use ber_tree::BerRefusal;
 use ber_tree::tree_reading::{read_integer_contents, read_oid_contents, read_tree};
 use ber_tree::tree_writing::{
     write_identifier, write_integer_contents, write_length, write_oid_contents, write_tree,
 };
+use row_arguments::showing::{show_octets, show_oid};
+use row_arguments::{RowFault, reading};
 use std::alloc::Global;
 use term_values::{Tag, Tree};
 

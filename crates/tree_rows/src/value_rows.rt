@@ -1,8 +1,8 @@
 //! Rows of `term_values`: identifiers, strings of octets, tags, values and trees.
 
-use crate::reading;
-use crate::row_fault::RowFault;
-use crate::showing::{show_octets, show_oid, show_tag, show_tree};
+use crate::showing::{show_tag, show_tree};
+use row_arguments::showing::{show_octets, show_oid};
+use row_arguments::{RowFault, reading};
 use std::alloc::{AllocError, Global};
 use std::cmp::Ordering;
 use term_values::{Bytes, Oid, Tag, Tree, Trees, Value, ValueForm};

@@ -1,4 +1,4 @@
-//! Answers in texts.
+//! Octets and identifiers as an answer has them.
 
 use std::alloc::AllocError;
 use term_values::Oid;

@@ -1,10 +1,16 @@
-//! The arguments of a row. They are separated by `;`, and the members of a list by `,`. Octets are hexadecimal digits
-//! in words; `*` and a number behind a word say how often it stands, and `-` stands for no octets.
+//! The arguments of a row. They are separated by `;`. Octets are hexadecimal digits in words; `*` and a number behind a
+//! word say how often it stands, and `-` stands for no octets.
 
 use crate::row_fault::RowFault;
 use hex::FromHexError;
 use std::alloc::Global;
 use term_values::{Bytes, Oid};
+
+/// The first word and what follows it.
+pub fn word(text: &str) -> (&str, &str) {
+    let text = text.trim();
+    text.split_once(' ').unwrap_or((text, ""))
+}
 
 /// A call's two arguments.
 pub fn two(text: &str) -> Result<(&str, &str), RowFault> {
@@ -21,9 +27,25 @@ pub fn three(text: &str) -> Result<(&str, &str, &str), RowFault> {
     Ok((first, second, third))
 }
 
+/// A number below 2 ^ 64.
+pub fn natural(text: &str) -> Result<u64, RowFault> {
+    match text.trim().parse::<u64>() {
+        Ok(number) => Ok(number),
+        Err(_) => Err(RowFault::Number),
+    }
+}
+
 /// A whole number of 64 bits.
 pub fn integer(text: &str) -> Result<i64, RowFault> {
     match text.trim().parse::<i64>() {
+        Ok(number) => Ok(number),
+        Err(_) => Err(RowFault::Number),
+    }
+}
+
+/// A number of 32 bits, with a sign where it is negative.
+pub fn id(text: &str) -> Result<i32, RowFault> {
+    match text.trim().parse::<i32>() {
         Ok(number) => Ok(number),
         Err(_) => Err(RowFault::Number),
     }
@@ -45,9 +67,9 @@ pub fn octet(text: &str) -> Result<u8, RowFault> {
     }
 }
 
-/// How often a word stands, at most 65,535 times.
-fn times(text: &str) -> Result<u16, RowFault> {
-    match text.parse::<u16>() {
+/// How often a word stands, below 2 ^ 32 times.
+fn times(text: &str) -> Result<u32, RowFault> {
+    match text.parse::<u32>() {
         Ok(number) => Ok(number),
         Err(_) => Err(RowFault::Number),
     }
@@ -90,7 +112,7 @@ pub fn bytes(alloc: Global, text: &str) -> Result<Bytes, RowFault> {
     })
 }
 
-/// Arcs with points between them; `*` and a number behind an arc say how often it stands, and an empty text has none.
+/// Arcs with points between them; `*` and a number behind an arc say how often it stands, and an empty part has none.
 pub fn arcs(alloc: Global, text: &str) -> Result<Vec<u32>, RowFault> {
     let mut arcs = Vec::new(alloc);
     for part in text.split('.') {

@@ -5,7 +5,7 @@ use std::alloc::{AllocError, AllocFailed};
 /// Why a row isn't answered.
 #[derive(Clone, Copy, Debug, PartialEq, Eq)]
 pub enum RowFault {
-    /// No call has this name.
+    /// No crate or no call has the row's name.
     Call,
     /// There are fewer arguments than the call takes.
     Arguments,
@@ -13,6 +13,10 @@ pub enum RowFault {
     Octets,
     /// An argument isn't a number of the call's range.
     Number,
+    /// An argument isn't arcs of an identifier.
+    Arcs,
+    /// An argument isn't one of the words that the call takes.
+    Word,
     /// The octets of an argument spell no tree.
     Tree,
     /// The octets of an argument are no APDU.
@@ -29,6 +33,8 @@ impl RowFault {
             RowFault::Arguments => "unreadable: an argument is missing",
             RowFault::Octets => "unreadable: no hexadecimal digits in pairs",
             RowFault::Number => "unreadable: no number in the range",
+            RowFault::Arcs => "unreadable: no arcs of an identifier",
+            RowFault::Word => "unreadable: no such word",
             RowFault::Tree => "unreadable: the octets are no tree",
             RowFault::Apdu => "unreadable: the octets are no APDU",
             RowFault::Memory => "failed: no memory",

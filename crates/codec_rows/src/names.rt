@@ -1,0 +1,29 @@
+//! Names of objects in a row.
+
+use row_arguments::RowFault;
+use row_arguments::reading::{bytes, oid};
+use std::alloc::Global;
+use term_model::{Name, Rdn};
+
+/// A part of a name: an identifier, an equals sign and octets.
+fn part(alloc: Global, text: &str) -> Result<Rdn, RowFault> {
+    match text.split_once('=') {
+        Some((id, value)) => {
+            let attribute = oid(alloc, id)?;
+            let value = bytes(alloc, value)?;
+            Ok(Rdn { attribute, value })
+        }
+        None => Err(RowFault::Arguments),
+    }
+}
+
+/// A name: its parts, or `root`.
+pub fn name(alloc: Global, text: &str) -> Result<Name, RowFault> {
+    let mut parts = Vec::new(alloc);
+    for text in text.split(',') {
+        if text.trim() != "root" {
+            parts.push(part(alloc, text)?)?;
+        }
+    }
+    Ok(Name { parts })
+}
