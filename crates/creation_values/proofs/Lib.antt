@@ -1,4 +1,5 @@
 -- Lemmas of this crate.
 pub mod AttributeLaws
 pub mod IdentifierLaws
+mod NameFacts
 mod OctetLaws

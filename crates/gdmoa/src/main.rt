@@ -9,8 +9,8 @@ use std::process::ExitCode;
 use std::thread;
 use std::thread::Builder;
 
-/// The stack on which the agent runs, in octets. The compiler calls itself down what documents nest, with at most some
-/// 3,000 octets for each level; the system gives of the stack what is used.
+/// The stack on which the agent runs, in octets. The compiler, and the opening where it reads a name, call themselves
+/// down what documents nest (docs/OPERATING.md, Limits); the system gives of the stack what is used.
 const STACK: usize = 0x1000_0000;
 
 /// The status with which the agent answers the words.

@@ -1,26 +1,27 @@
 -- Values that come neither from the list of a creation nor from the agent: that in the name, the initial value and the
 -- default.
-use Rattle.std.proofs.Common.{◌≡◌, ◌⊎◌, ℕ, ◌<◌, ◌^◌, Bool, true, false, List, [], ◌∷◌, ◌++◌, Option, None}
-use Rattle.std.proofs.Common.{Some, refl, sym, ap, ◌∙◌, subst, inl, inr, length}
+use Rattle.std.proofs.Common.{◌≡◌, ◌⊎◌, ℕ, ◌<◌, ◌≤◌, ◌^◌, Bool, true, false, List, [], Option, None}
+use Rattle.std.proofs.Common.{Some, refl, sym, ap, ◌∙◌, subst, inl, inr, length, arith}
 use Rattle.std.proofs.lemmas.Bool.{false≢true}
 use Rattle.std.proofs.lemmas.List.{append-nil}
 use Rattle.std.proofs.lemmas.List.Elements.{All-contains}
 use Rattle.std.proofs.lemmas.Option.{same_Some}
 use Rattle.std.specs.Prelude.{All, Contains, IfSome, find, option_and_then, if◌then◌else◌}
 use Rattle.std.specs.Option.{option_map}
-use Rattle.term_values.specs.Ber.{most_depth}
-use Rattle.term_values.specs.BerReading.{alone, tree_at, tree_in}
+use Rattle.term_values.proofs.Statements.{written_is_read_holds}
+use Rattle.term_values.specs.BerReading.{alone, tree_at}
 use Rattle.term_values.specs.Decoding.{value_in}
+use Rattle.term_values.specs.Der.{written}
 use Rattle.term_values.specs.Fits.{Fits}
 use Rattle.term_values.specs.Soundness.{IsSound}
-use Rattle.term_values.specs.SpellingLaws.{AreOctets}
 use Rattle.term_values.specs.Syntaxes.{TypeSyntax}
-use Rattle.term_values.specs.Tree.{TreeValue}
 use Rattle.term_values.specs.Typed.{TypedValue}
 use Rattle.term_values.specs.Written.{der}
+use Rattle.typed_laws.specs.Nesting.{nesting}
 use Rattle.typed_laws.specs.SyntaxTags.{has_tags}
 use Rattle.typed_laws.specs.WritingLaws.{CanBeWritten}
-use Rattle.typed_laws.proofs.WritingStatements.{written_is_read_back_holds}
+use Rattle.typed_laws.proofs.WritableLaws.{writable_deeper}
+use Rattle.typed_laws.proofs.WritingStatements.{written_is_read_again_holds}
 use Rattle.term_model.specs.declared.creation.Creation.{Creation}
 use Rattle.term_model.specs.declared.name.Rdn.{Rdn}
 use Rattle.term_model.specs.declared.object.Attribute.{Attribute}
@@ -30,7 +31,7 @@ use Rattle.term_model.specs.declared.schema.AttrRec.{AttrRec}
 use Rattle.term_model.specs.declared.schema.ClassRec.{ClassRec}
 use Rattle.term_model.specs.declared.schema.InstRec.{InstRec}
 use Rattle.term_model.specs.declared.schema.Set.{Set}
-use Rattle.term_model.specs.ClassAttributes.{property_among, property_of, syntax_of}
+use Rattle.term_model.specs.ClassAttributes.{property_among, property_of}
 use Rattle.term_model.specs.Comparing.{is_same_oid}
 use Rattle.term_model.specs.CreateValues.{default_value, initial_value, named_value, or_else, other_value, stated_value}
 use Rattle.term_model.specs.CreateValues.{taken_value, value_of_octets}
@@ -40,9 +41,12 @@ use Rattle.term_model.specs.WholeSet.{IsWhole, IsWholeInstance, IsWholePart}
 use Rattle.package_laws.proofs.Members.{same_id}
 use Rattle.set_laws.proofs.Found.{found_is}
 use Rattle.set_laws.proofs.Records.{class_is, one_attribute, record_is}
-use Rattle.opening_laws.specs.Encodable.{HasShortValues, IsEncodable, IsShort, IsStated}
+use Rattle.opening_laws.specs.Encodable.{HasShortValues, IsEncodable, IsStated}
+use Rattle.opening_laws.specs.OpeningLaws.{NamesAreRead}
+use Rattle.opening_laws.proofs.AttributeKinds.{template_found}
 use Rattle.opening_laws.proofs.Creations.{IsPartOf}
 use Rattle.opening_laws.proofs.Making.{IsMaking}
+use Rattle.opening_laws.proofs.NestingLaws.{nests}
 
 -- what is to be shown of such a value, before logFull is taken out of it
 pub record IsFound (part : Rdn) (template : AttrRec) (id : List ℕ) (value : TypedValue) : Type 0 where
@@ -52,24 +56,43 @@ pub record IsFound (part : Rdn) (template : AttrRec) (id : List ℕ) (value : Ty
 
 -- ---- the value in the name
 
--- reading what was written gives the value
-read_again : (syntax : TypeSyntax) (value found : TypedValue) (tree : TreeValue) → CanBeWritten syntax value
-    → AreOctets (der syntax value) → tree_in (der syntax value) ≡ Some tree → value_in syntax tree ≡ Some found
-    → found ≡ value
-read_again syntax value found tree can octets e read =
-    by (tree_at most_depth (der syntax value)) refl e
-  where
-    by : (o : Option (TreeValue × List ℕ)) → tree_at most_depth (der syntax value) ≡ o
-        → option_and_then alone o ≡ Some tree → found ≡ value
-    by None is f = absurd (cc)
-    by (Some (other, octet ∷ more)) is f = absurd (cc)
-    by (Some (other, [])) is f =
-        let back = written_is_read_back_holds syntax value can in
-        let same_octets : der syntax value ++ [] ≡ der syntax value = append-nil (der syntax value) in
-        let one = back.3 [] [] other (subst AreOctets (sym same_octets) octets)
-        (ap (tree_at most_depth) same_octets ∙ is) in
-        same_Some found value
-        (sym read ∙ ap (value_in syntax) (sym (same_Some other tree f) ∙ one.0) ∙ back.1)
+-- what was written is read, however deep it nests
+written_read : (syntax : TypeSyntax) (value : TypedValue) → CanBeWritten syntax value
+    → value_of_octets syntax (der syntax value) ≡ Some value
+written_read syntax value can =
+    let (tree, again) = written_is_read_again_holds syntax value can in
+    let count = length (der syntax value) in
+    let deep : nesting tree ≤ count = omega (arith, nests tree, ap length again.whole) in
+    let found : tree_at count (der syntax value) ≡ Some (tree, []) =
+    ap (tree_at count) (again.whole ∙ sym (append-nil (written tree)))
+    ∙ written_is_read_holds count tree [] (writable_deeper (nesting tree) count tree deep again.writable) in
+    ap (λ read. option_and_then (value_in syntax) (option_and_then alone read)) found ∙ again.read
+
+part_can : (schema : Set) (template : AttrRec) (part : Rdn) (value : TypedValue) → IsWhole schema → IsEncodable schema
+    → Contains schema.attributes template → Fits template.syntax value → part.value ≡ der template.syntax value
+    → length part.value < 2 ^ 32 → CanBeWritten template.syntax value
+part_can schema template part value whole encodable at fits spelt short = record {
+  clear = (All-contains (λ (r : AttrRec). IsSound r.syntax) schema.attributes template whole.attributes at).0;
+  tags = All-contains (λ (r : AttrRec). has_tags r.syntax ≡ true) schema.attributes template encodable.tags at;
+  fits = fits;
+  short = subst (λ octets. length octets < 2 ^ 32) spelt short;
+}
+
+-- of the record that the search finds
+part_read : (schema : Set) (template : AttrRec) (part : Rdn) (value : TypedValue) → IsWhole schema → IsEncodable schema
+    → attribute_record schema.attributes part.attribute ≡ Some template → Contains schema.attributes template
+    → Fits template.syntax value → part.value ≡ der template.syntax value → length part.value < 2 ^ 32
+    → named_value schema part ≡ Some value
+part_read schema template part value whole encodable known at fits spelt short =
+    ap (λ o. option_and_then (λ syntax. value_of_octets syntax part.value)
+    (option_map (λ (r : AttrRec). r.syntax) o)) known
+    ∙ ap (value_of_octets template.syntax) spelt
+    ∙ written_read template.syntax value (part_can schema template part value whole encodable at fits spelt short)
+
+pub names_read : NamesAreRead
+names_read schema part template value whole encodable at named fits spelt short =
+    part_read schema template part value whole encodable
+    (template_found schema template part.attribute whole at named) at fits spelt short
 
 part_whole : (schema : Set) (instance : InstRec) (part : Rdn) → IsWhole schema → Contains schema.instances instance
     → IsPartOf schema instance part → IsWholePart schema part
@@ -80,45 +103,24 @@ part_whole schema instance part whole there (inr at) =
     (All-contains (IsWholeInstance schema) schema.instances instance whole.instances there).name at
 
 part_short : (schema : Set) (instance : InstRec) (part : Rdn) → IsEncodable schema
-    → Contains schema.instances instance → IsPartOf schema instance part → IsShort part.value
+    → Contains schema.instances instance → IsPartOf schema instance part → length part.value < 2 ^ 32
 part_short schema instance part encodable there (inl at) = encodable.parts part (inl at)
 part_short schema instance part encodable there (inr at) = encodable.parts part (inr (instance, there, at))
 
 read_value : (schema : Set) (template : AttrRec) (part : Rdn) (id : List ℕ) (value : TypedValue) → IsWhole schema
     → IsEncodable schema → attribute_record schema.attributes id ≡ Some template → part.attribute ≡ id
-    → IsWholePart schema part → IsShort part.value → named_value schema part ≡ Some value
+    → IsWholePart schema part → length part.value < 2 ^ 32 → named_value schema part ≡ Some value
     → IsFound part template id value
 read_value schema template part id value whole encodable known same (first, (own, at, named, fits, spelt)) short e =
-    by (tree_in part.value) refl
-    (sym (ap (λ one. option_and_then (λ syntax. value_of_octets syntax part.value) (syntax_of schema.attributes one))
-    same
-    ∙ ap (λ o. option_and_then (λ syntax. value_of_octets syntax part.value)
-    (option_map (λ (r : AttrRec). r.syntax) o)) known) ∙ e)
-  where
-    by : (o : Option TreeValue) → tree_in part.value ≡ o
-        → option_and_then (value_in template.syntax) o ≡ Some value → IsFound part template id value
-    by None is f = absurd (cc)
-    by (Some tree) is f =
-        let record_of = record_is schema.attributes id template known in
-        let equal = one_attribute schema own template whole at record_of.0 (named ∙ same ∙ sym record_of.1) in
-        let fits_so : Fits template.syntax first = subst (λ (r : AttrRec). Fits r.syntax first) equal fits in
-        let spelt_so : part.value ≡ der template.syntax first =
-        spelt ∙ ap (λ (r : AttrRec). der r.syntax first) equal in
-        let can : CanBeWritten template.syntax first = record {
-          clear =
-              (All-contains (λ (r : AttrRec). IsSound r.syntax) schema.attributes template whole.attributes
-              record_of.0).0;
-          tags =
-              All-contains (λ (r : AttrRec). has_tags r.syntax ≡ true) schema.attributes template encodable.tags
-              record_of.0;
-          fits = fits_so;
-          short = subst (λ octets. length octets < 2 ^ 32) spelt_so short.1;
-        } in
-        let is_first : value ≡ first =
-        read_again template.syntax first value tree can (subst AreOctets spelt_so short.0)
-        (ap tree_in (sym spelt_so) ∙ is) f in
-        subst (IsFound part template id) (sym is_first)
-        (record { fits = fits_so; long = can.short; agrees = λ names. sym spelt_so })
+    let record_of = record_is schema.attributes id template known in
+    let equal = one_attribute schema own template whole at record_of.0 (named ∙ same ∙ sym record_of.1) in
+    let fits_so : Fits template.syntax first = subst (λ (r : AttrRec). Fits r.syntax first) equal fits in
+    let spelt_so : part.value ≡ der template.syntax first = spelt ∙ ap (λ (r : AttrRec). der r.syntax first) equal in
+    let can = part_can schema template part first whole encodable record_of.0 fits_so spelt_so short in
+    let read = part_read schema template part first whole encodable
+    (ap (attribute_record schema.attributes) same ∙ known) record_of.0 fits_so spelt_so short in
+    subst (IsFound part template id) (same_Some first value (sym read ∙ e))
+    (record { fits = fits_so; long = can.short; agrees = λ names. sym spelt_so })
 
 -- ---- an initial value or a default
 

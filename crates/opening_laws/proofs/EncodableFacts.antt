@@ -21,7 +21,6 @@ use Rattle.term_model.proofs.ExampleNetwork.{element_oid, id_oid, load_oid, load
 use Rattle.package_laws.proofs.Members.{first_or_later, nowhere}
 use Rattle.typed_laws.specs.SyntaxTags.{has_tags}
 use Rattle.opening_laws.specs.Encodable.{HasShortValues, IsChosen, IsEncodable, IsIdentifier, IsNamePart, IsOfClass}
-use Rattle.opening_laws.specs.Encodable.{IsShort}
 
 only_one : {X : Type 0} (x y : X) → Contains (x ∷ []) y → x ≡ y
 only_one x y at = elim (first_or_later x y [] at) [
@@ -65,17 +64,12 @@ packages_identified id (inl own) = no_package id own
 packages_identified id (inr chosen) = none_chosen id chosen
 
 -- the one name is that of the system, whose part has three octets
-three_octets : IsShort (2 ∷ 1 ∷ 1 ∷ [])
-three_octets = (
-  All-cons (λ octet. octet < 256) 2 (1 ∷ 1 ∷ []) (omega arith)
-      (All-cons (λ octet. octet < 256) 1 (1 ∷ []) (omega arith)
-      (All-cons (λ octet. octet < 256) 1 [] (omega arith) (All-nil (λ octet. octet < 256)))),
-  omega arith,
-)
+three_octets : length {A = ℕ} (2 ∷ 1 ∷ 1 ∷ []) < 2 ^ 32
+three_octets = omega arith
 
-part_short : (part : Rdn) → IsNamePart stated part → IsShort part.value
+part_short : (part : Rdn) → IsNamePart stated part → length part.value < 2 ^ 32
 part_short part (inl at) =
-    subst (λ (p : Rdn). IsShort p.value) (only_one _ part at) three_octets
+    subst (λ (p : Rdn). length p.value < 2 ^ 32) (only_one _ part at) three_octets
 part_short part (inr (instance, at, inside)) =
     absurd (nowhere part
     (subst (λ (i : InstRec). Contains i.name part) (sym (only_one _ instance at)) inside))

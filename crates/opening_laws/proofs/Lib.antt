@@ -15,6 +15,7 @@ pub mod AttributeKinds
 pub mod Listed
 pub mod Made
 pub mod Making
+mod NestingLaws
 pub mod Objects
 pub mod RecordSizes
 pub mod Steps

@@ -1,9 +1,8 @@
 -- Schemas of which everything has an encoding: X.660, clause 7; X.690, sections 8.1.2, 8.1.3 and 8.19; docs/PROFILE.md,
--- section 3. An identifier has at most 64 arcs of 32 bits, octets are below 256, no tag stands for the end of contents,
--- and lengths end at 2 ^ 32 - 1.
+-- section 3. An identifier has at most 64 arcs of 32 bits, no tag stands for the end of contents, and lengths end at
+-- 2 ^ 32 - 1.
 use Rattle.std.specs.Prelude.{◌≡◌, ◌<◌, ◌^◌, ◌⊎◌, ℕ, List, true, Some, All, Contains, length}
 use Rattle.term_values.specs.Fits.{Fits}
-use Rattle.term_values.specs.SpellingLaws.{AreOctets}
 use Rattle.term_values.specs.Syntaxes.TypeSyntax.{ObjectIdentifier}
 use Rattle.term_values.specs.Typed.{TypedValue}
 use Rattle.term_values.specs.Typed.TypedValue.{Identifier}
@@ -39,10 +38,6 @@ IsNamePart schema part =
     Contains schema.system part
     ⊎ ((instance : InstRec) × Contains schema.instances instance × Contains instance.name part)
 
--- octets whose number is one of 32 bits
-abbrev pub IsShort : List ℕ → Type 0
-IsShort octets = AreOctets octets × (length octets < 2 ^ 32)
-
 -- what a class states as the value that an attribute has where none is given
 abbrev pub IsStated : Property → TypedValue → Type 0
 IsStated property value = (property.initial ≡ Some value) ⊎ (property.default ≡ Some value)
@@ -57,5 +52,5 @@ pub record IsEncodable (schema : Set) : Type 0 where
   pub identifiers : All IsIdentifier (identifiers_of schema)
   pub packages : (id : List ℕ) → IsOfClass schema id ⊎ IsChosen schema id → IsIdentifier id
   pub tags : All (λ (template : AttrRec). has_tags template.syntax ≡ true) schema.attributes
-  pub parts : (part : Rdn) → IsNamePart schema part → IsShort part.value
+  pub parts : (part : Rdn) → IsNamePart schema part → length part.value < 2 ^ 32
   pub values : All (λ (of_class : ClassRec). All (HasShortValues schema) of_class.properties) schema.classes

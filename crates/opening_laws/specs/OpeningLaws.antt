@@ -1,15 +1,20 @@
 -- What holds of the objects at the opening: X.720, sections 5 and 6; docs/PROFILE.md, section 16. Each law is a part of
--- the definition of a well-formed map, in WellFormedObjects of term_model.
+-- the definition of a well-formed map, in WellFormedObjects of term_model, but those on records and on names.
 use Rattle.std.specs.Cmp.Lexicographic.{slice_cmp}
 use Rattle.std.specs.List.Sorted.{IsStrictlySortedBy}
 use Rattle.std.specs.Ordering.{nat_cmp}
-use Rattle.std.specs.Prelude.{◌≡◌, ℕ, ◌≤◌, ◌⊎◌, ◌++◌, List, [], ◌∷◌, All, Contains, Ok, Some, length}
+use Rattle.std.specs.Prelude.{◌≡◌, ℕ, ◌≤◌, ◌<◌, ◌^◌, ◌⊎◌, ◌++◌, List, [], ◌∷◌, All, Contains, Ok, Some, length}
+use Rattle.term_values.specs.Fits.{Fits}
+use Rattle.term_values.specs.Typed.{TypedValue}
+use Rattle.term_values.specs.Written.{der}
 use Rattle.term_model.specs.declared.name.Rdn.{Rdn}
 use Rattle.term_model.specs.declared.object.Object.{Object}
 use Rattle.term_model.specs.declared.objects.NamedObject.{NamedObject}
+use Rattle.term_model.specs.declared.schema.AttrRec.{AttrRec}
 use Rattle.term_model.specs.declared.schema.ClassRec.{ClassRec}
 use Rattle.term_model.specs.declared.schema.Set.{Set}
 use Rattle.term_model.specs.BoundClasses.{object_size}
+use Rattle.term_model.specs.CreateValues.{named_value}
 use Rattle.term_model.specs.Inheritance.{HasAttribute, HasRecord}
 use Rattle.term_model.specs.NamedObjects.{IsByName, names, object_at}
 use Rattle.term_model.specs.Opening.{opened}
@@ -78,3 +83,11 @@ WholeHasRecordOnce = (schema : Set) → IsWhole schema → HasRecordOnce schema
 abbrev pub OpenedAreGood : Type 0
 OpenedAreGood = (schema : Set) (objects : List NamedObject) → IsWhole schema → IsEncodable schema →
     opened schema ≡ Ok objects → AreGood schema objects
+
+-- In a whole schema of which everything has an encoding, the value whose encoding a part of a name holds, in fewer than
+-- 2 ^ 32 octets, is read from it, however deep it nests.
+abbrev pub NamesAreRead : Type 0
+NamesAreRead = (schema : Set) (part : Rdn) (template : AttrRec) (value : TypedValue) → IsWhole schema →
+    IsEncodable schema → Contains schema.attributes template → template.id ≡ part.attribute →
+    Fits template.syntax value → part.value ≡ der template.syntax value → length part.value < 2 ^ 32 →
+    named_value schema part ≡ Some value

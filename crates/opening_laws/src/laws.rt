@@ -1,8 +1,8 @@
-//! Laws of the objects at the opening.
+//! Laws of the objects at the opening, and of the names and records of a schema.
 
 ghost use Rattle.opening_laws.specs.OpeningLaws.{OpenedAreByName, OpenedAreFew, OpenedAreGood, OpenedHaveAttributes};
 ghost use Rattle.opening_laws.specs.OpeningLaws.{OpenedHaveObjects, OpenedHaveRoot, OpenedHaveSuperiors};
-ghost use Rattle.opening_laws.specs.OpeningLaws.{WholeHasRecordOnce};
+ghost use Rattle.opening_laws.specs.OpeningLaws.{NamesAreRead, WholeHasRecordOnce};
 
 /// The names rise, each once.
 pub fn opened_are_by_name()
@@ -43,4 +43,10 @@ pub fn whole_schemas_have_records_once()
 /// The objects are a well-formed map, where the schema is whole and everything in it has an encoding. Does nothing.
 pub fn opened_are_good()
     ensures { OpenedAreGood }
+{}
+
+/// The value whose encoding a part of a name holds, in fewer than 2^32 octets, is read from it, however deep it nests,
+/// where the schema is whole and everything in it has an encoding. Does nothing.
+pub fn names_are_read()
+    ensures { NamesAreRead }
 {}

@@ -5,8 +5,8 @@ use Rattle.std.specs.Prelude.{ℕ, pos, List, [], ◌∷◌, Bool, false, Option
 use Rattle.std.specs.Prelude.{find, map, option_and_then, if◌then◌else◌}
 use Rattle.std.specs.Option.{option_map, option_map_or, unwrap_or}
 use Rattle.std.specs.Ordering.{int_eq}
-use Rattle.term_values.specs.BerReading.{tree_in}
 use Rattle.term_values.specs.Decoding.{rising_by, value_in}
+use Rattle.term_values.specs.KeptTest.{tree_of}
 use Rattle.term_values.specs.Syntaxes.{TypeSyntax}
 use Rattle.term_values.specs.Syntaxes.TypeSyntax.{ObjectIdentifier}
 use Rattle.term_values.specs.Typed.{TypedValue, TypedValues, listed}
@@ -54,9 +54,10 @@ written_value schema creation outline attribute =
     else (if is_package_list schema attribute then Some (unwrap_or (listed_value creation attribute) (Many Nothing))
     else (if is_counter schema outline.bound_log attribute then Some (Int (pos 0)) else None))))
 
--- the value that octets have in a syntax, where they are one of it
+-- the value that octets have in a syntax, where they are one of it; however deep the values in them stand, since a name
+-- of a document may hold any value that fits
 abbrev pub value_of_octets : TypeSyntax → List ℕ → Option TypedValue
-value_of_octets syntax octets = option_and_then (value_in syntax) (tree_in octets)
+value_of_octets syntax octets = option_and_then (value_in syntax) (tree_of octets)
 
 -- the value that the name gives to the attribute by which the object is named
 abbrev pub named_value : Set → Rdn → Option TypedValue
