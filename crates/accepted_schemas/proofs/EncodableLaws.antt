@@ -13,19 +13,17 @@ use Rattle.registered_laws.proofs.DocumentLaws.{have_own_identifiers}
 use Rattle.instance_laws.specs.ShortInstances.{AreShortInstances}
 use Rattle.opening_laws.specs.Encodable.{IsEncodable}
 use Rattle.template_compile.specs.Acceptance.{AreAcceptedAs}
-use Rattle.accepted_schemas.specs.OctetDocuments.{AreOctetDocuments}
 use Rattle.accepted_schemas.specs.ShortStated.{AreShortStated}
-use Rattle.accepted_schemas.proofs.DocumentOctets.{names_octets}
 use Rattle.accepted_schemas.proofs.IdentifierLaws.{all_identifiers, package_identifiers}
 use Rattle.accepted_schemas.proofs.NameLaws.{parts_short}
 use Rattle.accepted_schemas.proofs.ValueLaws.{values_short}
 
 pub accepted_encodable : (docs : List Doc) (parts : Parsed) (schema : Set)
-    (accepted : AreAcceptedAs docs parts schema) → AreOctetDocuments docs →
+    (accepted : AreAcceptedAs docs parts schema) →
     All (λ (template : AttrRec). has_tags template.syntax ≡ true) schema.attributes →
     AreShortInstances (module_terms parts.modules.items) accepted.closed.linked →
     AreShortStated (module_terms parts.modules.items) accepted.closed.linked → IsEncodable schema
-accepted_encodable docs parts schema accepted octets tags short stated =
+accepted_encodable docs parts schema accepted tags short stated =
     let linked = accepted.closed.linked in
     let referenced = accepted.closed.are_linked.referenced in
     let are_linked = accepted.closed.are_linked.are_linked in
@@ -37,9 +35,7 @@ accepted_encodable docs parts schema accepted octets tags short stated =
       identifiers = all_identifiers (part_terms parts) ms linked schema are_linked records;
       packages = package_identifiers (part_terms parts) ms linked schema are_linked records instances;
       tags = tags;
-      parts = parts_short ms linked schema instances
-          (names_octets docs said.tokens said.units parts linked octets said.lexed said.read said.gathered are_linked)
-          short;
+      parts = parts_short ms linked schema instances short;
       values = values_short ms linked schema records
           (have_own_identifiers docs said.tokens said.units parts linked said.lexed said.read said.gathered are_linked
           referenced.have_targets) stated;

@@ -14,28 +14,27 @@ use Rattle.agent_model.specs.Playing.{ended}
 use Rattle.agent_model.specs.declared.script_line.ScriptLine.{ScriptLine}
 use Rattle.run_command.specs.ScriptRuns.{IsPlay, Obeys}
 use Rattle.accepted_schemas.specs.IntegerDocuments.{AreIntegerDocuments}
-use Rattle.accepted_schemas.specs.OctetDocuments.{AreOctetDocuments}
 use Rattle.accepted_schemas.proofs.EncodableLaws.{accepted_encodable}
 use Rattle.accepted_schemas.proofs.IntegerLaws.{integers_short, integers_stated, integers_tags}
 use Rattle.accepted_schemas.proofs.PlayLaws.{accepted_obeys}
 
 pub integers_encodable : (docs : List Doc) (parts : Parsed) (schema : Set)
-    (accepted : AreAcceptedAs docs parts schema) → AreOctetDocuments docs →
+    (accepted : AreAcceptedAs docs parts schema) →
     AreIntegerDocuments (module_terms parts.modules.items) accepted.closed.linked → IsEncodable schema
-integers_encodable docs parts schema accepted octets integers =
+integers_encodable docs parts schema accepted integers =
     let ms = module_terms parts.modules.items in
     let linked = accepted.closed.linked in
-    accepted_encodable docs parts schema accepted octets
+    accepted_encodable docs parts schema accepted
     (integers_tags ms linked integers schema accepted.is_schema.records) (integers_short ms linked integers).instances
     (integers_stated ms linked integers)
 
 pub integers_obey : (docs : List Doc) (parts : Parsed) (schema : Set) (accepted : AreAcceptedAs docs parts schema) →
-    AreOctetDocuments docs → AreIntegerDocuments (module_terms parts.modules.items) accepted.closed.linked →
+    AreIntegerDocuments (module_terms parts.modules.items) accepted.closed.linked →
     (objects : List NamedObject) (lines : List ScriptLine) (play : Play) → IsPlay schema objects lines play →
     Obeys schema objects (ended play).journal
-integers_obey docs parts schema accepted octets integers =
+integers_obey docs parts schema accepted integers =
     let ms = module_terms parts.modules.items in
     let linked = accepted.closed.linked in
-    accepted_obeys docs parts schema accepted octets
+    accepted_obeys docs parts schema accepted
     (integers_tags ms linked integers schema accepted.is_schema.records) (integers_short ms linked integers)
     (integers_stated ms linked integers)

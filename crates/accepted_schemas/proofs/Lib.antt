@@ -7,12 +7,6 @@ mod CarriedSections
 pub mod AlikeRecords
 pub mod OneSchemaLaws
 pub mod WholeLaws
-mod OctetLaws
-mod TreeOctets
-mod LeafOctets
-mod ValueOctets
-mod SpellingOctets
-mod DocumentOctets
 mod IdentifierLaws
 mod NameLaws
 mod ValueLaws

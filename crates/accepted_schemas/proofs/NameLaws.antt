@@ -1,30 +1,24 @@
--- NameLaws: each part of a name, of an instance or of the system, is octets, and their number is one of 32 bits (X.690,
--- section 8.1.3; docs/PROFILE.md, sections 9 and 16).
+-- NameLaws: each part of a name, of an instance or of the system, has fewer than 2 ^ 32 octets (X.690, section 8.1.3;
+-- docs/PROFILE.md, sections 9 and 16).
 use Rattle.std.specs.Prelude.{◌≡◌, ◌<◌, ◌∷◌, ◌^◌, [], ℕ, List, Bool, true, false, Option, None, Some, All, Contains}
 use Rattle.std.specs.Prelude.{find, length, refl}
 use Rattle.std.proofs.Common.{arith, cond, inl, inr, sym}
 use Rattle.std.proofs.Math.Path.{subst}
 use Rattle.std.proofs.lemmas.List.Elements.{All-contains, All-nil}
 use Rattle.std.proofs.lemmas.Option.{same_Some}
-use Rattle.term_values.specs.SpellingLaws.{AreOctets}
 use Rattle.term_model.specs.declared.name.Rdn.{Rdn}
 use Rattle.term_model.specs.declared.schema.InstRec.{InstRec}
 use Rattle.term_model.specs.declared.schema.Set.{Set}
 use Rattle.asn1_names.specs.ModuleTerms.{ModuleTerm}
-use Rattle.asn1_leaf_values.specs.TextValues.{said}
 use Rattle.linked_parts.specs.declared.linked.Linked.{Linked}
 use Rattle.linked_parts.specs.declared.linked.LinkedInstance.{LinkedInstance}
 use Rattle.linked_parts.specs.declared.linked.LinkedPair.{LinkedPair}
-use Rattle.filled_syntaxes.specs.LinkedMeanings.{linked_arcs}
 use Rattle.linked_types.specs.PartIdentifiers.{AreEach}
 use Rattle.instance_records.specs.InstanceRecords.{AreInstanceRecords, IsInstanceRecord, IsObjectName, IsPart}
 use Rattle.instance_records.specs.InstanceRecords.{IsStatedName, first_root}
 use Rattle.reference_laws.proofs.PlaceLaws.{all_made, later_of}
 use Rattle.instance_laws.specs.ShortInstances.{AreShortInstances, IsShortInstance, IsShortPair}
-use Rattle.opening_laws.specs.Encodable.{IsNamePart, IsShort}
-use Rattle.accepted_schemas.proofs.DocumentOctets.{IsOctetName, IsOctetPair}
-use Rattle.accepted_schemas.proofs.TreeOctets.{IsOfOctets, said_octets}
-use Rattle.accepted_schemas.proofs.ValueOctets.{value_octets}
+use Rattle.opening_laws.specs.Encodable.{IsNamePart}
 
 -- what is found stands in the list
 found_there : {A : Type 0} (test : A → Bool) (xs : List A) (x : A) → find test xs ≡ Some x → Contains xs x
@@ -37,29 +31,24 @@ found_there test (y ∷ ys) x is = by (test y) (λ later. later_of y x ys (found
     by false further later = further later
 
 abbrev HasShortValue : Rdn → Type 0
-HasShortValue part = IsShort part.value
+HasShortValue part = length part.value < 2 ^ 32
 
 abbrev HasShortName : InstRec → Type 0
 HasShortName instance = All HasShortValue instance.name
 
 module _ (ms : List ModuleTerm) (linked : Linked) (schema : Set)
     (of_instances : AreInstanceRecords ms linked schema.instances schema.system)
-    (octets : All IsOctetName linked.instances.items) (short : AreShortInstances ms linked) where
+    (short : AreShortInstances ms linked) where
   -- the one written encoding of what a pair states
-  part_short : (pair : LinkedPair) (part : Rdn) → IsOctetPair pair → IsShortPair ms linked pair →
-      IsPart ms linked pair part → HasShortValue part
-  part_short pair part own few is = (
-    subst AreOctets (sym is.is_written)
-        (value_octets (linked_arcs linked) is.syntax (said is.denotes.text) is.denoted
-        (said_octets is.denotes.text (subst IsOfOctets (sym is.denotes.told) own)) is.denotes.denotes),
-    subst (λ (xs : List ℕ). length xs < 2 ^ 32) (sym is.is_written) (few is.syntax is.has is.denoted is.denotes),
-  )
+  part_short : (pair : LinkedPair) (part : Rdn) → IsShortPair ms linked pair → IsPart ms linked pair part →
+      HasShortValue part
+  part_short pair part few is =
+      subst (λ (xs : List ℕ). length xs < 2 ^ 32) (sym is.is_written) (few is.syntax is.has is.denoted is.denotes)
 
-  pairs_short : (pairs : List LinkedPair) (name : List Rdn) → All IsOctetPair pairs →
-      All (IsShortPair ms linked) pairs → AreEach (IsPart ms linked) pairs name → All HasShortValue name
-  pairs_short pairs name own few = all_made (IsPart ms linked) HasShortValue pairs name
-      (λ pair part has is. part_short pair part (All-contains IsOctetPair pairs pair own has)
-      (All-contains (IsShortPair ms linked) pairs pair few has) is)
+  pairs_short : (pairs : List LinkedPair) (name : List Rdn) → All (IsShortPair ms linked) pairs →
+      AreEach (IsPart ms linked) pairs name → All HasShortValue name
+  pairs_short pairs name few = all_made (IsPart ms linked) HasShortValue pairs name
+      (λ pair part has is. part_short pair part (All-contains (IsShortPair ms linked) pairs pair few has) is)
 
   no_parts : (name : List Rdn) → name ≡ [] → All HasShortValue name
   no_parts name is = subst (All HasShortValue) (sym is) (All-nil HasShortValue)
@@ -68,7 +57,6 @@ module _ (ms : List ModuleTerm) (linked : Linked) (schema : Set)
   listed_short : (part : LinkedInstance) (name : List Rdn) → Contains linked.instances.items part →
       AreEach (IsPart ms linked) part.name.items name → All HasShortValue name
   listed_short part name listed = pairs_short part.name.items name
-      (All-contains IsOctetName linked.instances.items part octets listed)
       (All-contains (IsShortInstance ms linked) linked.instances.items part short listed).0
 
   object_short : (is_root : Bool) (part : LinkedInstance) (name : List Rdn) →
@@ -87,7 +75,7 @@ module _ (ms : List ModuleTerm) (linked : Linked) (schema : Set)
   stated_short (Some part) found is = listed_short part schema.system
       (found_there (λ (x : LinkedInstance). x.is_root) linked.instances.items part found) is
 
-  pub parts_short : (part : Rdn) → IsNamePart schema part → IsShort part.value
+  pub parts_short : (part : Rdn) → IsNamePart schema part → HasShortValue part
   parts_short part (inl of_system) = All-contains HasShortValue schema.system part
       (stated_short (first_root linked.instances.items) refl of_instances.system_is) of_system
   parts_short part (inr (instance, known, own)) = All-contains HasShortValue instance.name part

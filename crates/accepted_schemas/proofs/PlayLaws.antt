@@ -14,17 +14,16 @@ use Rattle.template_compile.specs.Acceptance.{AreAcceptedAs}
 use Rattle.agent_model.specs.Playing.{ended}
 use Rattle.agent_model.specs.declared.script_line.ScriptLine.{ScriptLine}
 use Rattle.run_command.specs.ScriptRuns.{IsPlay, Obeys}
-use Rattle.accepted_schemas.specs.OctetDocuments.{AreOctetDocuments}
 use Rattle.accepted_schemas.specs.ShortStated.{AreShortStated}
 use Rattle.accepted_schemas.proofs.EncodableLaws.{accepted_encodable}
 use Rattle.accepted_schemas.proofs.WholeLaws.{accepted_whole}
 
 pub accepted_obeys : (docs : List Doc) (parts : Parsed) (schema : Set) (accepted : AreAcceptedAs docs parts schema) →
-    AreOctetDocuments docs → All (λ (template : AttrRec). has_tags template.syntax ≡ true) schema.attributes →
+    All (λ (template : AttrRec). has_tags template.syntax ≡ true) schema.attributes →
     AreShortValues (module_terms parts.modules.items) accepted.closed.linked →
     AreShortStated (module_terms parts.modules.items) accepted.closed.linked →
     (objects : List NamedObject) (lines : List ScriptLine) (play : Play) → IsPlay schema objects lines play →
     Obeys schema objects (ended play).journal
-accepted_obeys docs parts schema accepted octets tags short stated objects lines play is_play =
+accepted_obeys docs parts schema accepted tags short stated objects lines play is_play =
     is_play.obeys (accepted_whole docs parts schema accepted short)
-    (accepted_encodable docs parts schema accepted octets tags short.instances stated)
+    (accepted_encodable docs parts schema accepted tags short.instances stated)

@@ -1,5 +1,4 @@
 -- The definitions that the laws of this crate cite.
 pub mod IntegerDocuments
 pub mod IntegerModules
-pub mod OctetDocuments
 pub mod ShortStated
