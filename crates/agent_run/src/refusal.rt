@@ -66,7 +66,8 @@ pub enum Refusal<'a> {
     FileTooLarge(&'a str),
     /// A document has a fault: the document's number and the line, each counted from 1, and what is wrong there.
     BadDocument(u32, u32, Kind),
-    /// An instance can't be opened: which one, counted from 1, and the number of the error that its creation has.
+    /// An instance can't be opened: which one, counted from 1, or 0 where the ROOT is missing; and the number of the
+    /// error that its creation has, or 0 where the ROOT is missing, isn't first or stands twice.
     BadInstance(u32, u32),
     /// A line of the script, counted from 1, breaks the form, or an association is not as the line asks.
     BadScript(u64),

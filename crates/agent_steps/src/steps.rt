@@ -81,9 +81,10 @@ impl<L: StepLedger> Agent<L> {
         Ok(())
     }
 
-    /// An APDU of the association under this number arrives, while no operation is outstanding; where it brings a
-    /// request, an operation is queued under the next number, and a reject or an error is placed. After want of memory
-    /// the agent is of no use.
+    /// An APDU of the association under this number arrives, while no operation is outstanding. Where it brings a
+    /// request, an operation is queued under the next number. An m-Cancel-Get is answered by the error noSuchInvokeId;
+    /// an invoke of no operation or with a mistyped argument, and octets that are no APDU, by a reject; a result, an
+    /// error and a reject of the manager have no effect. After want of memory the agent is of no use.
     pub fn arrive(&mut self, alloc: Global, number: u64, apdu: &[u8]) -> Result<(), AllocError>
         requires legal { IsTrue (is_legal self.old (Entry.Arrived number apdu.now)) }
         requires idle { IsIdle self.old }

@@ -179,7 +179,8 @@ fn plan_scoped<L: StepLedger, M: Subtrees<L>>(
 }
 
 /// What a request, granted at a moment in seconds since 1970, will install in the map of objects, answer and report.
-/// So far that is said of m-Get and m-Set; for another request the plan is empty.
+/// So far that is said of m-Get and m-Set alone: of another request's plan the clauses say nothing, and the agent asks
+/// for none.
 ///
 /// The checks are tried in the order of [`checked`]. With the scope baseObject there is one reply, an empty result
 /// where the filter refuses the base object. With another one each selected object has a linked reply, by the order of

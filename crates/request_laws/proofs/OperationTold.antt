@@ -1,4 +1,4 @@
--- The request that is read of the argument of an operation is one that the tree denotes: X.711, sections 7.3 and 7.4.
+-- The request that is read of the argument of an operation is one that the tree denotes: X.711, section 7.4.
 use Rattle.std.proofs.Common.{◌≡◌, ℤ, pos, true, false, None, Some, refl, subst, inl, inr}
 use Rattle.std.proofs.Common.{⊎_elim}
 use Rattle.std.proofs.lemmas.Bool.Decides.{Decides-int_eq}

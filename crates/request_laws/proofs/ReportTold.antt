@@ -1,4 +1,4 @@
--- The requests that are read of the arguments of m-EventReport are those that the trees denote: X.711, section 7.3.
+-- The requests that are read of the arguments of m-EventReport are those that the trees denote: X.711, section 7.4.
 use Rattle.std.proofs.Common.{◌≡◌, ℕ, List, Bool, true, false, Option, None, Some, refl, sym, ap, subst, ◌∙◌}
 use Rattle.std.proofs.lemmas.Option.{none-some, same_Some}
 use Rattle.std.specs.Prelude.{option_and_then, option_map, if◌then◌else◌}

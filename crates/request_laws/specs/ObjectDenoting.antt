@@ -1,4 +1,4 @@
--- Which request the argument of m-EventReport denotes under a schema: X.711, section 7.3. The function that computes is
+-- Which request the argument of m-EventReport denotes under a schema: X.711, section 7.4. The function that computes is
 -- report_in of RequestReading.
 use Rattle.std.specs.Prelude.{◌≡◌, ℕ, pos, List, Bool, false, true, Option, None, Some}
 use Rattle.term_values.specs.CmipTypes.{implicit}

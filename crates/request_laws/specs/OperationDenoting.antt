@@ -1,4 +1,4 @@
--- Which request the argument of an operation denotes under a schema: X.711, sections 7.3 and 7.4. The function that
+-- Which request the argument of an operation denotes under a schema: X.711, section 7.4. The function that
 -- computes is request_in of RequestReading.
 use Rattle.std.specs.Prelude.{◌≡◌, ◌⊎◌, ℤ, pos, false, true, Some}
 use Rattle.term_values.specs.Tree.{TreeValue}

@@ -207,7 +207,8 @@ fn run_on<N: Ledger>(
 /// `UnplayedDocument`: some class has an action or a notification, or the agent acts on it. `BadScript` has the first
 /// line that breaks the form or whose condition does not hold. `UnplayedScript`: some request is of a kind that isn't
 /// carried out yet. `JournalFull`: the journal has no room for some entry under its limits; what is printed of it then
-/// is told. Of several of these the first one is told, in this order.
+/// is told. Of several of these the first one is told, in this order. `Memory`: there was none; it may stand in the
+/// place of any of them.
 pub fn run_text(alloc: Global, script: &[u8], documents: &[Doc]) -> Result<Vec<u8>, RunRefusal>
     requires few { length documents.now ≤ 64 }
     ensures text { IfOk result (λ text. IsRun script.now documents.now text.items) }

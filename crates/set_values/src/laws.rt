@@ -25,15 +25,15 @@ pub fn members_fit()
     ensures removed { RemovedFit }
 {}
 
-/// Members that fit a syntax whose tags are clear, and are written in fewer than 2^32 octets, are equal exactly where
-/// their encodings are. Does nothing.
+/// Members that fit a syntax whose tags are clear and can be written (none is universal 0), and that are written in
+/// fewer than 2^32 octets, are equal exactly where their encodings are. Does nothing.
 pub fn one_member_one_encoding()
     ensures { EqualEncodings }
 {}
 
-/// Of members that fit a syntax whose tags are clear, and are written in fewer than 2^32 octets: with members added,
-/// the values are those that were held or are given; with members removed, those that were held and are not given. Does
-/// nothing.
+/// Of members that fit a syntax whose tags are clear and can be written (none is universal 0), and that are written in
+/// fewer than 2^32 octets: with members added, the values are those that were held or are given; with members removed,
+/// those that were held and are not given. Does nothing.
 pub fn members_by_value()
     ensures added { AddedAreUnion }
     ensures removed { RemovedAreDifference }

@@ -32,7 +32,7 @@ pub enum Kind {
     AmbiguousTags,
     /// No template, module, type or value has a name.
     UnknownLabel,
-    /// What a name means may not stand there.
+    /// What a name means may not stand there, or an identifier is none: docs/PROFILE.md, section 12, has each case.
     WrongKind,
     /// A name has two meanings.
     DoubleLabel,

@@ -1,4 +1,4 @@
--- What the argument of m-EventReport gives: X.711, section 7.3; docs/PROFILE.md, section 14. The relation is in
+-- What the argument of m-EventReport gives: X.711, section 7.4; docs/PROFILE.md, section 14. The relation is in
 -- ObjectDenoting of request_laws.
 use Rattle.std.specs.Prelude.{ℕ, List, Bool, Option, None, Some, option_and_then, find}
 use Rattle.std.specs.Prelude.{if◌then◌else◌}
