@@ -252,7 +252,7 @@ pub fn read_front_tree(alloc: Global, bytes: &[u8]) -> Result<Option<(Tree, usiz
 }
 
 /// The same of trees with at most `depth` constructed values inside one another. The recursion goes down what the bytes
-/// nest, so a depth past 32 is for bytes that an operator gives.
+/// nest, so a depth past 32 is for bytes that an operator's documents give, in values or in names.
 pub fn read_deep_tree(
     alloc: Global,
     bytes: &[u8],

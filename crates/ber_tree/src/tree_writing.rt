@@ -102,12 +102,7 @@ fn signed_octets(number: u64) -> u32
 }
 
 /// Appends the last `count` octets of a number, each with every bit turned where `turned` says so.
-pub fn write_octets(
-    count: u32,
-    number: u64,
-    turned: bool,
-    into: &mut Vec<u8>,
-) -> Result<(), AllocError>
+fn write_octets(count: u32, number: u64, turned: bool, into: &mut Vec<u8>) -> Result<(), AllocError>
     requires { count ≤ 8 }
     ensures written { OnOk result (into.new.items ≡ into.old.items ++ last_octets turned count number) }
     ensures begun { Extends into.old.items into.new.items }

@@ -13,7 +13,7 @@ use term_values::tag::CONTEXT;
 use term_values::{Bytes, Tag};
 
 /// The tag of localDistinguishedName: X.711, ObjectInstance.
-pub const LOCAL_DISTINGUISHED_NAME: Tag = Tag {
+const LOCAL_DISTINGUISHED_NAME: Tag = Tag {
     class: CONTEXT,
     number: 4,
 };

@@ -16,10 +16,10 @@ pub fn reading_is_denoting()
     ensures octets { SpeltHasOctets }
 {}
 
-/// What is written for a value spells a tree that denotes the value and from which it is read. The octets are read back,
-/// whatever follows, where at most 32 constructed values stand inside one another, and no two values have one encoding.
-/// The value fits the syntax, whose tags are clear and can be written (none is universal 0), and the octets are fewer
-/// than 2^32. Does nothing.
+/// What is written for a value is that of a tree from which the value is read. It spells a tree that denotes the value
+/// if each octet is below 256. The octets are read back, whatever follows, where at most 32 constructed values stand
+/// inside one another, and no two values have one encoding. The value fits the syntax, whose tags are clear and can be
+/// written (none is universal 0), and the octets are fewer than 2^32. Does nothing.
 pub fn written_is_read_back()
     ensures again { WrittenIsReadAgain }
     ensures denotes { WrittenDenotes }

@@ -233,7 +233,7 @@ mutual
       let e = length-append (written x) (written_all xs) in
       (as_deep depth most x (omega arith) w.0, all_as_deep depth most xs (omega arith) w.1)
 
-pub read_again : (octets : List ℕ) (tree : TreeValue) (depth : ℕ) → octets ≡ written tree → IsWritable depth tree
+read_again : (octets : List ℕ) (tree : TreeValue) (depth : ℕ) → octets ≡ written tree → IsWritable depth tree
     → tree_of octets ≡ Some tree
 read_again octets tree depth whole w =
     let deep = as_deep depth (length octets) tree (omega (arith, ap length whole)) w in
