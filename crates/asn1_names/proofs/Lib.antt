@@ -9,6 +9,7 @@ pub mod FirstLaws
 pub mod NamedLaws
 pub mod NarrowingLaws
 pub mod NumberLaws
+pub mod PartsLaws
 pub mod OneNumber
 pub mod PassingLaws
 pub mod SayingLaws

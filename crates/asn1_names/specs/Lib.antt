@@ -10,6 +10,7 @@ pub mod WholeNumbers
 pub mod TypeTags
 pub mod TagClashes
 pub mod NodeCount
+pub mod PartsInFront
 pub mod Constraining
 pub mod DenotedSyntax
 pub mod OneSyntax

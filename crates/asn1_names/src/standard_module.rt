@@ -1,13 +1,13 @@
 //! The module CMIP-1, which is built in: its types and their syntaxes (X.711, section 7.5).
 
-ghost use Rattle.std.specs.Prelude.{◌≡◌, [], ◌∷◌, IfOk, option_map};
+ghost use Rattle.std.specs.Prelude.{◌≡◌, ◌+◌, [], ◌∷◌, IfOk, OnOk, length, option_map};
 ghost use Rattle.term_values.specs.CmipTypes.{attribute, attribute_value_assertion, identifier, implicit};
 ghost use Rattle.term_values.specs.CmipTypes.{object_instance, one, rdn_sequence};
-ghost use Rattle.term_values.specs.PartsView.{parts_listed};
-ghost use Rattle.term_values.specs.Syntaxes.TypeParts.{NoParts};
+ghost use Rattle.term_values.specs.Syntaxes.{TypeParts};
 ghost use Rattle.term_values.specs.declared.syntax.SyntaxForm.TheVariants as forms;
 ghost use Rattle.term_values.specs.SyntaxView.{syntax_of};
 ghost use Rattle.asn1_names.specs.NodeCount.{syntax_count};
+ghost use Rattle.asn1_names.specs.PartsInFront.{in_front};
 ghost use Rattle.asn1_names.specs.StandardModule.{is_same_name, standard_module_name, standard_type};
 ghost use Rattle.asn1_names.specs.WordViews.{standard_syntax_of};
 
@@ -108,7 +108,7 @@ fn implicit_syntax(alloc: Global, number: u32, of: Syntax) -> Result<Syntax, All
 
 /// A component or an alternative.
 fn part_of(alloc: Global, name: &str, syntax: Syntax) -> Result<Part, AllocError>
-    ensures { IfOk result (λ part. parts_listed (part ∷ []) ≡ one name.now syntax NoParts) }
+    ensures { IfOk result (λ part. (rest : TypeParts) → in_front (part ∷ []) rest ≡ one name.now syntax rest) }
 {
     Ok(Part {
         name: Bytes::from_slice(alloc, name.as_bytes())?,
@@ -118,48 +118,52 @@ fn part_of(alloc: Global, name: &str, syntax: Syntax) -> Result<Part, AllocError
     })
 }
 
-/// Two parts.
-fn two_parts(alloc: Global, first: Part, second: Part) -> Result<Parts, AllocError>
-    ensures { IfOk result (λ parts. parts ≡ parts_listed (first ∷ (second ∷ []))) }
+/// Appends a component or an alternative.
+fn add_part(
+    alloc: Global,
+    name: &str,
+    syntax: Syntax,
+    into: &mut Vec<Part>,
+) -> Result<(), AllocError>
+    ensures appended { OnOk result
+        ((rest : TypeParts) → in_front into.new.items rest ≡ in_front into.old.items (one name.now syntax rest)) }
+    ensures counted { OnOk result (length into.new.items ≡ length into.old.items + 1) }
 {
-    let mut items = Vec::new(alloc);
-    items.push(first)?;
-    items.push(second)?;
-    Ok(Parts { items })
+    into.push(part_of(alloc, name, syntax)?)?;
+    Ok(())
 }
 
-/// Three parts.
-fn three_parts(alloc: Global, first: Part, second: Part, third: Part) -> Result<Parts, AllocError>
-    ensures { IfOk result (λ parts. parts ≡ parts_listed (first ∷ (second ∷ (third ∷ [])))) }
-{
-    let mut items = Vec::new(alloc);
-    items.push(first)?;
-    items.push(second)?;
-    items.push(third)?;
-    Ok(Parts { items })
-}
-
-/// An alternative of an identifier, under an implicit tag.
-fn identifier_part(
+/// Appends an alternative under an implicit tag.
+fn add_tagged(
     alloc: Global,
     name: &str,
     number: u32,
-    form: SyntaxForm,
-) -> Result<Part, AllocError>
-    ensures { IfOk result (λ part. parts_listed (part ∷ []) ≡ one name.now (implicit number (syntax_of form)) NoParts) }
+    of: Syntax,
+    into: &mut Vec<Part>,
+) -> Result<(), AllocError>
+    ensures appended { OnOk result ((rest : TypeParts) →
+        in_front into.new.items rest ≡ in_front into.old.items (one name.now (implicit number of) rest)) }
+    ensures counted { OnOk result (length into.new.items ≡ length into.old.items + 1) }
 {
-    let syntax = implicit_syntax(alloc, number, of_form(form))?;
-    part_of(alloc, name, syntax)
+    let syntax = implicit_syntax(alloc, number, of)?;
+    add_part(alloc, name, syntax, into)
 }
 
 /// The alternatives of an identifier.
 fn identifier_parts(alloc: Global, global: u32, local: u32) -> Result<Parts, AllocError>
     ensures { IfOk result (λ parts. syntax_of (forms.Choice parts) ≡ identifier global local) }
 {
-    let first = identifier_part(alloc, "globalForm", global, SyntaxForm::Oid)?;
+    let mut items = Vec::new(alloc);
+    add_tagged(
+        alloc,
+        "globalForm",
+        global,
+        of_form(SyntaxForm::Oid),
+        &mut items,
+    )?;
     let number = SyntaxForm::Int(Names::new(alloc), Ranges::new(alloc));
-    let second = identifier_part(alloc, "localForm", local, number)?;
-    two_parts(alloc, first, second)
+    add_tagged(alloc, "localForm", local, of_form(number), &mut items)?;
+    Ok(Parts { items })
 }
 
 /// An identifier in globalForm or localForm.
@@ -174,9 +178,10 @@ fn identifier_syntax(alloc: Global, global: u32, local: u32) -> Result<Syntax, A
 fn assertion_syntax(alloc: Global) -> Result<Syntax, AllocError>
     ensures { IfOk result (λ syntax. syntax ≡ attribute_value_assertion) }
 {
-    let first = part_of(alloc, "", of_form(SyntaxForm::Oid))?;
-    let second = part_of(alloc, "", of_form(SyntaxForm::Any))?;
-    Ok(of_form(SyntaxForm::Seq(two_parts(alloc, first, second)?)))
+    let mut items = Vec::new(alloc);
+    add_part(alloc, "", of_form(SyntaxForm::Oid), &mut items)?;
+    add_part(alloc, "", of_form(SyntaxForm::Any), &mut items)?;
+    Ok(of_form(SyntaxForm::Seq(Parts { items })))
 }
 
 fn rdn_sequence_syntax(alloc: Global) -> Result<Syntax, AllocError>
@@ -187,24 +192,28 @@ fn rdn_sequence_syntax(alloc: Global) -> Result<Syntax, AllocError>
     Ok(of_form(SyntaxForm::ListOf(Box::new(alloc, rdn)?, Ranges::new(alloc))))
 }
 
-/// A name among the alternatives of ObjectInstance.
-fn name_part(alloc: Global, name: &str, number: u32) -> Result<Part, AllocError>
-    ensures { IfOk result (λ part. parts_listed (part ∷ []) ≡ one name.now (implicit number rdn_sequence) NoParts) }
-{
-    let names = rdn_sequence_syntax(alloc)?;
-    let syntax = implicit_syntax(alloc, number, names)?;
-    part_of(alloc, name, syntax)
-}
-
 /// The alternatives of ObjectInstance.
 fn instance_parts(alloc: Global) -> Result<Parts, AllocError>
     ensures { IfOk result (λ parts. syntax_of (forms.Choice parts) ≡ object_instance) }
 {
-    let first = name_part(alloc, "distinguishedName", 2)?;
+    let mut items = Vec::new(alloc);
+    add_tagged(
+        alloc,
+        "distinguishedName",
+        2,
+        rdn_sequence_syntax(alloc)?,
+        &mut items,
+    )?;
     let octets = SyntaxForm::Octets(Ranges::new(alloc));
-    let second = identifier_part(alloc, "nonSpecificForm", 3, octets)?;
-    let third = name_part(alloc, "localDistinguishedName", 4)?;
-    three_parts(alloc, first, second, third)
+    add_tagged(alloc, "nonSpecificForm", 3, of_form(octets), &mut items)?;
+    add_tagged(
+        alloc,
+        "localDistinguishedName",
+        4,
+        rdn_sequence_syntax(alloc)?,
+        &mut items,
+    )?;
+    Ok(Parts { items })
 }
 
 fn object_instance_syntax(alloc: Global) -> Result<Syntax, AllocError>
@@ -217,10 +226,20 @@ fn object_instance_syntax(alloc: Global) -> Result<Syntax, AllocError>
 fn attribute_syntax(alloc: Global) -> Result<Syntax, AllocError>
     ensures { IfOk result (λ syntax. syntax ≡ attribute) }
 {
-    let identifier = identifier_syntax(alloc, 0, 1)?;
-    let first = part_of(alloc, "attributeId", identifier)?;
-    let second = part_of(alloc, "attributeValue", of_form(SyntaxForm::Any))?;
-    Ok(of_form(SyntaxForm::Seq(two_parts(alloc, first, second)?)))
+    let mut items = Vec::new(alloc);
+    add_part(
+        alloc,
+        "attributeId",
+        identifier_syntax(alloc, 0, 1)?,
+        &mut items,
+    )?;
+    add_part(
+        alloc,
+        "attributeValue",
+        of_form(SyntaxForm::Any),
+        &mut items,
+    )?;
+    Ok(of_form(SyntaxForm::Seq(Parts { items })))
 }
 
 /// The syntax of a type of CMIP-1; only memory can fail.
