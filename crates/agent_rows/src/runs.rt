@@ -6,6 +6,7 @@ use crate::stored_files::StoredFiles;
 use crate::texts::{first_number, first_word, show_quoted, text_of};
 use agent_bytes::{MemFiles, MemSink, RealFiles};
 use agent_run::{agent, command_words};
+use shipped_documents::DMI;
 use std::alloc::{AllocError, Global};
 
 /// Room in a sink for all that a row writes.
@@ -91,6 +92,53 @@ pub(crate) fn show_run(
     let mut files = files.in_memory(alloc, Vec::new(alloc))?;
     let mut out = MemSink::new(alloc, ROOM, Vec::new(alloc))?;
     show_memory_run(rt, line, &mut files, &mut out, answer)
+}
+
+/// Adds a document of this text, which is named by its number, to the files and to the words.
+fn add_document(
+    alloc: Global,
+    text: &str,
+    words: &mut Vec<String>,
+    files: &mut MemFiles,
+) -> Result<(), AllocError> {
+    let number = words.len();
+    let text = text_of(alloc, text)?;
+    let mut name = String::new(alloc);
+    write!(name, "{number}")?;
+    files.add(alloc, name.as_str(), text.as_bytes())?;
+    words.push(name)?;
+    Ok(())
+}
+
+/// `documents COMMAND TEXT%TEXT..`: a run of a command on documents of these texts, which are named 1, 2 and so on.
+pub(crate) fn show_documents_run(
+    rt: &HostRuntime,
+    row: &str,
+    answer: &mut String,
+) -> Result<(), AllocError> {
+    let alloc = rt.alloc();
+    let (command, texts) = first_word(row);
+    let mut words = words_of(alloc, command)?;
+    let mut files = MemFiles::new(alloc, Vec::new(alloc));
+    for text in texts.split('%') {
+        add_document(alloc, text, &mut words, &mut files)?;
+    }
+    let mut out = MemSink::new(alloc, ROOM, Vec::new(alloc))?;
+    show_words_run(rt, &words, &mut files, &mut out, answer)
+}
+
+/// `shipped TEXT`: whether this is the text of the document that is shipped.
+pub(crate) fn show_shipped(
+    alloc: Global,
+    text: &str,
+    answer: &mut String,
+) -> Result<(), AllocError> {
+    let text = text_of(alloc, text)?;
+    if text.as_str() == DMI {
+        answer.push_str("the text of DMI")
+    } else {
+        answer.push_str("another text")
+    }
 }
 
 /// Appends how many octets stand before the last ones of a text, of which there are so many, and these.
