@@ -4,6 +4,7 @@ use crate::reading::octets;
 use crate::showing::{show_filter, show_octets};
 use ber_tree::tree_reading::read_front_tree;
 use cmis_filter::{FilterRefusal, read_filter};
+use lending::lend;
 use std::alloc::{AllocError, Global};
 use term_model::{Asked, Set};
 use term_values::Tree;
@@ -31,6 +32,19 @@ fn show_asked(asked: &Asked, whole: bool, out: &mut String) -> Result<(), AllocE
     }
 }
 
+/// Appends what reading a filter gave.
+fn show_read(
+    read: &Result<Asked, FilterRefusal>,
+    whole: bool,
+    out: &mut String,
+) -> Result<(), AllocError> {
+    match read {
+        Ok(asked) => show_asked(asked, whole, out),
+        Err(FilterRefusal::Mistyped) => out.push_str("mistyped"),
+        Err(FilterRefusal::Memory) => Err(AllocError),
+    }
+}
+
 /// Appends the answer to a tree.
 fn answer_tree(
     alloc: Global,
@@ -39,10 +53,23 @@ fn answer_tree(
     whole: bool,
     out: &mut String,
 ) -> Result<(), AllocError> {
-    match read_filter(alloc, set, tree) {
-        Ok(asked) => show_asked(&asked, whole, out),
-        Err(FilterRefusal::Mistyped) => out.push_str("mistyped"),
-        Err(FilterRefusal::Memory) => Err(AllocError),
+    lend(
+        read_filter(alloc, set, tree),
+        |read| show_read(read, whole, out),
+    )
+}
+
+/// Appends the answer to the tree in front, where there is one.
+fn answer_front(
+    alloc: Global,
+    set: &Set,
+    front: &Option<(Tree, usize)>,
+    whole: bool,
+    out: &mut String,
+) -> Result<(), AllocError> {
+    match front {
+        Some((tree, _)) => answer_tree(alloc, set, tree, whole, out),
+        None => out.push_str("no tree"),
     }
 }
 
@@ -54,10 +81,9 @@ fn answer_octets(
     whole: bool,
     out: &mut String,
 ) -> Result<(), AllocError> {
-    match read_front_tree(alloc, octets)? {
-        Some((tree, _)) => answer_tree(alloc, set, &tree, whole, out),
-        None => out.push_str("no tree"),
-    }
+    lend(read_front_tree(alloc, octets)?, |front| {
+        answer_front(alloc, set, front, whole, out)
+    })
 }
 
 /// Appends the answer to a row: `read` wants the filter itself, any other call its kind.

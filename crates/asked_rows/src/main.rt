@@ -8,6 +8,7 @@ mod row_set;
 mod showing;
 
 use answering::answer_line;
+use lending::lend;
 use row_set::example_set;
 use std::io;
 use term_model::Set;
@@ -22,6 +23,5 @@ fn answer_lines(rt: HostRuntime, set: &Set) -> io::Result<()> {
 }
 
 fn main(rt: HostRuntime) -> io::Result<()> {
-    let set = example_set(rt.alloc())?;
-    answer_lines(rt, &set)
+    lend(example_set(rt.alloc())?, |set| answer_lines(rt, set))
 }

@@ -25,11 +25,7 @@ const GROUP: u32 = 7;
 
 /// The identifier {2 999 number}.
 fn identifier(alloc: Global, number: u32) -> Result<Oid, AllocError> {
-    let mut arcs = Vec::new(alloc);
-    arcs.push(2)?;
-    arcs.push(999)?;
-    arcs.push(number)?;
-    match Oid::from_arcs(arcs) {
+    match Oid::from_arcs(vec![in alloc; 2, 999, number]?) {
         Some(oid) => Ok(oid),
         None => Err(AllocError),
     }
@@ -73,15 +69,13 @@ fn add(
     rules: Rules,
 ) -> Result<(), AllocError> {
     let id = identifier(alloc, number)?;
-    records.push(
-        alloc,
-        AttrRec {
-            id,
-            label: Bytes::new(alloc),
-            syntax,
-            rules,
-        },
-    )
+    let record = AttrRec {
+        id,
+        label: Bytes::new(alloc),
+        syntax,
+        rules,
+    };
+    records.push(alloc, record)
 }
 
 /// Adds the record of an attribute of whole numbers.
@@ -115,31 +109,29 @@ fn add_records(alloc: Global, records: &mut AttrRecs) -> Result<(), AllocError> 
     add_whole(alloc, records, PLAIN, no_rules())
 }
 
-fn records(alloc: Global) -> Result<AttrRecs, AllocError> {
-    let mut records = AttrRecs::new(alloc);
-    add_records(alloc, &mut records)?;
-    Ok(records)
-}
-
-fn groups(alloc: Global) -> Result<GroupRecs, AllocError> {
-    let mut items = Vec::new(alloc);
-    items.push(GroupRec {
+fn group(alloc: Global) -> Result<GroupRec, AllocError> {
+    Ok(GroupRec {
         id: identifier(alloc, GROUP)?,
         label: Bytes::new(alloc),
         members: Oids {
             items: Vec::new(alloc),
         },
         fixed: false,
-    })?;
-    Ok(GroupRecs { items })
+    })
 }
 
-/// A set with the attributes above and the group.
-pub fn example_set(alloc: Global) -> Result<Set, AllocError> {
-    Ok(Set {
+fn add_group(alloc: Global, groups: &mut GroupRecs) -> Result<(), AllocError> {
+    Ok(groups.items.push(group(alloc)?)?)
+}
+
+/// A set without records.
+fn empty_set(alloc: Global) -> Set {
+    Set {
         classes: ClassRecs::new(alloc),
-        attributes: records(alloc)?,
-        groups: groups(alloc)?,
+        attributes: AttrRecs::new(alloc),
+        groups: GroupRecs {
+            items: Vec::new(alloc),
+        },
         bindings: BindRecs {
             items: Vec::new(alloc),
         },
@@ -156,5 +148,17 @@ pub fn example_set(alloc: Global) -> Result<Set, AllocError> {
             items: Vec::new(alloc),
         },
         system: Name::root(alloc),
-    })
+    }
+}
+
+fn add_all(alloc: Global, set: &mut Set) -> Result<(), AllocError> {
+    add_records(alloc, &mut set.attributes)?;
+    add_group(alloc, &mut set.groups)
+}
+
+/// A set with the attributes above and the group.
+pub fn example_set(alloc: Global) -> Result<Set, AllocError> {
+    let mut set = empty_set(alloc);
+    add_all(alloc, &mut set)?;
+    Ok(set)
 }

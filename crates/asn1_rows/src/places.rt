@@ -1,5 +1,6 @@
 //! Where a reader of tokens ends: the place behind what it read, or that of the fault.
 
+use lending::lend;
 use std::alloc::{AllocError, Global};
 use token_grammar::{SyntaxRefusal, Token};
 
@@ -25,18 +26,18 @@ pub fn reader_of(name: &str) -> Option<Reader> {
 }
 
 fn behind_module(alloc: Global, tokens: &[Token], at: usize) -> Result<usize, SyntaxRefusal> {
-    let (_module, next) = asn1_syntax::read_module(alloc, tokens, at)?;
-    Ok(next)
+    let read = asn1_syntax::read_module(alloc, tokens, at)?;
+    Ok(lend(read, |read| read.1))
 }
 
 fn behind_type(alloc: Global, tokens: &[Token], at: usize) -> Result<usize, SyntaxRefusal> {
-    let (_type, next) = asn1_syntax::read_type(alloc, tokens, at)?;
-    Ok(next)
+    let read = asn1_syntax::read_type(alloc, tokens, at)?;
+    Ok(lend(read, |read| read.1))
 }
 
 fn behind_value(alloc: Global, tokens: &[Token], at: usize) -> Result<usize, SyntaxRefusal> {
-    let (_value, next) = asn1_values_syntax::read_value(alloc, tokens, at)?;
-    Ok(next)
+    let read = asn1_values_syntax::read_value(alloc, tokens, at)?;
+    Ok(lend(read, |read| read.1))
 }
 
 /// Where a reader ends that begins at a place.

@@ -41,24 +41,16 @@ fn push_octets(
     Ok(())
 }
 
-fn push_class(template: ClassTemplate, number: u32, parts: &mut Parsed) -> Result<(), AllocError> {
-    let mut read = template;
-    match &mut read {
+fn number_class(template: &mut ClassTemplate, number: u32) {
+    match template {
         ClassTemplate::Class(x) => x.document = number,
         ClassTemplate::Package(x) => x.document = number,
         ClassTemplate::NameBinding(x) => x.document = number,
     }
-    parts.classes.push(read)?;
-    Ok(())
 }
 
-fn push_member(
-    template: MemberTemplate,
-    number: u32,
-    parts: &mut Parsed,
-) -> Result<(), AllocError> {
-    let mut read = template;
-    match &mut read {
+fn number_member(template: &mut MemberTemplate, number: u32) {
+    match template {
         MemberTemplate::Attribute(x) => x.document = number,
         MemberTemplate::Group(x) => x.document = number,
         MemberTemplate::Action(x) => x.document = number,
@@ -66,32 +58,43 @@ fn push_member(
         MemberTemplate::Parameter(x) => x.document = number,
         MemberTemplate::Behaviour(x) => x.document = number,
     }
-    parts.members.push(read)?;
-    Ok(())
 }
 
-fn push_section(section: Section, number: u32, parts: &mut Parsed) -> Result<(), AllocError> {
-    let mut read = section;
-    match &mut read {
+fn number_section(section: &mut Section, number: u32) {
+    match section {
         Section::Rules(x) => x.document = number,
         Section::Instances(x) => x.document = number,
     }
-    parts.sections.push(read)?;
+}
+
+fn number_unit(unit: &mut DocumentUnit, number: u32) {
+    match unit {
+        DocumentUnit::Class(template) => number_class(template, number),
+        DocumentUnit::Member(template) => number_member(template, number),
+        DocumentUnit::Module(module) => module.document = number,
+        DocumentUnit::Section(section) => number_section(section, number),
+    }
+}
+
+/// Appends an item.
+fn add<T: Drop>(item: T, items: &mut Vec<T>) -> Result<(), AllocError> {
+    items.push(item)?;
     Ok(())
 }
 
-fn push_unit(unit: DocumentUnit, number: u32, parts: &mut Parsed) -> Result<(), AllocError> {
+fn add_unit(unit: DocumentUnit, parts: &mut Parsed) -> Result<(), AllocError> {
     match unit {
-        DocumentUnit::Class(template) => push_class(template, number, parts),
-        DocumentUnit::Member(template) => push_member(template, number, parts),
-        DocumentUnit::Module(module) => {
-            let mut read = module;
-            read.document = number;
-            parts.modules.push(read)?;
-            Ok(())
-        }
-        DocumentUnit::Section(section) => push_section(section, number, parts),
+        DocumentUnit::Class(template) => add(template, &mut parts.classes),
+        DocumentUnit::Member(template) => add(template, &mut parts.members),
+        DocumentUnit::Module(module) => add(module, &mut parts.modules),
+        DocumentUnit::Section(section) => add(section, &mut parts.sections),
     }
+}
+
+fn push_unit(unit: DocumentUnit, number: u32, parts: &mut Parsed) -> Result<(), AllocError> {
+    let mut read = unit;
+    number_unit(&mut read, number);
+    add_unit(read, parts)
 }
 
 fn push_units(units: Vec<DocumentUnit>, number: u32, parts: &mut Parsed) -> Result<(), AllocError> {

@@ -11,6 +11,7 @@ use asn1_syntax::Module;
 use asn1_types::Types;
 use class_closure::{ClassRefusal, Classes, close_classes};
 use gdmo_resolve::{LabelRefusal, Linked, Parsed, resolve_labels};
+use lending::lend;
 use std::alloc::{AllocError, Global};
 
 /// What of closed classes is shown.
@@ -51,24 +52,24 @@ fn shown_fault(
 
 fn shown_refusal(
     alloc: Global,
-    refusal: ClassRefusal,
+    refusal: &ClassRefusal,
     marks: &[Option<u64>],
 ) -> Result<String, AllocError> {
     match refusal {
         ClassRefusal::CyclicClass { document, token } => {
-            shown_fault(alloc, "CyclicClass", document, token, marks)
+            shown_fault(alloc, "CyclicClass", *document, *token, marks)
         }
         ClassRefusal::UnequalDefault { document, token } => {
-            shown_fault(alloc, "UnequalDefault", document, token, marks)
+            shown_fault(alloc, "UnequalDefault", *document, *token, marks)
         }
         ClassRefusal::EmptyPermitted { document, token } => {
-            shown_fault(alloc, "EmptyPermitted", document, token, marks)
+            shown_fault(alloc, "EmptyPermitted", *document, *token, marks)
         }
         ClassRefusal::NotSetValued { document, token } => {
-            shown_fault(alloc, "NotSetValued", document, token, marks)
+            shown_fault(alloc, "NotSetValued", *document, *token, marks)
         }
         ClassRefusal::BadValue { document, token } => {
-            shown_fault(alloc, "BadValue", document, token, marks)
+            shown_fault(alloc, "BadValue", *document, *token, marks)
         }
         ClassRefusal::Memory => Err(AllocError),
     }
@@ -91,10 +92,11 @@ fn closed<'a, 't>(
     modules: &'a [Module],
     asked: Asked,
 ) -> Result<String, AllocError> {
-    match close_classes(alloc, linked, types, modules) {
-        Ok(classes) => shown_classes(alloc, &classes, asked.shown),
+    let classes = close_classes(alloc, linked, types, modules);
+    lend(classes, |classes| match classes {
+        Ok(classes) => shown_classes(alloc, classes, asked.shown),
         Err(refusal) => shown_refusal(alloc, refusal, asked.marks),
-    }
+    })
 }
 
 fn linked<'a>(
@@ -103,34 +105,34 @@ fn linked<'a>(
     types: &Types<'a>,
     asked: Asked,
 ) -> Result<String, AllocError> {
-    match resolve_labels(alloc, parts, types) {
-        Ok(linked) => closed(alloc, &linked, types, parts.modules.as_slice(), asked),
+    lend(resolve_labels(alloc, parts, types), |linked| match linked {
+        Ok(linked) => closed(alloc, linked, types, parts.modules.as_slice(), asked),
         Err(LabelRefusal::Memory) => Err(AllocError),
         Err(_) => String::from_str(alloc, "a fault of labels"),
-    }
+    })
 }
 
 fn resolved(alloc: Global, parts: &Parsed, asked: Asked) -> Result<String, AllocError> {
-    match resolve_modules(alloc, parts.modules.as_slice()) {
-        Ok(types) => linked(alloc, parts, &types, asked),
+    let types = resolve_modules(alloc, parts.modules.as_slice());
+    lend(types, |types| match types {
+        Ok(types) => linked(alloc, parts, types, asked),
         Err(ModuleRefusal::Memory) => Err(AllocError),
         Err(_) => String::from_str(alloc, "a fault of modules"),
-    }
+    })
 }
 
 /// What documents lead to.
 fn documents_row(alloc: Global, text: &str, shown: Shown) -> Result<String, AllocError> {
     let mut marks = Vec::new(alloc);
-    match read_all(alloc, text, &mut marks)? {
-        Some(parts) => {
-            let asked = Asked {
-                shown,
-                marks: marks.as_slice(),
-            };
-            resolved(alloc, &parts, asked)
-        }
+    let parts = read_all(alloc, text, &mut marks)?;
+    let asked = Asked {
+        shown,
+        marks: marks.as_slice(),
+    };
+    lend(parts, |parts| match parts {
+        Some(parts) => resolved(alloc, parts, asked),
         None => String::from_str(alloc, "unreadable"),
-    }
+    })
 }
 
 fn grown_row(alloc: Global, arguments: &str) -> Result<String, AllocError> {

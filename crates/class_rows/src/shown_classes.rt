@@ -90,6 +90,13 @@ fn push_packages(word: &str, packages: &PackageRecs, into: &mut String) -> Resul
     Ok(())
 }
 
+fn push_class_packages(class: &ClassRec, into: &mut String) -> Result<(), AllocError> {
+    push_begin(into)?;
+    push_octets(class.label.as_slice(), into)?;
+    push_packages("; mandatory ", &class.mandatory, into)?;
+    push_packages("; conditional ", &class.conditional, into)
+}
+
 /// The classes with their joined properties.
 pub fn shown_properties(alloc: Global, classes: &Classes) -> Result<String, AllocError> {
     let mut text = String::new(alloc);
@@ -103,10 +110,7 @@ pub fn shown_properties(alloc: Global, classes: &Classes) -> Result<String, Allo
 pub fn shown_packages(alloc: Global, classes: &Classes) -> Result<String, AllocError> {
     let mut text = String::new(alloc);
     for class in classes.classes.as_slice() {
-        push_begin(&mut text)?;
-        push_octets(class.label.as_slice(), &mut text)?;
-        push_packages("; mandatory ", &class.mandatory, &mut text)?;
-        push_packages("; conditional ", &class.conditional, &mut text)?;
+        push_class_packages(class, &mut text)?;
     }
     Ok(text)
 }

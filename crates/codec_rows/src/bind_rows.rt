@@ -4,20 +4,27 @@ ghost use Rattle.std.specs.Prelude.{◌<◌, ◌^◌, IfOk};
 
 use bind_apdus::bind_reading::title_in;
 use bind_apdus::bind_writing::bind_answer_frame;
+use lending::lend;
 use row_arguments::showing::{show_octets, show_oid};
 use row_arguments::{RowFault, reading};
-use std::alloc::Global;
+use std::alloc::{AllocError, Global};
+use term_values::Oid;
 
 /// The greatest number of an association.
 const LAST_ASSOCIATION: u64 = i64::MAX as u64;
 
+fn show_title(title: &Option<Oid>, out: &mut String) -> Result<(), AllocError> {
+    match title {
+        Some(title) => show_oid(title, out),
+        None => out.push_str("none"),
+    }
+}
+
 /// The title in a BIND, or `none`.
 fn title_row(alloc: Global, text: &str, out: &mut String) -> Result<(), RowFault> {
     let bind = reading::octets(alloc, text)?;
-    match title_in(alloc, &bind)? {
-        Some(title) => Ok(show_oid(&title, out)?),
-        None => Ok(out.push_str("none")?),
-    }
+    let title = title_in(alloc, &bind)?;
+    Ok(lend(title, |title| show_title(title, out))?)
 }
 
 /// The number of an association.

@@ -12,12 +12,18 @@ mod schema_rows;
 use answering::answer_line;
 use schema_rows::empty_schema;
 use std::io;
+use term_model::Set;
 
-fn main(rt: HostRuntime) -> io::Result<()> {
-    let mut schema = empty_schema(rt.alloc());
+/// Answers all lines by a schema, to which they may add.
+fn answer_by(rt: HostRuntime, schema: &mut Set) -> io::Result<()> {
     for line in rt.lines(rt.alloc()) {
-        let answer = answer_line(rt.alloc(), &mut schema, line?.as_str())?;
+        let answer = answer_line(rt.alloc(), schema, line?.as_str())?;
         println!(rt; "{}", answer.as_str().trim_end())?;
     }
     Ok(())
+}
+
+fn main(rt: HostRuntime) -> io::Result<()> {
+    let mut schema = empty_schema(rt.alloc());
+    answer_by(rt, &mut schema)
 }

@@ -17,12 +17,16 @@ fn part(alloc: Global, text: &str) -> Result<Rdn, RowFault> {
     }
 }
 
+fn add_part(alloc: Global, text: &str, parts: &mut Vec<Rdn>) -> Result<(), RowFault> {
+    Ok(parts.push(part(alloc, text)?)?)
+}
+
 /// A name: its parts, or `root`.
 pub fn name(alloc: Global, text: &str) -> Result<Name, RowFault> {
     let mut parts = Vec::new(alloc);
     for text in text.split(',') {
         if text.trim() != "root" {
-            parts.push(part(alloc, text)?)?;
+            add_part(alloc, text, &mut parts)?;
         }
     }
     Ok(Name { parts })

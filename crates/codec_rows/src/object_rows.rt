@@ -3,13 +3,14 @@
 use crate::names;
 use ber_tree::tree_writing::reverse_from;
 use ber_tree::value_writing::write_oid_backwards;
+use lending::lend;
 use op_object::object_reading::{attribute_set, get_one};
 use op_object::property_lists::readable_attributes;
 use result_contents::names::write_instance;
 use row_arguments::showing::show_octets;
 use row_arguments::{RowFault, reading};
 use std::alloc::Global;
-use term_model::{Attribute, Attrs, Object, Oids, Set};
+use term_model::{Attribute, Attrs, Name, Object, Oids, Set};
 use term_values::{Tag, Value};
 
 /// The moment 0.
@@ -19,12 +20,18 @@ const START: &[u8] = b"19700101000000Z";
 fn attribute(alloc: Global, text: &str) -> Result<Attribute, RowFault> {
     match text.split_once('=') {
         Some((id, number)) => {
-            let value = Value::integer(reading::integer(number)?);
-            let id = reading::oid(alloc, id)?;
-            Ok(Attribute { id, value })
+            let number = reading::integer(number)?;
+            Ok(Attribute {
+                id: reading::oid(alloc, id)?,
+                value: Value::integer(number),
+            })
         }
         None => Err(RowFault::Arguments),
     }
+}
+
+fn add_attribute(alloc: Global, text: &str, items: &mut Vec<Attribute>) -> Result<(), RowFault> {
+    Ok(items.push(attribute(alloc, text)?)?)
 }
 
 /// Attributes.
@@ -32,7 +39,7 @@ fn attributes(alloc: Global, text: &str) -> Result<Attrs, RowFault> {
     let mut items = Vec::new(alloc);
     for text in text.split(',') {
         if !text.trim().is_empty() {
-            items.push(attribute(alloc, text)?)?;
+            add_attribute(alloc, text, &mut items)?;
         }
     }
     Ok(Attrs { items })
@@ -86,13 +93,37 @@ fn object(alloc: Global, class: &str, text: &str) -> Result<Object, RowFault> {
     })
 }
 
+/// Appends the result of a Get of an object under a name, at the moment 0.
+fn show_get(
+    alloc: Global,
+    schema: &Set,
+    name: &Name,
+    object: &Object,
+    out: &mut String,
+) -> Result<(), RowFault> {
+    let result = get_one(alloc, schema, &name.parts, object, START)?;
+    Ok(show_octets(result.as_slice(), out)?)
+}
+
+/// The Get of an object of a class with attributes, under a name.
+fn get_under(
+    alloc: Global,
+    schema: &Set,
+    name: &Name,
+    class: &str,
+    values: &str,
+    out: &mut String,
+) -> Result<(), RowFault> {
+    let object = object(alloc, class, values)?;
+    lend(object, |object| show_get(alloc, schema, name, object, out))
+}
+
 /// The result of a Get of an object under a name, at the moment 0.
 fn get_one_row(alloc: Global, schema: &Set, text: &str, out: &mut String) -> Result<(), RowFault> {
     let (class, place, values) = reading::three(text)?;
-    let name = names::name(alloc, place)?;
-    let object = object(alloc, class, values)?;
-    let result = get_one(alloc, schema, &name.parts, &object, START)?;
-    Ok(show_octets(result.as_slice(), out)?)
+    lend(names::name(alloc, place)?, |name| {
+        get_under(alloc, schema, name, class, values, out)
+    })
 }
 
 /// Appends the answer to a call.

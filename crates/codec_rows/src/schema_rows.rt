@@ -36,12 +36,16 @@ fn property(alloc: Global, text: &str) -> Result<Property, RowFault> {
     })
 }
 
+fn add_property(alloc: Global, text: &str, items: &mut Vec<Property>) -> Result<(), RowFault> {
+    Ok(items.push(property(alloc, text)?)?)
+}
+
 /// A property list.
 fn properties(alloc: Global, text: &str) -> Result<Properties, RowFault> {
     let mut items = Vec::new(alloc);
     for text in text.split(',') {
         if !text.trim().is_empty() {
-            items.push(property(alloc, text)?)?;
+            add_property(alloc, text, &mut items)?;
         }
     }
     Ok(Properties { items })

@@ -6,6 +6,7 @@ use super::texts::{octets_of, show_octets};
 use gdmo_classes::creation::{CreateModifiers, Creation, Deletion, ModifierRow};
 use gdmo_classes::name_binding::NameBindingTemplate;
 use gdmo_classes::{ClassTemplate, read_template};
+use lending::lend;
 use std::alloc::{AllocError, Global};
 use token_grammar::{SyntaxRefusal, Token};
 
@@ -76,9 +77,15 @@ fn shown_template(alloc: Global, template: &ClassTemplate) -> Result<String, All
     }
 }
 
+/// The parts of the name binding template that the tokens begin with.
+fn read_parts(alloc: Global, tokens: &[Token]) -> Result<String, SyntaxRefusal> {
+    let read = read_template(alloc, tokens, 0)?;
+    Ok(lend(read, |read| shown_template(alloc, &read.0))?)
+}
+
 fn shown_parts(alloc: Global, tokens: &[Token]) -> Result<String, AllocError> {
-    match read_template(alloc, tokens, 0) {
-        Ok((template, _next)) => shown_template(alloc, &template),
+    match read_parts(alloc, tokens) {
+        Ok(shown) => Ok(shown),
         Err(SyntaxRefusal::Syntax { token }) => format!(in alloc; "fault at {token}"),
         Err(SyntaxRefusal::Memory) => Err(AllocError),
     }

@@ -1,6 +1,7 @@
 //! Where a reader of tokens ends: the place behind what it read, or that of the fault.
 
 use super::small_grammar::read_shelf;
+use lending::lend;
 use std::alloc::{AllocError, Global};
 use token_grammar::{SyntaxRefusal, Token};
 
@@ -26,13 +27,13 @@ pub fn reader_of(name: &str) -> Option<Reader> {
 }
 
 fn behind_member(alloc: Global, tokens: &[Token], at: usize) -> Result<usize, SyntaxRefusal> {
-    let (_template, next) = gdmo_members::read_template(alloc, tokens, at)?;
-    Ok(next)
+    let read = gdmo_members::read_template(alloc, tokens, at)?;
+    Ok(lend(read, |read| read.1))
 }
 
 fn behind_class(alloc: Global, tokens: &[Token], at: usize) -> Result<usize, SyntaxRefusal> {
-    let (_template, next) = gdmo_classes::read_template(alloc, tokens, at)?;
-    Ok(next)
+    let read = gdmo_classes::read_template(alloc, tokens, at)?;
+    Ok(lend(read, |read| read.1))
 }
 
 /// Where a reader ends that begins at a place.

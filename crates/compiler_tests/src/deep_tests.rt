@@ -1,5 +1,6 @@
 //! Templates in line in one another, down to many levels: readers leave room on a stack of 8 MiB.
 
+use lending::lend;
 use std::alloc::{AllocError, Global};
 use std::process::Abort;
 use std::test::Fail;
@@ -36,13 +37,13 @@ fn tokens_of(alloc: Global, text: &str) -> Result<Vec<Token>, AllocError> {
 }
 
 fn behind_member(alloc: Global, tokens: &[Token]) -> Result<usize, SyntaxRefusal> {
-    let (_template, next) = gdmo_members::read_template(alloc, tokens, 0)?;
-    Ok(next)
+    let read = gdmo_members::read_template(alloc, tokens, 0)?;
+    Ok(lend(read, |read| read.1))
 }
 
 fn behind_class(alloc: Global, tokens: &[Token]) -> Result<usize, SyntaxRefusal> {
-    let (_template, next) = gdmo_classes::read_template(alloc, tokens, 0)?;
-    Ok(next)
+    let read = gdmo_classes::read_template(alloc, tokens, 0)?;
+    Ok(lend(read, |read| read.1))
 }
 
 /// Looks that a reader ended behind all tokens.

@@ -1,8 +1,9 @@
 //! From a line to its answer.
 
-use crate::row_filters::read_filters;
+use crate::row_filters::filter_of;
 use crate::selecting::add_selection;
 use cmis_filter::holds;
+use lending::lend;
 use std::alloc::{AllocError, Global};
 use term_model::{Filter, Object, Set, StepLedger, Steps};
 
@@ -27,15 +28,11 @@ fn add_answer<L: StepLedger>(
     let (first, behind) = row.split_once(' ').unwrap_or((row, ""));
     let selection = first.strip_prefix("select:");
     let words = if selection.is_some() { behind } else { row };
-    let mut filters = Vec::new(alloc);
-    let known = read_filters(alloc, &mut filters, words)?;
-    match filters.last() {
-        Some(filter) if known => match selection {
-            Some(system) => add_selection(alloc, out, set, system, filter, steps),
-            None => out.push_str(truth_of(set, object, filter)),
-        },
-        _ => out.push_str("no such filter"),
-    }
+    lend(filter_of(alloc, words)?, |found| match (found, selection) {
+        (Some(filter), Some(system)) => add_selection(alloc, out, set, system, filter, steps),
+        (Some(filter), None) => out.push_str(truth_of(set, object, filter)),
+        (None, _) => out.push_str("no such filter"),
+    })
 }
 
 /// What is printed for a line.

@@ -14,6 +14,7 @@ mod row_set;
 mod selecting;
 
 use answering::answer_line;
+use lending::lend;
 use row_object::example_object;
 use row_set::example_set;
 use std::io;
@@ -40,13 +41,18 @@ fn answer_lines<N: Ledger>(
     Ok(())
 }
 
+/// Answers all lines by the attributes of a set and an object.
+fn answer_about(rt: HostRuntime, set: &Set, object: &Object) -> io::Result<()> {
+    answer_lines::<Brand>(rt, Blank::new(1), set, object)
+}
+
 /// Answers all lines by the attributes of a set.
 fn answer_by(rt: HostRuntime, set: &Set) -> io::Result<()> {
-    let object = example_object(rt.alloc())?;
-    answer_lines::<Brand>(rt, Blank::new(1), set, &object)
+    lend(example_object(rt.alloc())?, |object| {
+        answer_about(rt, set, object)
+    })
 }
 
 fn main(rt: HostRuntime) -> io::Result<()> {
-    let set = example_set(rt.alloc())?;
-    answer_by(rt, &set)
+    lend(example_set(rt.alloc())?, |set| answer_by(rt, set))
 }

@@ -26,6 +26,12 @@ fn take_last(
     Ok(true)
 }
 
+/// Puts a filter of this form behind the filters.
+fn add_filter(filters: &mut Vec<Filter>, form: FilterForm) -> Result<(), AllocError> {
+    filters.push(Filter { form })?;
+    Ok(())
+}
+
 /// Joins the last filters.
 fn join(
     alloc: Global,
@@ -41,7 +47,7 @@ fn join(
     } else {
         FilterForm::Or(joined)
     };
-    filters.push(Filter { form })?;
+    add_filter(filters, form)?;
     Ok(enough)
 }
 
@@ -49,8 +55,7 @@ fn join(
 fn turn(alloc: Global, filters: &mut Vec<Filter>) -> Result<bool, AllocError> {
     match filters.pop() {
         Some(filter) => {
-            let form = FilterForm::Not(Box::new(alloc, filter)?);
-            filters.push(Filter { form })?;
+            add_filter(filters, FilterForm::Not(Box::new(alloc, filter)?))?;
             Ok(true)
         }
         None => Ok(false),
@@ -61,8 +66,7 @@ fn turn(alloc: Global, filters: &mut Vec<Filter>) -> Result<bool, AllocError> {
 fn add_item(alloc: Global, filters: &mut Vec<Filter>, word: &str) -> Result<bool, AllocError> {
     match item_of(alloc, word)? {
         Some(item) => {
-            let form = FilterForm::Item(item);
-            filters.push(Filter { form })?;
+            add_filter(filters, FilterForm::Item(item))?;
             Ok(true)
         }
         None => Ok(false),
@@ -82,15 +86,21 @@ fn read_word(alloc: Global, filters: &mut Vec<Filter>, word: &str) -> Result<boo
 }
 
 /// Reads the words of a filter, which is the last of the filters then; false where a word is none of a filter.
-pub fn read_filters(
-    alloc: Global,
-    filters: &mut Vec<Filter>,
-    line: &str,
-) -> Result<bool, AllocError> {
+fn read_filters(alloc: Global, filters: &mut Vec<Filter>, line: &str) -> Result<bool, AllocError> {
     for word in line.split(' ') {
         if !read_word(alloc, filters, word)? {
             return Ok(false);
         }
     }
     Ok(true)
+}
+
+/// The filter of these words, or none where a word is none of a filter.
+pub fn filter_of(alloc: Global, line: &str) -> Result<Option<Filter>, AllocError> {
+    let mut filters = Vec::new(alloc);
+    if read_filters(alloc, &mut filters, line)? {
+        Ok(filters.pop())
+    } else {
+        Ok(None)
+    }
 }

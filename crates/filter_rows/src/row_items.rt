@@ -103,6 +103,20 @@ fn piece(alloc: Global, text: &str) -> Result<Piece, AllocError> {
     })
 }
 
+/// Adds the value of a piece under its kind.
+fn add_value(
+    alloc: Global,
+    values: &mut Vec<Value>,
+    kind: u8,
+    value: &Value,
+) -> Result<(), AllocError> {
+    let picked = Box::new(alloc, value.copy(alloc)?)?;
+    values.push(Value {
+        form: ValueForm::Pick(u32::from(kind), picked),
+    })?;
+    Ok(())
+}
+
 /// Adds the values of pieces, each under its kind; false where one has none.
 fn add_values(
     alloc: Global,
@@ -112,12 +126,7 @@ fn add_values(
     for piece in pieces {
         match &piece.given.value {
             None => return Ok(false),
-            Some(value) => {
-                let picked = Box::new(alloc, value.copy(alloc)?)?;
-                values.push(Value {
-                    form: ValueForm::Pick(u32::from(piece.kind), picked),
-                })?;
-            }
+            Some(value) => add_value(alloc, values, piece.kind, value)?,
         }
     }
     Ok(true)

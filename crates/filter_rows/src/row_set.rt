@@ -160,12 +160,11 @@ fn groups(alloc: Global) -> Result<GroupRecs, AllocError> {
     Ok(GroupRecs { items })
 }
 
-/// A set with the attributes above and the group.
-pub fn example_set(alloc: Global) -> Result<Set, AllocError> {
-    Ok(Set {
+fn set_of(alloc: Global, attributes: AttrRecs, groups: GroupRecs) -> Set {
+    Set {
         classes: ClassRecs::new(alloc),
-        attributes: records(alloc)?,
-        groups: groups(alloc)?,
+        attributes,
+        groups,
         bindings: BindRecs {
             items: Vec::new(alloc),
         },
@@ -182,5 +181,11 @@ pub fn example_set(alloc: Global) -> Result<Set, AllocError> {
             items: Vec::new(alloc),
         },
         system: Name::root(alloc),
-    })
+    }
+}
+
+/// A set with the attributes above and the group.
+pub fn example_set(alloc: Global) -> Result<Set, AllocError> {
+    let groups = groups(alloc)?;
+    Ok(set_of(alloc, records(alloc)?, groups))
 }

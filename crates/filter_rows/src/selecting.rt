@@ -5,6 +5,7 @@
 use crate::row_names::{add_name, element_id_of, name_of};
 use crate::row_object::element_with;
 use cmis_filter::holds;
+use lending::lend;
 use mo_list::ListMib;
 use scope_select::in_scope;
 use std::alloc::{AllocError, Global};
@@ -121,6 +122,23 @@ fn add_reached<L: StepLedger>(
     }
 }
 
+/// Adds those of the names in scope, from the object that a text names, of whose objects the filter is true.
+fn add_below<L: StepLedger>(
+    alloc: Global,
+    out: &mut String,
+    set: &Set,
+    map: &ListMib<L>,
+    text: &str,
+    scope: &Scope,
+    filter: &Filter,
+    steps: &mut Steps<L>,
+) -> Result<(), AllocError> {
+    lend(name_of(alloc, text)?, |found| match found {
+        Some(base) => add_reached(alloc, out, set, map, base, scope, filter, steps),
+        None => out.push_str("no such name"),
+    })
+}
+
 /// Adds the names that the scope and the filter select in a map.
 fn add_selected<L: StepLedger>(
     alloc: Global,
@@ -135,10 +153,7 @@ fn add_selected<L: StepLedger>(
     let (digits, text) = behind.split_once(':').unwrap_or((behind, ""));
     match scope_of(kind, digits) {
         None => out.push_str("no such scope"),
-        Some(scope) => match name_of(alloc, text)? {
-            None => out.push_str("no such name"),
-            Some(base) => add_reached(alloc, out, set, map, &base, &scope, filter, steps),
-        },
+        Some(scope) => add_below(alloc, out, set, map, text, &scope, filter, steps),
     }
 }
 

@@ -3,6 +3,7 @@
 use crate::row_syntaxes::syntax_named;
 use crate::row_values::{Stacks, read_value};
 use ber_values::encode_into;
+use lending::lend;
 use set_values::{with_members, without_members};
 use std::alloc::{AllocError, Global};
 use std::fmt::Write;
@@ -41,8 +42,9 @@ fn answer_with(
     given: &Value,
     out: &mut String,
 ) -> Result<(), AllocError> {
-    let value = with_members(alloc, syntax, held, given)?;
-    show(alloc, syntax, &value, out)
+    lend(with_members(alloc, syntax, held, given)?, |value| {
+        show(alloc, syntax, value, out)
+    })
 }
 
 /// Appends the one form of the held value without those that are given.
@@ -53,8 +55,9 @@ fn answer_without(
     given: &Value,
     out: &mut String,
 ) -> Result<(), AllocError> {
-    let value = without_members(alloc, syntax, held, given)?;
-    show(alloc, syntax, &value, out)
+    lend(without_members(alloc, syntax, held, given)?, |value| {
+        show(alloc, syntax, value, out)
+    })
 }
 
 /// Appends what the call answers.
@@ -73,6 +76,16 @@ fn answer_call(
     }
 }
 
+/// Reads values; false where a word says nothing.
+fn read_values(alloc: Global, stacks: &mut Stacks, words: &str) -> Result<bool, AllocError> {
+    for value in words.split(' ') {
+        if !read_value(alloc, stacks, value)? {
+            return Ok(false);
+        }
+    }
+    Ok(true)
+}
+
 /// Appends the answer to a call with values.
 fn answer_values(
     alloc: Global,
@@ -82,22 +95,21 @@ fn answer_values(
     out: &mut String,
 ) -> Result<(), AllocError> {
     let mut stacks = Stacks::new(alloc);
-    for value in words.split(' ') {
-        if !read_value(alloc, &mut stacks, value)? {
-            return out.push_str("no such value");
-        }
+    if read_values(alloc, &mut stacks, words)? {
+        answer_call(alloc, call, syntax, stacks.values.as_slice(), out)
+    } else {
+        out.push_str("no such value")
     }
-    answer_call(alloc, call, syntax, stacks.values.as_slice(), out)
 }
 
 /// Appends the answer to a row.
 fn answer_row(alloc: Global, row: &str, out: &mut String) -> Result<(), AllocError> {
     let (call, behind) = row.split_once(' ').unwrap_or((row, ""));
     let (name, words) = behind.split_once(' ').unwrap_or((behind, ""));
-    match syntax_named(alloc, name)? {
+    lend(syntax_named(alloc, name)?, |found| match found {
+        Some(syntax) => answer_values(alloc, call, syntax, words, out),
         None => out.push_str("no such syntax"),
-        Some(syntax) => answer_values(alloc, call, &syntax, words, out),
-    }
+    })
 }
 
 /// What is printed for a line.

@@ -52,13 +52,17 @@ fn take_slots(taken: &mut Vec<Slot>, slots: &mut Vec<Slot>, count: u8) -> Result
     Ok(true)
 }
 
+/// Adds a value of this form.
+fn add_value(values: &mut Vec<Value>, form: ValueForm) -> Result<(), AllocError> {
+    values.push(Value { form })?;
+    Ok(())
+}
+
 /// Makes the last values members of one.
 fn join_members(alloc: Global, stacks: &mut Stacks, count: u8) -> Result<bool, AllocError> {
     let mut items = Vec::new(alloc);
     let enough = take_values(&mut items, &mut stacks.values, count)?;
-    stacks.values.push(Value {
-        form: ValueForm::Many(Values { items }),
-    })?;
+    add_value(&mut stacks.values, ValueForm::Many(Values { items }))?;
     Ok(enough)
 }
 
@@ -66,9 +70,7 @@ fn join_members(alloc: Global, stacks: &mut Stacks, count: u8) -> Result<bool, A
 fn join_parts(alloc: Global, stacks: &mut Stacks, count: u8) -> Result<bool, AllocError> {
     let mut items = Vec::new(alloc);
     let enough = take_slots(&mut items, &mut stacks.slots, count)?;
-    stacks.values.push(Value {
-        form: ValueForm::Parts(Slots { items }),
-    })?;
+    add_value(&mut stacks.values, ValueForm::Parts(Slots { items }))?;
     Ok(enough)
 }
 
@@ -78,9 +80,8 @@ fn pick_last(alloc: Global, stacks: &mut Stacks, index: u8) -> Result<bool, Allo
         None => Ok(false),
         Some(value) => {
             let picked = Box::new(alloc, value)?;
-            stacks.values.push(Value {
-                form: ValueForm::Pick(u32::from(index), picked),
-            })?;
+            let form = ValueForm::Pick(u32::from(index), picked);
+            add_value(&mut stacks.values, form)?;
             Ok(true)
         }
     }

@@ -26,6 +26,18 @@ fn cause(text: &str) -> Result<Why, RowFault> {
     }
 }
 
+/// The entry of a kind that has no octets, with its number and what stands behind it.
+fn bare_entry(kind: &str, number: u64, rest: &str) -> Result<Entry, RowFault> {
+    match kind {
+        "granted" => Ok(Entry::Granted(number, reading::natural(rest)?)),
+        "committed" => Ok(Entry::Committed(number)),
+        "taken" => Ok(Entry::Taken(number, reading::natural(rest)?)),
+        "finished" => Ok(Entry::Finished(number)),
+        "closed" => Ok(Entry::Closed(number, cause(rest)?)),
+        _ => Err(RowFault::Word),
+    }
+}
+
 /// The entry of a text.
 fn entry(alloc: Global, text: &str) -> Result<Entry, RowFault> {
     let (kind, rest) = word(text);
@@ -34,12 +46,7 @@ fn entry(alloc: Global, text: &str) -> Result<Entry, RowFault> {
     match kind {
         "opened" => Ok(Entry::Opened(number, reading::bytes(alloc, rest)?)),
         "arrived" => Ok(Entry::Arrived(number, reading::bytes(alloc, rest)?)),
-        "granted" => Ok(Entry::Granted(number, reading::natural(rest)?)),
-        "committed" => Ok(Entry::Committed(number)),
-        "taken" => Ok(Entry::Taken(number, reading::natural(rest)?)),
-        "finished" => Ok(Entry::Finished(number)),
-        "closed" => Ok(Entry::Closed(number, cause(rest)?)),
-        _ => Err(RowFault::Word),
+        _ => bare_entry(kind, number, rest),
     }
 }
 

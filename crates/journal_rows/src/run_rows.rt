@@ -3,31 +3,21 @@
 use crate::agents::agent;
 use crate::entry_rows::{entries, show_text};
 use journal_text::texts::{run_text, write_outs};
+use lending::lend;
 use row_arguments::{RowFault, reading};
-use std::alloc::Global;
-use term_model::{AgentState, Entry};
+use std::alloc::{AllocError, Global};
+use term_model::AgentState;
 
-/// Appends what is printed of an agent.
-fn show_outs(alloc: Global, agent: &AgentState, out: &mut String) -> Result<(), RowFault> {
-    let mut into = Vec::new(alloc);
-    write_outs(alloc, agent, &mut into)?;
-    show_text(&into, out)
+/// The text that is printed of an agent.
+fn outs_text(alloc: Global, agent: &AgentState) -> Result<Vec<u8>, AllocError> {
+    let mut text = Vec::new(alloc);
+    write_outs(alloc, agent, &mut text)?;
+    Ok(text)
 }
 
 /// What is printed of an agent.
 fn outs_row(alloc: Global, text: &str, out: &mut String) -> Result<(), RowFault> {
-    let agent = agent(alloc, text)?;
-    show_outs(alloc, &agent, out)
-}
-
-/// Appends what is printed of a journal and an agent.
-fn show_run(
-    alloc: Global,
-    journal: &[Entry],
-    agent: &AgentState,
-    out: &mut String,
-) -> Result<(), RowFault> {
-    let text = run_text(alloc, journal, agent)?;
+    let text = lend(agent(alloc, text)?, |agent| outs_text(alloc, agent))?;
     show_text(&text, out)
 }
 
@@ -35,8 +25,11 @@ fn show_run(
 fn run_row(alloc: Global, text: &str, out: &mut String) -> Result<(), RowFault> {
     let (lines, rest) = reading::two(text)?;
     let journal = entries(alloc, lines)?;
-    let agent = agent(alloc, rest)?;
-    show_run(alloc, &journal, &agent, out)
+    let text = lend(
+        agent(alloc, rest)?,
+        |agent| run_text(alloc, &journal, agent),
+    )?;
+    show_text(&text, out)
 }
 
 /// Appends the answer to a call.

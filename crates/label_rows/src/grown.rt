@@ -8,17 +8,21 @@ use std::alloc::{AllocError, Global};
 /// as its SEQUENCE has components; `rules`, a rule for each of many classes.
 pub fn grown_text(alloc: Global, kind: &str, count: usize) -> Result<String, AllocError> {
     let mut text = String::new(alloc);
-    match kind {
-        "classes" => push_classes(count, &mut text)?,
-        "attributes" => push_attributes(count, &mut text)?,
-        "names" => push_names(count, &mut text)?,
-        "loops" => push_loops(count, &mut text)?,
-        "uses" => push_uses(count, &mut text)?,
-        "fields" => push_fields(count, &mut text)?,
-        "rules" => push_rules(count, &mut text)?,
-        _ => {}
-    }
+    push_kind(kind, count, &mut text)?;
     Ok(text)
+}
+
+fn push_kind(kind: &str, count: usize, text: &mut String) -> Result<(), AllocError> {
+    match kind {
+        "classes" => push_classes(count, text),
+        "attributes" => push_attributes(count, text),
+        "names" => push_names(count, text),
+        "loops" => push_loops(count, text),
+        "uses" => push_uses(count, text),
+        "fields" => push_fields(count, text),
+        "rules" => push_rules(count, text),
+        _ => Ok(()),
+    }
 }
 
 fn push_classes(count: usize, text: &mut String) -> Result<(), AllocError> {

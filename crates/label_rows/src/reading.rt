@@ -31,19 +31,33 @@ fn written_out(alloc: Global, text: &str) -> Result<String, AllocError> {
     Ok(long)
 }
 
-fn document_of(alloc: Global, text: &str) -> Result<Document, AllocError> {
+fn long_document(alloc: Global, text: &str) -> Result<String, AllocError> {
     let once = written_out(alloc, text)?;
-    let long = written_out(alloc, once.as_str())?;
-    let mut octets = Vec::new(alloc);
-    let mut mark = None;
-    for octet in long.as_str().as_bytes().iter() {
+    written_out(alloc, once.as_str())
+}
+
+/// Appends the octets of a document without its mark, and notes the place of the mark.
+fn push_octets(text: &[u8], into: &mut Document) -> Result<(), AllocError> {
+    for octet in text {
         if *octet == b'~' {
-            mark = Some(octets.len() as u64);
+            into.mark = Some(into.octets.len() as u64);
         } else {
-            octets.push(*octet)?;
+            into.octets.push(*octet)?;
         }
     }
-    Ok(Document { octets, mark })
+    Ok(())
+}
+
+/// Appends a document that has short names.
+fn push_text(alloc: Global, text: &str, documents: &mut Vec<Document>) -> Result<(), AllocError> {
+    let long = long_document(alloc, text)?;
+    let mut document = Document {
+        octets: Vec::new(alloc),
+        mark: None,
+    };
+    push_octets(long.as_str().as_bytes(), &mut document)?;
+    documents.push(document)?;
+    Ok(())
 }
 
 fn tokens_of(alloc: Global, octets: &[u8]) -> Result<Option<Vec<Token>>, AllocError> {
@@ -54,11 +68,17 @@ fn tokens_of(alloc: Global, octets: &[u8]) -> Result<Option<Vec<Token>>, AllocEr
     }
 }
 
-/// The place behind what was read; none where it can't be read.
-fn place_of(refusal: SyntaxRefusal) -> Result<Option<usize>, AllocError> {
-    match refusal {
-        SyntaxRefusal::Memory => Err(AllocError),
-        SyntaxRefusal::Syntax { .. } => Ok(None),
+/// Appends an item.
+fn add<T: Drop>(item: T, items: &mut Vec<T>) -> Result<(), AllocError> {
+    items.push(item)?;
+    Ok(())
+}
+
+fn number_class(template: &mut ClassTemplate, number: u32) {
+    match template {
+        ClassTemplate::Class(x) => x.document = number,
+        ClassTemplate::Package(x) => x.document = number,
+        ClassTemplate::NameBinding(x) => x.document = number,
     }
 }
 
@@ -68,19 +88,21 @@ fn push_class(
     at: usize,
     number: u32,
     parts: &mut Parsed,
-) -> Result<Option<usize>, AllocError> {
-    match gdmo_classes::read_template(alloc, tokens, at) {
-        Ok((template, next)) => {
-            let mut read = template;
-            match &mut read {
-                ClassTemplate::Class(x) => x.document = number,
-                ClassTemplate::Package(x) => x.document = number,
-                ClassTemplate::NameBinding(x) => x.document = number,
-            }
-            parts.classes.push(read)?;
-            Ok(Some(next))
-        }
-        Err(refusal) => place_of(refusal),
+) -> Result<usize, SyntaxRefusal> {
+    let (mut template, next) = gdmo_classes::read_template(alloc, tokens, at)?;
+    number_class(&mut template, number);
+    add(template, &mut parts.classes)?;
+    Ok(next)
+}
+
+fn number_member(template: &mut MemberTemplate, number: u32) {
+    match template {
+        MemberTemplate::Attribute(x) => x.document = number,
+        MemberTemplate::Group(x) => x.document = number,
+        MemberTemplate::Action(x) => x.document = number,
+        MemberTemplate::Notification(x) => x.document = number,
+        MemberTemplate::Parameter(x) => x.document = number,
+        MemberTemplate::Behaviour(x) => x.document = number,
     }
 }
 
@@ -90,23 +112,11 @@ fn push_member(
     at: usize,
     number: u32,
     parts: &mut Parsed,
-) -> Result<Option<usize>, AllocError> {
-    match gdmo_members::read_template(alloc, tokens, at) {
-        Ok((template, next)) => {
-            let mut read = template;
-            match &mut read {
-                MemberTemplate::Attribute(x) => x.document = number,
-                MemberTemplate::Group(x) => x.document = number,
-                MemberTemplate::Action(x) => x.document = number,
-                MemberTemplate::Notification(x) => x.document = number,
-                MemberTemplate::Parameter(x) => x.document = number,
-                MemberTemplate::Behaviour(x) => x.document = number,
-            }
-            parts.members.push(read)?;
-            Ok(Some(next))
-        }
-        Err(refusal) => place_of(refusal),
-    }
+) -> Result<usize, SyntaxRefusal> {
+    let (mut template, next) = gdmo_members::read_template(alloc, tokens, at)?;
+    number_member(&mut template, number);
+    add(template, &mut parts.members)?;
+    Ok(next)
 }
 
 fn push_module(
@@ -115,15 +125,17 @@ fn push_module(
     at: usize,
     number: u32,
     parts: &mut Parsed,
-) -> Result<Option<usize>, AllocError> {
-    match read_module(alloc, tokens, at) {
-        Ok((module, next)) => {
-            let mut read = module;
-            read.document = number;
-            parts.modules.push(read)?;
-            Ok(Some(next))
-        }
-        Err(refusal) => place_of(refusal),
+) -> Result<usize, SyntaxRefusal> {
+    let (mut module, next) = read_module(alloc, tokens, at)?;
+    module.document = number;
+    add(module, &mut parts.modules)?;
+    Ok(next)
+}
+
+fn number_section(section: &mut Section, number: u32) {
+    match section {
+        Section::Rules(x) => x.document = number,
+        Section::Instances(x) => x.document = number,
     }
 }
 
@@ -133,32 +145,24 @@ fn push_section(
     at: usize,
     number: u32,
     parts: &mut Parsed,
-) -> Result<Option<usize>, AllocError> {
-    match read_section(alloc, tokens, at) {
-        Ok((section, next)) => {
-            let mut read = section;
-            match &mut read {
-                Section::Rules(x) => x.document = number,
-                Section::Instances(x) => x.document = number,
-            }
-            parts.sections.push(read)?;
-            Ok(Some(next))
-        }
-        Err(refusal) => place_of(refusal),
-    }
+) -> Result<usize, SyntaxRefusal> {
+    let (mut section, next) = read_section(alloc, tokens, at)?;
+    number_section(&mut section, number);
+    add(section, &mut parts.sections)?;
+    Ok(next)
 }
 
-/// Reads what stands at a place: the place behind it; none where nothing can be read.
+/// Reads what stands at a place: the place behind it.
 fn push_part(
     alloc: Global,
     tokens: &[Token],
     at: usize,
     number: u32,
     parts: &mut Parsed,
-) -> Result<Option<usize>, AllocError> {
+) -> Result<usize, SyntaxRefusal> {
     let second = at.saturating_add(1);
     if is_sign_at(tokens, at, ";") {
-        return Ok(Some(second));
+        return Ok(second);
     }
     if is_one_of_at(tokens, at, &["RULES", "INSTANCES"]) {
         return push_section(alloc, tokens, at, number, parts);
@@ -182,6 +186,23 @@ fn push_part(
     push_module(alloc, tokens, at, number, parts)
 }
 
+/// Reads all that stands in a document.
+fn push_parts(
+    alloc: Global,
+    tokens: &[Token],
+    number: u32,
+    parts: &mut Parsed,
+) -> Result<(), SyntaxRefusal> {
+    let mut at = 0usize;
+    for _ in 0..tokens.len() {
+        if at >= tokens.len() {
+            break;
+        }
+        at = push_part(alloc, tokens, at, number, parts)?;
+    }
+    Ok(())
+}
+
 /// Appends what a document says; false where it can't be read.
 fn push_document(
     alloc: Global,
@@ -192,39 +213,44 @@ fn push_document(
     let Some(tokens) = tokens_of(alloc, octets)? else {
         return Ok(false);
     };
-    let mut at = 0usize;
-    for _ in 0..tokens.len() {
-        if at >= tokens.len() {
-            break;
+    match push_parts(alloc, &tokens, number, parts) {
+        Ok(()) => Ok(true),
+        Err(SyntaxRefusal::Memory) => Err(AllocError),
+        Err(SyntaxRefusal::Syntax { .. }) => Ok(false),
+    }
+}
+
+fn push_all(alloc: Global, documents: &[Document], parts: &mut Parsed) -> Result<bool, AllocError> {
+    let mut number = 1u32;
+    for document in documents {
+        if !push_document(alloc, &document.octets, number, parts)? {
+            return Ok(false);
         }
-        match push_part(alloc, &tokens, at, number, parts)? {
-            Some(next) => at = next,
-            None => return Ok(false),
-        }
+        number = number.saturating_add(1);
     }
     Ok(true)
 }
 
+/// The documents of a row.
+pub fn documents_of(alloc: Global, text: &str) -> Result<Vec<Document>, AllocError> {
+    let mut documents = Vec::new(alloc);
+    for part in text.split('%') {
+        push_text(alloc, part, &mut documents)?;
+    }
+    Ok(documents)
+}
+
 /// What the documents of a row say; none where one can't be read. The documents are numbered from 1.
-pub fn read_all(
-    alloc: Global,
-    text: &str,
-    documents: &mut Vec<Document>,
-) -> Result<Option<Parsed>, AllocError> {
+pub fn read_all(alloc: Global, documents: &[Document]) -> Result<Option<Parsed>, AllocError> {
     let mut parts = Parsed {
         modules: Vec::new(alloc),
         classes: Vec::new(alloc),
         members: Vec::new(alloc),
         sections: Vec::new(alloc),
     };
-    let mut number = 1u32;
-    for part in text.split('%') {
-        let document = document_of(alloc, part)?;
-        if !push_document(alloc, &document.octets, number, &mut parts)? {
-            return Ok(None);
-        }
-        documents.push(document)?;
-        number = number.saturating_add(1);
+    if push_all(alloc, documents, &mut parts)? {
+        Ok(Some(parts))
+    } else {
+        Ok(None)
     }
-    Ok(Some(parts))
 }

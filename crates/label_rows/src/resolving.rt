@@ -1,9 +1,11 @@
 //! What the documents of a row lead to: linked parts, or the first fault.
 
-use super::reading::{Document, read_all};
+use super::reading::{Document, documents_of, read_all};
 use super::showing::{shown_linked, shown_names};
 use asn1_resolve::resolve_modules;
-use gdmo_resolve::{LabelRefusal, Linked, resolve_labels};
+use asn1_types::Types;
+use gdmo_resolve::{LabelRefusal, Linked, Parsed, resolve_labels};
+use lending::lend;
 use std::alloc::{AllocError, Global};
 
 /// What of linked parts is shown.
@@ -36,21 +38,21 @@ fn shown_fault(
 
 fn shown_refusal(
     alloc: Global,
-    refusal: LabelRefusal,
+    refusal: &LabelRefusal,
     documents: &[Document],
 ) -> Result<String, AllocError> {
     match refusal {
         LabelRefusal::UnknownLabel { document, token } => {
-            shown_fault(alloc, "UnknownLabel", document, token, documents)
+            shown_fault(alloc, "UnknownLabel", *document, *token, documents)
         }
         LabelRefusal::WrongKind { document, token } => {
-            shown_fault(alloc, "WrongKind", document, token, documents)
+            shown_fault(alloc, "WrongKind", *document, *token, documents)
         }
         LabelRefusal::DoubleLabel { document, token } => {
-            shown_fault(alloc, "DoubleLabel", document, token, documents)
+            shown_fault(alloc, "DoubleLabel", *document, *token, documents)
         }
         LabelRefusal::DoubleIdentifier { document, token } => {
-            shown_fault(alloc, "DoubleIdentifier", document, token, documents)
+            shown_fault(alloc, "DoubleIdentifier", *document, *token, documents)
         }
         LabelRefusal::Memory => Err(AllocError),
     }
@@ -64,18 +66,38 @@ fn shown_text(alloc: Global, what: Shown, linked: &Linked) -> Result<String, All
     }
 }
 
+fn linked_answer<'a>(
+    alloc: Global,
+    parts: &'a Parsed,
+    types: &Types<'a>,
+    what: Shown,
+    documents: &[Document],
+) -> Result<String, AllocError> {
+    lend(resolve_labels(alloc, parts, types), |linked| match linked {
+        Ok(linked) => shown_text(alloc, what, linked),
+        Err(refusal) => shown_refusal(alloc, refusal, documents),
+    })
+}
+
+fn resolved_answer(
+    alloc: Global,
+    parts: &Parsed,
+    what: Shown,
+    documents: &[Document],
+) -> Result<String, AllocError> {
+    let types = resolve_modules(alloc, &parts.modules);
+    lend(types, |types| match types {
+        Ok(types) => linked_answer(alloc, parts, types, what, documents),
+        Err(_) => String::from_str(alloc, "a fault of modules"),
+    })
+}
+
 fn resolved(alloc: Global, text: &str, what: Shown) -> Result<String, AllocError> {
-    let mut documents = Vec::new(alloc);
-    let Some(parts) = read_all(alloc, text, &mut documents)? else {
-        return String::from_str(alloc, "unreadable");
-    };
-    let Ok(types) = resolve_modules(alloc, &parts.modules) else {
-        return String::from_str(alloc, "a fault of modules");
-    };
-    match resolve_labels(alloc, &parts, &types) {
-        Ok(linked) => shown_text(alloc, what, &linked),
-        Err(refusal) => shown_refusal(alloc, refusal, &documents),
-    }
+    let documents = documents_of(alloc, text)?;
+    lend(read_all(alloc, &documents)?, |parts| match parts {
+        Some(parts) => resolved_answer(alloc, parts, what, &documents),
+        None => String::from_str(alloc, "unreadable"),
+    })
 }
 
 /// The first fault of documents.

@@ -314,29 +314,39 @@ fn push_sections(linked: &Linked, into: &mut String) -> Result<(), AllocError> {
     Ok(())
 }
 
+fn push_linked(linked: &Linked, into: &mut String) -> Result<(), AllocError> {
+    push_classes(linked, into)?;
+    push_members(linked, into)?;
+    push_sections(linked, into)?;
+    if into.is_empty() {
+        into.push_str("nothing")?;
+    }
+    Ok(())
+}
+
 /// Linked parts but the first names, with semicolons between them.
 pub fn shown_linked(alloc: Global, linked: &Linked) -> Result<String, AllocError> {
     let mut text = String::new(alloc);
-    push_classes(linked, &mut text)?;
-    push_members(linked, &mut text)?;
-    push_sections(linked, &mut text)?;
-    if text.is_empty() {
-        text.push_str("nothing")?;
-    }
+    push_linked(linked, &mut text)?;
     Ok(text)
+}
+
+fn push_first_names(linked: &Linked, into: &mut String) -> Result<(), AllocError> {
+    for own in linked.first_names.iter() {
+        into.push_str(" ")?;
+        push_octets(own.name.text.as_slice(), into)?;
+        let mut sign = "=";
+        for arc in own.arcs.iter() {
+            write!(into, "{sign}{arc}")?;
+            sign = ".";
+        }
+    }
+    Ok(())
 }
 
 /// The first names, each with its arcs.
 pub fn shown_names(alloc: Global, linked: &Linked) -> Result<String, AllocError> {
     let mut text = String::from_str(alloc, "names")?;
-    for own in linked.first_names.iter() {
-        text.push_str(" ")?;
-        push_octets(own.name.text.as_slice(), &mut text)?;
-        let mut sign = "=";
-        for arc in own.arcs.iter() {
-            write!(text, "{sign}{arc}")?;
-            sign = ".";
-        }
-    }
+    push_first_names(linked, &mut text)?;
     Ok(text)
 }

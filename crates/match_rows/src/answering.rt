@@ -3,8 +3,9 @@
 use crate::row_syntaxes::{pieces_of, syntax_named};
 use ber_tree::tree_reading::read_front_tree;
 use ber_values::{DecodeRefusal, decode};
+use lending::lend;
 use std::alloc::{AllocError, Global};
-use term_values::{Rules, Syntax, Value};
+use term_values::{Rules, Syntax, Tree, Value};
 use value_match::member_order::order_of_members;
 use value_match::told::MemberOrder;
 use value_match::{NotMatched, contains_text, equal, meets, orders, subset};
@@ -21,20 +22,32 @@ fn rules_named(word: &str) -> Rules {
     }
 }
 
-/// The value that digits denote, or none.
-fn value_of(alloc: Global, syntax: &Syntax, digits: &str) -> Result<Option<Value>, AllocError> {
-    let octets = match hex::decode(alloc, digits.as_bytes()) {
-        Ok(octets) => octets,
-        Err(_) => return Ok(None),
-    };
-    let tree = match read_front_tree(alloc, &octets)? {
-        Some((tree, _)) => tree,
-        None => return Ok(None),
-    };
-    match decode(alloc, syntax, &tree) {
+/// The value that a tree denotes, or none.
+fn value_of_tree(alloc: Global, syntax: &Syntax, tree: &Tree) -> Result<Option<Value>, AllocError> {
+    match decode(alloc, syntax, tree) {
         Ok(value) => Ok(Some(value)),
         Err(DecodeRefusal::Misfit) => Ok(None),
         Err(DecodeRefusal::Memory) => Err(AllocError),
+    }
+}
+
+/// The value that octets denote, or none.
+fn value_of_octets(
+    alloc: Global,
+    syntax: &Syntax,
+    octets: &[u8],
+) -> Result<Option<Value>, AllocError> {
+    lend(read_front_tree(alloc, octets)?, |read| match read {
+        Some((tree, _)) => value_of_tree(alloc, syntax, tree),
+        None => Ok(None),
+    })
+}
+
+/// The value that digits denote, or none.
+fn value_of(alloc: Global, syntax: &Syntax, digits: &str) -> Result<Option<Value>, AllocError> {
+    match hex::decode(alloc, digits.as_bytes()) {
+        Ok(octets) => value_of_octets(alloc, syntax, &octets),
+        Err(_) => Ok(None),
     }
 }
 
@@ -76,7 +89,36 @@ fn called(
     }
 }
 
-/// The answer to a call. Where pieces stand in front of the octets of the asserted value, it is a list of pieces.
+/// The asserted value, or none. Where `pieces:` stands in front of its octets, it is a list of pieces.
+fn asserted_value(
+    alloc: Global,
+    syntax: &Syntax,
+    asserted: &str,
+) -> Result<Option<Value>, AllocError> {
+    match asserted.strip_prefix("pieces:") {
+        Some(digits) => lend(pieces_of(alloc, syntax)?, |pieces| {
+            value_of(alloc, pieces, digits)
+        }),
+        None => value_of(alloc, syntax, asserted),
+    }
+}
+
+/// The answer to a call with this asserted value.
+fn answer_asserted(
+    alloc: Global,
+    call: &str,
+    rules: &Rules,
+    syntax: &Syntax,
+    asserted: &Value,
+    held: &str,
+) -> Result<&'static str, AllocError> {
+    Ok(lend(value_of(alloc, syntax, held)?, |found| match found {
+        Some(held) => called(call, syntax, rules, asserted, held),
+        None => "no value",
+    }))
+}
+
+/// The answer to a call.
 fn answer_values(
     alloc: Global,
     call: &str,
@@ -85,14 +127,13 @@ fn answer_values(
     asserted: &str,
     held: &str,
 ) -> Result<&'static str, AllocError> {
-    let first = match asserted.strip_prefix("pieces:") {
-        Some(digits) => value_of(alloc, &pieces_of(alloc, syntax)?, digits)?,
-        None => value_of(alloc, syntax, asserted)?,
-    };
-    match (first, value_of(alloc, syntax, held)?) {
-        (Some(first), Some(second)) => Ok(called(call, syntax, rules, &first, &second)),
-        _ => Ok("no value"),
-    }
+    lend(
+        asserted_value(alloc, syntax, asserted)?,
+        |found| match found {
+            Some(asserted) => answer_asserted(alloc, call, rules, syntax, asserted, held),
+            None => Ok("no value"),
+        },
+    )
 }
 
 /// The answer to a row.
@@ -101,10 +142,11 @@ fn answer_row(alloc: Global, row: &str) -> Result<&'static str, AllocError> {
     let (rules, behind_rules) = behind_call.split_once(' ').unwrap_or((behind_call, ""));
     let (name, values) = behind_rules.split_once(' ').unwrap_or((behind_rules, ""));
     let (asserted, held) = values.split_once(' ').unwrap_or((values, ""));
-    match syntax_named(alloc, name)? {
+    let rules = rules_named(rules);
+    lend(syntax_named(alloc, name)?, |found| match found {
+        Some(syntax) => answer_values(alloc, call, &rules, syntax, asserted, held),
         None => Ok("no such syntax"),
-        Some(syntax) => answer_values(alloc, call, &rules_named(rules), &syntax, asserted, held),
-    }
+    })
 }
 
 /// What is printed for a line.

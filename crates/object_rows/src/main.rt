@@ -15,6 +15,8 @@ mod showing;
 mod showing_effects;
 
 use answering::answer_line;
+use lending::lend;
+use row_fault::RowFault;
 use row_set::example_set;
 use std::io;
 use term_model::Set;
@@ -28,9 +30,14 @@ fn answer_by(rt: HostRuntime, set: &Set) -> io::Result<()> {
     Ok(())
 }
 
-fn main(rt: HostRuntime) -> io::Result<()> {
-    match example_set(rt.alloc()) {
-        Ok(set) => answer_by(rt, &set),
+/// Answers all lines, or says why there is no schema.
+fn answer_all(rt: HostRuntime, made: &Result<Set, RowFault>) -> io::Result<()> {
+    match made {
+        Ok(set) => answer_by(rt, set),
         Err(fault) => println!(rt; "{}", fault.text()),
     }
+}
+
+fn main(rt: HostRuntime) -> io::Result<()> {
+    lend(example_set(rt.alloc()), |made| answer_all(rt, made))
 }

@@ -49,16 +49,21 @@ fn letters(alloc: Global, text: &str) -> Result<Bytes, RowFault> {
     Ok(Bytes { items })
 }
 
+/// Adds a whole number.
+fn add_member(number: i64, items: &mut Vec<Value>) -> Result<(), RowFault> {
+    Ok(items.push(Value::integer(number))?)
+}
+
 /// A number, or all from one to another with `~` between them.
 fn add_members(word: &str, items: &mut Vec<Value>) -> Result<(), RowFault> {
     match word.split_once('~') {
         Some((first, last)) => {
             for number in arc(first)?..=arc(last)? {
-                items.push(Value::integer(i64::from(number)))?;
+                add_member(i64::from(number), items)?;
             }
             Ok(())
         }
-        None => Ok(items.push(Value::integer(integer(word)?))?),
+        None => add_member(integer(word)?, items),
     }
 }
 

@@ -4,61 +4,76 @@ use crate::reading;
 use crate::row_fault::RowFault;
 use std::alloc::Global;
 use term_model::{Change, Changes, Given, IdRef, Ids};
-use term_values::Bytes;
+use term_values::{Bytes, Value};
+
+fn add_id(alloc: Global, text: &str, items: &mut Vec<IdRef>) -> Result<(), RowFault> {
+    Ok(items.push(reading::id_ref(alloc, text)?)?)
+}
+
+fn ids(alloc: Global, text: &str) -> Result<Ids, RowFault> {
+    let mut items = Vec::new(alloc);
+    for word in text.split_whitespace() {
+        add_id(alloc, word, &mut items)?;
+    }
+    Ok(Ids { items })
+}
 
 /// The identifiers of a list; `all` for none.
 pub fn asked(alloc: Global, text: &str) -> Result<Option<Ids>, RowFault> {
     if text.trim() == "all" {
         return Ok(None);
     }
-    let mut items = Vec::new(alloc);
-    for word in text.split_whitespace() {
-        items.push(reading::id_ref(alloc, word)?)?;
-    }
-    Ok(Some(Ids { items }))
+    Ok(Some(ids(alloc, text)?))
 }
 
-/// What came with a modification: a value, or with `bad` octets that are none of the attribute's syntax.
-fn given(alloc: Global, id: IdRef, text: &str) -> Result<Given, RowFault> {
-    let value = if text == "bad" {
-        None
-    } else {
-        Some(reading::value(alloc, text)?)
-    };
+/// The value that came with a modification; `bad` for octets that are none of the attribute's syntax.
+fn given_value(alloc: Global, text: &str) -> Result<Option<Value>, RowFault> {
+    if text == "bad" {
+        return Ok(None);
+    }
+    Ok(Some(reading::value(alloc, text)?))
+}
+
+/// What came with a modification.
+fn given(alloc: Global, id: &str, text: &str) -> Result<Given, RowFault> {
     Ok(Given {
-        id,
-        value,
+        id: reading::id_ref(alloc, id)?,
+        value: given_value(alloc, text)?,
         raw: Bytes::new(alloc),
     })
+}
+
+/// What came with a modification, where something did.
+fn given_where(alloc: Global, id: &str, text: Option<&str>) -> Result<Option<Given>, RowFault> {
+    match text {
+        Some(text) => Ok(Some(given(alloc, id, text)?)),
+        None => Ok(None),
+    }
 }
 
 /// A modification: the operator, a colon and the attribute; an equals sign and the value behind it where one came.
 fn change(alloc: Global, text: &str) -> Result<Change, RowFault> {
     let (operator, rest) = text.split_once(':').unwrap_or(("", text));
-    let operator = reading::integer(operator)?;
-    match rest.split_once('=') {
-        Some((id, value)) => {
-            let given = given(alloc, reading::id_ref(alloc, id)?, value)?;
-            let id = reading::id_ref(alloc, id)?;
-            Ok(Change {
-                operator,
-                id,
-                given: Some(given),
-            })
-        }
-        None => Ok(Change {
-            operator,
-            id: reading::id_ref(alloc, rest)?,
-            given: None,
-        }),
-    }
+    let (id, value) = match rest.split_once('=') {
+        Some((id, value)) => (id, Some(value)),
+        None => (rest, None),
+    };
+    Ok(Change {
+        operator: reading::integer(operator)?,
+        id: reading::id_ref(alloc, id)?,
+        given: given_where(alloc, id, value)?,
+    })
+}
+
+fn add_change(alloc: Global, text: &str, items: &mut Vec<Change>) -> Result<(), RowFault> {
+    Ok(items.push(change(alloc, text)?)?)
 }
 
 /// The modifications of a list.
 pub fn changes(alloc: Global, text: &str) -> Result<Changes, RowFault> {
     let mut items = Vec::new(alloc);
     for word in text.split_whitespace() {
-        items.push(change(alloc, word)?)?;
+        add_change(alloc, word, &mut items)?;
     }
     Ok(Changes { items })
 }

@@ -22,18 +22,30 @@ fn group_use(alloc: Global, number: u32, added: &str) -> Result<GroupUse, RowFau
     Ok(GroupUse { group, added })
 }
 
-/// Elements use the group 20, to which 4 is added, and the group 22.
-pub fn group_uses(alloc: Global) -> Result<GroupUses, RowFault> {
-    let mut items = Vec::new(alloc);
-    items.push(group_use(alloc, 20, "4")?)?;
-    items.push(group_use(alloc, 22, "")?)?;
-    Ok(GroupUses { items })
+/// Adds the use of a group.
+fn add_use(alloc: Global, uses: &mut GroupUses, number: u32, added: &str) -> Result<(), RowFault> {
+    Ok(uses.items.push(group_use(alloc, number, added)?)?)
 }
 
 pub fn no_uses(alloc: Global) -> GroupUses {
     GroupUses {
         items: Vec::new(alloc),
     }
+}
+
+/// The use of one group.
+fn one_use(alloc: Global, number: u32, added: &str) -> Result<GroupUses, RowFault> {
+    let mut uses = no_uses(alloc);
+    add_use(alloc, &mut uses, number, added)?;
+    Ok(uses)
+}
+
+/// Elements use the group 20, to which 4 is added, and the group 22.
+pub fn group_uses(alloc: Global) -> Result<GroupUses, RowFault> {
+    let mut uses = no_uses(alloc);
+    add_use(alloc, &mut uses, 20, "4")?;
+    add_use(alloc, &mut uses, 22, "")?;
+    Ok(uses)
 }
 
 pub fn no_ids(alloc: Global) -> Oids {
@@ -71,29 +83,35 @@ pub fn mandatory(
     attributes: Properties,
     groups: GroupUses,
 ) -> Result<PackageRecs, RowFault> {
-    let mut items = Vec::new(alloc);
-    items.push(package(alloc, None, attributes, groups))?;
+    let items = vec![in alloc; package(alloc, None, attributes, groups)]?;
     Ok(PackageRecs { items })
 }
 
 /// A package that uses a group, with what the use adds.
 fn using(alloc: Global, id: Option<Oid>, group: u32, added: &str) -> Result<PackageRec, RowFault> {
-    let mut groups = no_uses(alloc);
-    groups.items.push(group_use(alloc, group, added)?)?;
     let attributes = Properties {
         items: Vec::new(alloc),
     };
-    Ok(package(alloc, id, attributes, groups))
+    Ok(package(alloc, id, attributes, one_use(alloc, group, added)?))
+}
+
+/// Adds a package that uses a group.
+fn add_using(
+    alloc: Global,
+    items: &mut Vec<PackageRec>,
+    id: Option<Oid>,
+    group: u32,
+    added: &str,
+) -> Result<(), RowFault> {
+    Ok(items.push(using(alloc, id, group, added)?)?)
 }
 
 /// The packages that an object of class 4 need not have: 1 adds 9 to the group 21, 2 adds 5 to the group 20; one that
 /// isn't registered, so that no object has it, adds 6 to the group 21.
 pub fn branch_packages(alloc: Global) -> Result<PackageRecs, RowFault> {
-    let first = identifier(alloc, 4, 1)?;
-    let second = identifier(alloc, 4, 2)?;
     let mut items = Vec::new(alloc);
-    items.push(using(alloc, Some(first), 21, "9")?)?;
-    items.push(using(alloc, Some(second), 20, "5")?)?;
-    items.push(using(alloc, None, 21, "6")?)?;
+    add_using(alloc, &mut items, Some(identifier(alloc, 4, 1)?), 21, "9")?;
+    add_using(alloc, &mut items, Some(identifier(alloc, 4, 2)?), 20, "5")?;
+    add_using(alloc, &mut items, None, 21, "6")?;
     Ok(PackageRecs { items })
 }

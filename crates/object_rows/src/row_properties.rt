@@ -5,7 +5,7 @@ use crate::row_fault::RowFault;
 use crate::row_syntaxes::bounded;
 use std::alloc::Global;
 use term_model::{Properties, Property, Syntaxes, TypeNames};
-use term_values::Value;
+use term_values::{Syntax, Value};
 
 /// The properties of an attribute, whose words are letters: `g` GET, `r` REPLACE, `a` ADD, `m` REMOVE, `d`
 /// REPLACE-WITH-DEFAULT.
@@ -28,11 +28,21 @@ fn property(alloc: Global, number: u32, words: &str) -> Result<Property, RowFaul
     })
 }
 
+/// Adds INTEGER with bounds.
+fn add_bounded(
+    alloc: Global,
+    items: &mut Vec<Syntax>,
+    least: i64,
+    most: i64,
+) -> Result<(), RowFault> {
+    Ok(items.push(bounded(alloc, least, most)?)?)
+}
+
 /// The types of which each value of the load is to be one: 0 to 50, and 5 to 60.
 fn permitted_loads(alloc: Global) -> Result<Syntaxes, RowFault> {
     let mut items = Vec::new(alloc);
-    items.push(bounded(alloc, 0, 50)?)?;
-    items.push(bounded(alloc, 5, 60)?)?;
+    add_bounded(alloc, &mut items, 0, 50)?;
+    add_bounded(alloc, &mut items, 5, 60)?;
     Ok(Syntaxes { items })
 }
 
@@ -60,9 +70,13 @@ fn add(alloc: Global, into: &mut Properties, number: u32, words: &str) -> Result
     Ok(into.items.push(property(alloc, number, words)?)?)
 }
 
+fn add_load(alloc: Global, into: &mut Properties) -> Result<(), RowFault> {
+    Ok(into.items.push(load(alloc)?)?)
+}
+
 fn add_of_element(alloc: Global, into: &mut Properties) -> Result<(), RowFault> {
     add(alloc, into, 1, "gr")?;
-    into.items.push(load(alloc)?)?;
+    add_load(alloc, into)?;
     add(alloc, into, 3, "gam")?;
     add(alloc, into, 4, "r")?;
     add(alloc, into, 5, "gr")?;

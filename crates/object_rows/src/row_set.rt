@@ -11,9 +11,19 @@ use attribute_rules::control_syntaxes;
 use std::alloc::Global;
 use term_model::{
     ActRecs, AttrRec, AttrRecs, BindRecs, ClassRec, ClassRecs, GroupRec, GroupRecs, InstRecs, Name,
-    NoteRecs, PackageRecs, Properties, RuleRecs, Set,
+    NoteRecs, Oids, PackageRecs, Properties, RuleRecs, Set,
 };
 use term_values::{Bytes, Rules, Syntax, SyntaxForm};
+
+fn no_rules() -> Rules {
+    Rules {
+        equality: false,
+        ordering: false,
+        substrings: false,
+        comparison: false,
+        intersection: false,
+    }
+}
 
 /// Adds the record of an attribute.
 fn add(
@@ -25,137 +35,155 @@ fn add(
 ) -> Result<(), RowFault> {
     let id = identifier(alloc, 7, number)?;
     let label = Bytes::from_slice(alloc, label)?;
-    let rules = Rules {
-        equality: false,
-        ordering: false,
-        substrings: false,
-        comparison: false,
-        intersection: false,
+    let record = AttrRec {
+        id,
+        label,
+        syntax,
+        rules: no_rules(),
     };
-    Ok(records.push(
-        alloc,
-        AttrRec {
-            id,
-            label,
-            syntax,
-            rules,
-        },
-    )?)
+    Ok(records.push(alloc, record)?)
+}
+
+/// Adds the record of an attribute of whole numbers.
+fn add_whole(
+    alloc: Global,
+    records: &mut AttrRecs,
+    number: u32,
+    label: &[u8],
+) -> Result<(), RowFault> {
+    add(alloc, records, number, label, Syntax::integer(alloc))
+}
+
+fn add_octets(
+    alloc: Global,
+    records: &mut AttrRecs,
+    number: u32,
+    label: &[u8],
+) -> Result<(), RowFault> {
+    add(alloc, records, number, label, octets(alloc))
+}
+
+fn add_load(alloc: Global, records: &mut AttrRecs) -> Result<(), RowFault> {
+    add(alloc, records, 2, b"load", bounded(alloc, 0, 100)?)
+}
+
+fn add_ports(alloc: Global, records: &mut AttrRecs) -> Result<(), RowFault> {
+    add(alloc, records, 3, b"ports", set_of_whole(alloc)?)
 }
 
 /// The attributes of elements.
 fn add_of_element(alloc: Global, records: &mut AttrRecs) -> Result<(), RowFault> {
-    add(alloc, records, 1, b"elementId", Syntax::integer(alloc))?;
-    add(alloc, records, 2, b"load", bounded(alloc, 0, 100)?)?;
-    add(alloc, records, 3, b"ports", set_of_whole(alloc)?)?;
-    add(alloc, records, 4, b"secret", Syntax::integer(alloc))?;
-    add(alloc, records, 5, b"text", octets(alloc))?;
-    add(alloc, records, 6, b"more", octets(alloc))
+    add_whole(alloc, records, 1, b"elementId")?;
+    add_load(alloc, records)?;
+    add_ports(alloc, records)?;
+    add_whole(alloc, records, 4, b"secret")?;
+    add_octets(alloc, records, 5, b"text")?;
+    add_octets(alloc, records, 6, b"more")
+}
+
+fn add_pair(alloc: Global, records: &mut AttrRecs) -> Result<(), RowFault> {
+    add(alloc, records, 10, b"pair", small_set(alloc)?)
 }
 
 /// And further ones of theirs.
 fn add_further(alloc: Global, records: &mut AttrRecs) -> Result<(), RowFault> {
-    add(alloc, records, 7, b"plain", Syntax::integer(alloc))?;
-    add(alloc, records, 8, b"objectClass", Syntax::integer(alloc))?;
-    add(alloc, records, 9, b"spare", Syntax::integer(alloc))?;
-    add(alloc, records, 10, b"pair", small_set(alloc)?)?;
-    add(alloc, records, 11, b"nameBinding", Syntax::integer(alloc))?;
-    add(alloc, records, 12, b"packages", Syntax::integer(alloc))
+    add_whole(alloc, records, 7, b"plain")?;
+    add_whole(alloc, records, 8, b"objectClass")?;
+    add_whole(alloc, records, 9, b"spare")?;
+    add_pair(alloc, records)?;
+    add_whole(alloc, records, 11, b"nameBinding")?;
+    add_whole(alloc, records, 12, b"packages")
 }
 
-fn oid_syntax() -> Syntax {
-    Syntax {
-        form: SyntaxForm::Oid,
-    }
+fn add_log_id(alloc: Global, records: &mut AttrRecs) -> Result<(), RowFault> {
+    let name = control_syntaxes::simple_name(alloc)?;
+    add(alloc, records, 31, b"logId", name)
+}
+
+fn add_construct(alloc: Global, records: &mut AttrRecs) -> Result<(), RowFault> {
+    let filter = Syntax {
+        form: SyntaxForm::Filter,
+    };
+    add(alloc, records, 32, b"discriminatorConstruct", filter)
+}
+
+fn add_administrative_state(alloc: Global, records: &mut AttrRecs) -> Result<(), RowFault> {
+    let state = control_syntaxes::administrative_state(alloc)?;
+    add(alloc, records, 33, b"administrativeState", state)
+}
+
+fn add_operational_state(alloc: Global, records: &mut AttrRecs) -> Result<(), RowFault> {
+    let state = control_syntaxes::operational_state(alloc)?;
+    add(alloc, records, 34, b"operationalState", state)
 }
 
 /// The states of logs.
 fn add_states(alloc: Global, records: &mut AttrRecs) -> Result<(), RowFault> {
-    add(
-        alloc,
-        records,
-        31,
-        b"logId",
-        control_syntaxes::simple_name(alloc)?,
-    )?;
-    let filter = Syntax {
-        form: SyntaxForm::Filter,
-    };
-    add(alloc, records, 32, b"discriminatorConstruct", filter)?;
-    add(
-        alloc,
-        records,
-        33,
-        b"administrativeState",
-        control_syntaxes::administrative_state(alloc)?,
-    )?;
-    add(
-        alloc,
-        records,
-        34,
-        b"operationalState",
-        control_syntaxes::operational_state(alloc)?,
-    )
+    add_log_id(alloc, records)?;
+    add_construct(alloc, records)?;
+    add_administrative_state(alloc, records)?;
+    add_operational_state(alloc, records)
+}
+
+fn add_status(alloc: Global, records: &mut AttrRecs, number: u32) -> Result<(), RowFault> {
+    let status = control_syntaxes::availability_status(alloc)?;
+    add(alloc, records, number, b"availabilityStatus", status)
+}
+
+fn add_full_action(alloc: Global, records: &mut AttrRecs) -> Result<(), RowFault> {
+    let action = control_syntaxes::log_full_action(alloc)?;
+    add(alloc, records, 36, b"logFullAction", action)
+}
+
+/// Adds the record of an attribute of whole numbers from zero.
+fn add_from_zero(
+    alloc: Global,
+    records: &mut AttrRecs,
+    number: u32,
+    label: &[u8],
+) -> Result<(), RowFault> {
+    let number_from_zero = control_syntaxes::from_zero(alloc)?;
+    add(alloc, records, number, label, number_from_zero)
 }
 
 /// What limits logs.
 fn add_limits(alloc: Global, records: &mut AttrRecs) -> Result<(), RowFault> {
-    add(
-        alloc,
-        records,
-        35,
-        b"availabilityStatus",
-        control_syntaxes::availability_status(alloc)?,
-    )?;
-    add(
-        alloc,
-        records,
-        36,
-        b"logFullAction",
-        control_syntaxes::log_full_action(alloc)?,
-    )?;
-    add(
-        alloc,
-        records,
-        37,
-        b"maxLogSize",
-        control_syntaxes::from_zero(alloc)?,
-    )?;
-    add(
-        alloc,
-        records,
-        38,
-        b"currentLogSize",
-        control_syntaxes::from_zero(alloc)?,
-    )?;
-    add(
-        alloc,
-        records,
-        39,
-        b"numberOfRecords",
-        control_syntaxes::from_zero(alloc)?,
-    )
+    add_status(alloc, records, 35)?;
+    add_full_action(alloc, records)?;
+    add_from_zero(alloc, records, 37, b"maxLogSize")?;
+    add_from_zero(alloc, records, 38, b"currentLogSize")?;
+    add_from_zero(alloc, records, 39, b"numberOfRecords")
 }
 
 /// And what has the label of availabilityStatus in other documents.
 fn add_more_statuses(alloc: Global, records: &mut AttrRecs) -> Result<(), RowFault> {
-    let status = control_syntaxes::availability_status(alloc)?;
-    add(alloc, records, 43, b"availabilityStatus", status)?;
-    let whole = Syntax::integer(alloc);
-    add(alloc, records, 44, b"availabilityStatus", whole)
+    add_status(alloc, records, 43)?;
+    add_whole(alloc, records, 44, b"availabilityStatus")
+}
+
+/// Adds the record of an attribute of identifiers.
+fn add_oid(
+    alloc: Global,
+    records: &mut AttrRecs,
+    number: u32,
+    label: &[u8],
+) -> Result<(), RowFault> {
+    let syntax = Syntax {
+        form: SyntaxForm::Oid,
+    };
+    add(alloc, records, number, label, syntax)
+}
+
+fn add_packages(alloc: Global, records: &mut AttrRecs) -> Result<(), RowFault> {
+    let identifiers = control_syntaxes::identifiers(alloc)?;
+    add(alloc, records, 42, b"packages", identifiers)
 }
 
 /// And what logs have as each object does.
 fn add_of_top(alloc: Global, records: &mut AttrRecs) -> Result<(), RowFault> {
-    add(alloc, records, 40, b"objectClass", oid_syntax())?;
-    add(alloc, records, 41, b"nameBinding", oid_syntax())?;
-    add(
-        alloc,
-        records,
-        42,
-        b"packages",
-        control_syntaxes::identifiers(alloc)?,
-    )
+    add_oid(alloc, records, 40, b"objectClass")?;
+    add_oid(alloc, records, 41, b"nameBinding")?;
+    add_packages(alloc, records)
 }
 
 fn add_records(alloc: Global, records: &mut AttrRecs) -> Result<(), RowFault> {
@@ -165,12 +193,6 @@ fn add_records(alloc: Global, records: &mut AttrRecs) -> Result<(), RowFault> {
     add_limits(alloc, records)?;
     add_of_top(alloc, records)?;
     add_more_statuses(alloc, records)
-}
-
-fn records(alloc: Global) -> Result<AttrRecs, RowFault> {
-    let mut records = AttrRecs::new(alloc);
-    add_records(alloc, &mut records)?;
-    Ok(records)
 }
 
 /// A group with the members of its template.
@@ -185,13 +207,20 @@ fn group(alloc: Global, number: u32, members: &str) -> Result<GroupRec, RowFault
     })
 }
 
+fn add_group(
+    alloc: Global,
+    groups: &mut GroupRecs,
+    number: u32,
+    members: &str,
+) -> Result<(), RowFault> {
+    Ok(groups.items.push(group(alloc, number, members)?)?)
+}
+
 /// Group 20 has 2 and 3 by its template, 21 has 5 and no use, 22 has 9.
-fn groups(alloc: Global) -> Result<GroupRecs, RowFault> {
-    let mut items = Vec::new(alloc);
-    items.push(group(alloc, 20, "2 3")?)?;
-    items.push(group(alloc, 21, "5")?)?;
-    items.push(group(alloc, 22, "9")?)?;
-    Ok(GroupRecs { items })
+fn add_groups(alloc: Global, groups: &mut GroupRecs) -> Result<(), RowFault> {
+    add_group(alloc, groups, 20, "2 3")?;
+    add_group(alloc, groups, 21, "5")?;
+    add_group(alloc, groups, 22, "9")
 }
 
 /// Adds a class with one mandatory package, whose properties are the class's.
@@ -243,25 +272,26 @@ fn add_odd_log(alloc: Global, classes: &mut ClassRecs) -> Result<(), RowFault> {
     )
 }
 
-/// Class 4 derives from elements, and has packages that an object need not have.
-fn add_branch(alloc: Global, classes: &mut ClassRecs) -> Result<(), RowFault> {
+/// A class that derives from elements, and has packages that an object need not have.
+fn branch(alloc: Global) -> Result<ClassRec, RowFault> {
     let id = identifier(alloc, 3, 4)?;
     let label = Bytes::from_slice(alloc, b"branch")?;
-    let mut above = no_ids(alloc);
-    above.items.push(identifier(alloc, 3, 1)?)?;
+    let above = vec![in alloc; identifier(alloc, 3, 1)?]?;
     let conditional = branch_packages(alloc)?;
     let properties = properties(alloc)?;
-    Ok(classes.push(
-        alloc,
-        ClassRec {
-            id,
-            label,
-            superclasses: above,
-            mandatory: no_packages(alloc),
-            conditional,
-            properties,
-        },
-    )?)
+    Ok(ClassRec {
+        id,
+        label,
+        superclasses: Oids { items: above },
+        mandatory: no_packages(alloc),
+        conditional,
+        properties,
+    })
+}
+
+/// Class 4 has branches.
+fn add_branch(alloc: Global, classes: &mut ClassRecs) -> Result<(), RowFault> {
+    Ok(classes.push(alloc, branch(alloc)?)?)
 }
 
 fn add_classes(alloc: Global, classes: &mut ClassRecs) -> Result<(), RowFault> {
@@ -271,21 +301,14 @@ fn add_classes(alloc: Global, classes: &mut ClassRecs) -> Result<(), RowFault> {
     add_branch(alloc, classes)
 }
 
-fn classes(alloc: Global) -> Result<ClassRecs, RowFault> {
-    let mut classes = ClassRecs::new(alloc);
-    add_classes(alloc, &mut classes)?;
-    Ok(classes)
-}
-
-/// The schema. Its root has no name.
-pub fn example_set(alloc: Global) -> Result<Set, RowFault> {
-    let classes = classes(alloc)?;
-    let attributes = records(alloc)?;
-    let groups = groups(alloc)?;
-    Ok(Set {
-        classes,
-        attributes,
-        groups,
+/// A schema without records. Its root has no name.
+fn empty_set(alloc: Global) -> Set {
+    Set {
+        classes: ClassRecs::new(alloc),
+        attributes: AttrRecs::new(alloc),
+        groups: GroupRecs {
+            items: Vec::new(alloc),
+        },
         bindings: BindRecs {
             items: Vec::new(alloc),
         },
@@ -302,5 +325,18 @@ pub fn example_set(alloc: Global) -> Result<Set, RowFault> {
             items: Vec::new(alloc),
         },
         system: Name::root(alloc),
-    })
+    }
+}
+
+fn add_all(alloc: Global, set: &mut Set) -> Result<(), RowFault> {
+    add_classes(alloc, &mut set.classes)?;
+    add_records(alloc, &mut set.attributes)?;
+    add_groups(alloc, &mut set.groups)
+}
+
+/// The schema.
+pub fn example_set(alloc: Global) -> Result<Set, RowFault> {
+    let mut set = empty_set(alloc);
+    add_all(alloc, &mut set)?;
+    Ok(set)
 }

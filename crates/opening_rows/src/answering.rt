@@ -4,6 +4,7 @@ use crate::row_fault::RowFault;
 use crate::row_instances::instances;
 use crate::row_set::example_set;
 use crate::showing::show_object;
+use lending::lend;
 use mib_opening::{OpeningRefusal, opening};
 use mo_list::ListMib;
 use std::alloc::{AllocError, Global};
@@ -34,6 +35,19 @@ fn show_behind<L: StepLedger>(
     Ok(())
 }
 
+/// Shows the object under a name, and those behind it.
+fn show_from<L: StepLedger>(
+    mib: &ListMib<L>,
+    name: &Name,
+    steps: &mut Steps<L>,
+    out: &mut String,
+) -> Result<(), AllocError> {
+    if let Some(object) = mib.at(name, steps) {
+        show_object(name, object, out)?;
+    }
+    show_behind(mib, name, steps, out)
+}
+
 /// Shows all objects by rising name, or how many there are.
 fn show_all<L: StepLedger>(
     alloc: Global,
@@ -41,14 +55,26 @@ fn show_all<L: StepLedger>(
     steps: &mut Steps<L>,
     out: &mut String,
 ) -> Result<(), AllocError> {
-    let root = Name::root(alloc);
     if mib.len() > SHOWN {
         return write!(out, "{} objects", mib.len());
     }
-    if let Some(object) = mib.at(&root, steps) {
-        show_object(&root, object, out)?;
+    lend(Name::root(alloc), |root| show_from(mib, root, steps, out))
+}
+
+/// Shows what an opening gave.
+fn show_opened<L: StepLedger>(
+    alloc: Global,
+    opened: &Result<ListMib<L>, OpeningRefusal>,
+    steps: &mut Steps<L>,
+    out: &mut String,
+) -> Result<(), RowFault> {
+    match opened {
+        Ok(mib) => Ok(show_all(alloc, mib, steps, out)?),
+        Err(OpeningRefusal::BadInstance { index, error }) => {
+            Ok(write!(out, "bad instance {index} {error}")?)
+        }
+        Err(OpeningRefusal::Memory) => Err(RowFault::Memory),
     }
-    show_behind(mib, &root, steps, out)
 }
 
 /// The opening of a schema.
@@ -58,13 +84,8 @@ fn answer_set<L: StepLedger>(
     steps: &mut Steps<L>,
     out: &mut String,
 ) -> Result<(), RowFault> {
-    match opening(alloc, set, steps) {
-        Ok(mib) => Ok(show_all(alloc, &mib, steps, out)?),
-        Err(OpeningRefusal::BadInstance { index, error }) => {
-            Ok(write!(out, "bad instance {index} {error}")?)
-        }
-        Err(OpeningRefusal::Memory) => Err(RowFault::Memory),
-    }
+    let opened = opening(alloc, set, steps);
+    lend(opened, |opened| show_opened(alloc, opened, steps, out))
 }
 
 /// The opening of the instances of a row.
@@ -74,9 +95,25 @@ fn answer_row<L: StepLedger>(
     steps: &mut Steps<L>,
     out: &mut String,
 ) -> Result<(), RowFault> {
-    let instances = instances(alloc, row)?;
-    let set = example_set(alloc, instances)?;
-    answer_set(alloc, &set, steps, out)
+    let set = example_set(alloc, instances(alloc, row)?)?;
+    lend(set, |set| answer_set(alloc, set, steps, out))
+}
+
+/// Appends what is printed for a line.
+fn add_answer<L: StepLedger>(
+    alloc: Global,
+    line: &str,
+    steps: &mut Steps<L>,
+    out: &mut String,
+) -> Result<(), AllocError> {
+    if line.is_empty() || line.starts_with('#') {
+        return out.push_str(line);
+    }
+    if let Err(fault) = answer_row(alloc, line, steps, out) {
+        out.clear();
+        out.push_str(fault.text())?;
+    }
+    Ok(())
 }
 
 /// What is printed for a line.
@@ -86,13 +123,6 @@ pub fn answer_line<L: StepLedger>(
     steps: &mut Steps<L>,
 ) -> Result<String, AllocError> {
     let mut out = String::new(alloc);
-    if line.is_empty() || line.starts_with('#') {
-        out.push_str(line)?;
-        return Ok(out);
-    }
-    if let Err(fault) = answer_row(alloc, line, steps, &mut out) {
-        out.clear();
-        out.push_str(fault.text())?;
-    }
+    add_answer(alloc, line, steps, &mut out)?;
     Ok(out)
 }

@@ -5,19 +5,28 @@
 use crate::reading;
 use crate::row_fault::RowFault;
 use ber_values::encode_into;
-use std::alloc::Global;
+use lending::lend;
+use std::alloc::{AllocError, Global};
 use term_model::{Attribute, Attrs, InstRec, InstRecs, Name, Oids, Rdn};
 use term_values::{Bytes, Oid, Syntax, Value};
+
+/// Appends the encoding of a value as INTEGER.
+fn encode(alloc: Global, value: &Value, into: &mut Vec<u8>) -> Result<(), AllocError> {
+    lend(
+        Syntax::integer(alloc),
+        |syntax| encode_into(alloc, syntax, value, into),
+    )
+}
+
+/// Appends the octets of a whole number.
+fn encode_number(alloc: Global, number: i64, into: &mut Vec<u8>) -> Result<(), AllocError> {
+    lend(Value::integer(number), |value| encode(alloc, value, into))
+}
 
 /// The octets of a whole number.
 fn number_octets(alloc: Global, number: i64) -> Result<Bytes, RowFault> {
     let mut items = Vec::new(alloc);
-    encode_into(
-        alloc,
-        &Syntax::integer(alloc),
-        &Value::integer(number),
-        &mut items,
-    )?;
+    encode_number(alloc, number, &mut items)?;
     Ok(Bytes { items })
 }
 
@@ -33,12 +42,16 @@ fn part(alloc: Global, text: &str) -> Result<Rdn, RowFault> {
     }
 }
 
+fn add_part(alloc: Global, text: &str, parts: &mut Vec<Rdn>) -> Result<(), RowFault> {
+    Ok(parts.push(part(alloc, text)?)?)
+}
+
 /// A name: its parts with strokes between them, or `-` for none.
 fn name(alloc: Global, text: &str) -> Result<Name, RowFault> {
     let mut parts = Vec::new(alloc);
     for word in text.split('/') {
         if word != "-" {
-            parts.push(part(alloc, word)?)?;
+            add_part(alloc, word, &mut parts)?;
         }
     }
     Ok(Name { parts })
@@ -47,13 +60,20 @@ fn name(alloc: Global, text: &str) -> Result<Name, RowFault> {
 /// An attribute: a number, an equals sign and a value.
 fn attribute(alloc: Global, text: &str) -> Result<Attribute, RowFault> {
     match text.split_once('=') {
-        Some((number, value)) => {
-            let value = reading::value(alloc, value)?;
-            let id = reading::identifier(alloc, 7, reading::arc(number)?)?;
-            Ok(Attribute { id, value })
-        }
+        Some((number, value)) => Ok(Attribute {
+            id: reading::identifier(alloc, 7, reading::arc(number)?)?,
+            value: reading::value(alloc, value)?,
+        }),
         None => Err(RowFault::Arguments),
     }
+}
+
+fn add_attribute(alloc: Global, text: &str, given: &mut Vec<Attribute>) -> Result<(), RowFault> {
+    Ok(given.push(attribute(alloc, text)?)?)
+}
+
+fn add_package(alloc: Global, number: &str, chosen: &mut Vec<Oid>) -> Result<(), RowFault> {
+    Ok(chosen.push(reading::identifier(alloc, 4, reading::arc(number)?)?)?)
 }
 
 /// Adds an attribute or a package.
@@ -63,11 +83,22 @@ fn add_word(
     given: &mut Vec<Attribute>,
     chosen: &mut Vec<Oid>,
 ) -> Result<(), RowFault> {
-    if let Some(number) = text.strip_prefix("+") {
-        chosen.push(reading::identifier(alloc, 4, reading::arc(number)?)?)?;
-        return Ok(());
+    match text.strip_prefix("+") {
+        Some(number) => add_package(alloc, number, chosen),
+        None => add_attribute(alloc, text, given),
     }
-    given.push(attribute(alloc, text)?)?;
+}
+
+/// Adds attributes and packages.
+fn add_words(
+    alloc: Global,
+    text: &str,
+    given: &mut Vec<Attribute>,
+    chosen: &mut Vec<Oid>,
+) -> Result<(), RowFault> {
+    for word in text.split_whitespace() {
+        add_word(alloc, word, given, chosen)?;
+    }
     Ok(())
 }
 
@@ -83,9 +114,7 @@ fn instance(
     let name = name(alloc, at)?;
     let mut given = Vec::new(alloc);
     let mut chosen = Vec::new(alloc);
-    for word in rest.split_whitespace() {
-        add_word(alloc, word, &mut given, &mut chosen)?;
-    }
+    add_words(alloc, rest, &mut given, &mut chosen)?;
     Ok(InstRec {
         root,
         class,
@@ -102,11 +131,15 @@ fn node_part(alloc: Global, number: u32) -> Result<Rdn, RowFault> {
     Ok(Rdn { attribute, value })
 }
 
+fn add_node_part(alloc: Global, number: u32, parts: &mut Vec<Rdn>) -> Result<(), RowFault> {
+    Ok(parts.push(node_part(alloc, number)?)?)
+}
+
 /// The name with so many parts, each that nodeId is 1.
 fn chain_name(alloc: Global, length: u32) -> Result<Name, RowFault> {
     let mut parts = Vec::new(alloc);
     for _ in 0..length {
-        parts.push(node_part(alloc, 1)?)?;
+        add_node_part(alloc, 1, &mut parts)?;
     }
     Ok(Name { parts })
 }
@@ -127,22 +160,39 @@ fn node(alloc: Global, name: Name) -> Result<InstRec, RowFault> {
     })
 }
 
+/// Adds a node with this name.
+fn add_node(alloc: Global, name: Name, into: &mut InstRecs) -> Result<(), RowFault> {
+    Ok(into.items.push(node(alloc, name)?)?)
+}
+
 /// Adds the nodes of a chain.
 fn add_chain(alloc: Global, count: u32, into: &mut InstRecs) -> Result<(), RowFault> {
     for length in 0..count {
-        let name = chain_name(alloc, length.saturating_add(1))?;
-        into.items.push(node(alloc, name)?)?;
+        add_node(alloc, chain_name(alloc, length.saturating_add(1))?, into)?;
     }
     Ok(())
 }
 
+/// The name of a node below the root.
+fn branch_name(alloc: Global, number: u32) -> Result<Name, RowFault> {
+    let mut parts = Vec::new(alloc);
+    add_node_part(alloc, number, &mut parts)?;
+    Ok(Name { parts })
+}
+
+/// The name of a node below that one.
+fn below_name(alloc: Global, number: u32, below: u32) -> Result<Name, RowFault> {
+    let mut parts = Vec::new(alloc);
+    add_node_part(alloc, number, &mut parts)?;
+    add_node_part(alloc, below, &mut parts)?;
+    Ok(Name { parts })
+}
+
 /// Adds a node below the root, with so many below it.
 fn add_branch(alloc: Global, number: u32, count: u32, into: &mut InstRecs) -> Result<(), RowFault> {
-    let parts = vec![in alloc; node_part(alloc, number)?]?;
-    into.items.push(node(alloc, Name { parts })?)?;
+    add_node(alloc, branch_name(alloc, number)?, into)?;
     for below in 0..count {
-        let parts = vec![in alloc; node_part(alloc, number)?, node_part(alloc, below)?]?;
-        into.items.push(node(alloc, Name { parts })?)?;
+        add_node(alloc, below_name(alloc, number, below)?, into)?;
     }
     Ok(())
 }
@@ -157,6 +207,18 @@ fn add_grid(alloc: Global, arguments: &str, into: &mut InstRecs) -> Result<(), R
     Ok(())
 }
 
+/// Adds an instance, whose arguments are its class, its name, and attributes and packages.
+fn add_given(
+    alloc: Global,
+    root: bool,
+    arguments: &str,
+    into: &mut InstRecs,
+) -> Result<(), RowFault> {
+    let (class, rest) = arguments.split_once(' ').unwrap_or((arguments, ""));
+    let (at, rest) = rest.split_once(' ').unwrap_or((rest, ""));
+    Ok(into.items.push(instance(alloc, root, class, at, rest)?)?)
+}
+
 /// Adds what a word with its arguments says.
 fn add_instance(
     alloc: Global,
@@ -164,20 +226,13 @@ fn add_instance(
     arguments: &str,
     into: &mut InstRecs,
 ) -> Result<(), RowFault> {
-    if call == "chain" {
-        return add_chain(alloc, reading::arc(arguments)?, into);
-    }
-    if call == "grid" {
-        return add_grid(alloc, arguments, into);
-    }
-    let (class, rest) = arguments.split_once(' ').unwrap_or((arguments, ""));
-    let (at, rest) = rest.split_once(' ').unwrap_or((rest, ""));
     match call {
-        "root" => into.items.push(instance(alloc, true, class, at, rest)?)?,
-        "object" => into.items.push(instance(alloc, false, class, at, rest)?)?,
-        _ => return Err(RowFault::Call),
+        "chain" => add_chain(alloc, reading::arc(arguments)?, into),
+        "grid" => add_grid(alloc, arguments, into),
+        "root" => add_given(alloc, true, arguments, into),
+        "object" => add_given(alloc, false, arguments, into),
+        _ => Err(RowFault::Call),
     }
-    Ok(())
 }
 
 /// Instances with semicolons between them; `none` is none.

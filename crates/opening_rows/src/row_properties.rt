@@ -15,38 +15,61 @@ fn no_types(alloc: Global) -> Syntaxes {
 
 /// 0 to 50.
 fn permitted(alloc: Global) -> Result<Syntaxes, RowFault> {
-    let mut items = Vec::new(alloc);
-    items.push(bounded(alloc, 0, 50)?)?;
+    let items = vec![in alloc; bounded(alloc, 0, 50)?]?;
     Ok(Syntaxes { items })
 }
 
 /// logFull and another status.
-fn full_status(alloc: Global) -> Result<ValueForm, RowFault> {
-    let mut items = Vec::new(alloc);
-    items.push(Value::integer(7))?;
-    items.push(Value::integer(8))?;
-    Ok(ValueForm::Many(Values { items }))
+fn full_status(alloc: Global) -> Result<Value, RowFault> {
+    let items = vec![in alloc; Value::integer(7), Value::integer(8)]?;
+    let form = ValueForm::Many(Values { items });
+    Ok(Value { form })
+}
+
+/// The empty `and`.
+fn empty_and(alloc: Global) -> Result<Value, RowFault> {
+    let form = ValueForm::Raw(Bytes::from_slice(alloc, b"\xA9\x00")?);
+    Ok(Value { form })
+}
+
+fn no_octets(alloc: Global) -> Value {
+    let form = ValueForm::Octets(Bytes::new(alloc));
+    Value { form }
+}
+
+/// The number that is the DEFAULT VALUE of an attribute of these rows, where it is one.
+fn default_number(number: u32) -> Option<i64> {
+    match number {
+        2 => Some(7),
+        3 => Some(4),
+        7 => Some(1),
+        12 => Some(60),
+        33 | 34 => Some(1),
+        36 | 37 => Some(0),
+        _ => None,
+    }
+}
+
+/// The DEFAULT VALUE of an attribute of these rows where it isn't a number.
+fn further_default(alloc: Global, number: u32) -> Result<Option<Value>, RowFault> {
+    match number {
+        5 | 6 => Ok(Some(no_octets(alloc))),
+        13 => Ok(Some(value(alloc, "x8188")?)),
+        14 => Ok(Some(value(alloc, "x8189")?)),
+        32 => Ok(Some(empty_and(alloc)?)),
+        35 => Ok(Some(full_status(alloc)?)),
+        _ => Ok(None),
+    }
 }
 
 /// The DEFAULT VALUE of an attribute of these rows, where it has one: 7 for the load, 4 for the kind, no octets for
 /// texts, 1 for extra, 60 for late, as many octets as a value may have, and one more. For logs it is the empty `and`,
 /// unlocked and enabled, the statuses 7 and logFull, wrap and no limit.
 fn default_of(alloc: Global, number: u32) -> Result<Option<Value>, RowFault> {
-    let form = match number {
-        2 => ValueForm::Int(7),
-        3 => ValueForm::Int(4),
-        5 | 6 => ValueForm::Octets(Bytes::new(alloc)),
-        7 => ValueForm::Int(1),
-        12 => ValueForm::Int(60),
-        13 => return Ok(Some(value(alloc, "x8188")?)),
-        14 => return Ok(Some(value(alloc, "x8189")?)),
-        32 => ValueForm::Raw(Bytes::from_slice(alloc, b"\xA9\x00")?),
-        33 | 34 => ValueForm::Int(1),
-        35 => full_status(alloc)?,
-        36 | 37 => ValueForm::Int(0),
-        _ => return Ok(None),
-    };
-    Ok(Some(Value { form }))
+    match default_number(number) {
+        Some(whole) => Ok(Some(Value::integer(whole))),
+        None => further_default(alloc, number),
+    }
 }
 
 /// The INITIAL VALUE: 3 for the kind.
@@ -67,8 +90,8 @@ fn permitted_of(alloc: Global, number: u32) -> Result<Syntaxes, RowFault> {
 
 fn property(alloc: Global, number: u32) -> Result<Property, RowFault> {
     let attribute = identifier(alloc, 7, number)?;
-    let default = default_of(alloc, number)?;
     let permitted = permitted_of(alloc, number)?;
+    let default = default_of(alloc, number)?;
     Ok(Property {
         attribute,
         get: true,
@@ -85,11 +108,15 @@ fn property(alloc: Global, number: u32) -> Result<Property, RowFault> {
     })
 }
 
+fn add_property(alloc: Global, number: u32, items: &mut Vec<Property>) -> Result<(), RowFault> {
+    Ok(items.push(property(alloc, number)?)?)
+}
+
 /// The properties of these attributes.
 pub fn properties(alloc: Global, numbers: &[u32]) -> Result<Properties, RowFault> {
     let mut items = Vec::new(alloc);
     for number in numbers {
-        items.push(property(alloc, *number)?)?;
+        add_property(alloc, *number, &mut items)?;
     }
     Ok(Properties { items })
 }

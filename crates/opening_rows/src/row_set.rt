@@ -1,13 +1,13 @@
 //! The schema of rows: class 2.999.3.N, name binding 2.999.6.N, package 2.999.4.N.
 
 use crate::reading::identifier;
-use crate::row_attributes::attributes;
+use crate::row_attributes::add_attributes;
 use crate::row_fault::RowFault;
 use crate::row_properties::properties;
 use std::alloc::Global;
 use term_model::{
-    ActRecs, BindRec, BindRecs, BoundClass, ClassRec, ClassRecs, GroupRecs, GroupUses, InstRecs,
-    Name, NoteRecs, Oids, PackageRec, PackageRecs, Rdn, RuleRecs, Set,
+    ActRecs, AttrRecs, BindRec, BindRecs, BoundClass, ClassRec, ClassRecs, GroupRecs, GroupUses,
+    InstRecs, Name, NoteRecs, Oids, PackageRec, PackageRecs, Rdn, RuleRecs, Set,
 };
 use term_values::{Bytes, Oid};
 
@@ -33,9 +33,13 @@ fn package(alloc: Global, id: Option<Oid>, numbers: &[u32]) -> Result<PackageRec
 
 /// One package.
 fn one(alloc: Global, of_package: PackageRec) -> Result<PackageRecs, RowFault> {
-    let mut items = Vec::new(alloc);
-    items.push(of_package)?;
+    let items = vec![in alloc; of_package]?;
     Ok(PackageRecs { items })
+}
+
+/// The mandatory package with these attributes.
+fn mandatory(alloc: Global, numbers: &[u32]) -> Result<PackageRecs, RowFault> {
+    one(alloc, package(alloc, None, numbers)?)
 }
 
 /// The conditional package 2.999.4.1, with extra, of a class that has all of these attributes; else none.
@@ -49,31 +53,39 @@ fn conditional(alloc: Global, all: &[u32]) -> Result<PackageRecs, RowFault> {
     })
 }
 
-/// Adds a class with a mandatory package; those of all its packages stand behind it.
+/// A class with a mandatory package; those of all its packages stand behind it.
+fn class(
+    alloc: Global,
+    number: u32,
+    label: &[u8],
+    of_mandatory: &[u32],
+    all: &[u32],
+) -> Result<ClassRec, RowFault> {
+    let id = identifier(alloc, 3, number)?;
+    let label = Bytes::from_slice(alloc, label)?;
+    let conditional = conditional(alloc, all)?;
+    let mandatory = mandatory(alloc, of_mandatory)?;
+    let properties = properties(alloc, all)?;
+    Ok(ClassRec {
+        id,
+        label,
+        superclasses: no_ids(alloc),
+        mandatory,
+        conditional,
+        properties,
+    })
+}
+
+/// Adds a class.
 fn add_class(
     alloc: Global,
     classes: &mut ClassRecs,
     number: u32,
     label: &[u8],
-    mandatory: &[u32],
+    of_mandatory: &[u32],
     all: &[u32],
 ) -> Result<(), RowFault> {
-    let id = identifier(alloc, 3, number)?;
-    let label = Bytes::from_slice(alloc, label)?;
-    let conditional = conditional(alloc, all)?;
-    let mandatory = one(alloc, package(alloc, None, mandatory)?)?;
-    let properties = properties(alloc, all)?;
-    Ok(classes.push(
-        alloc,
-        ClassRec {
-            id,
-            label,
-            superclasses: no_ids(alloc),
-            mandatory,
-            conditional,
-            properties,
-        },
-    )?)
+    Ok(classes.push(alloc, class(alloc, number, label, of_mandatory, all)?)?)
 }
 
 /// Class 1 node, class 2 needy, class 3 late.
@@ -111,13 +123,11 @@ fn add_logs(alloc: Global, classes: &mut ClassRecs) -> Result<(), RowFault> {
     add_class(alloc, classes, 5, b"eventLogRecord", &[2, 11], &[2, 11])
 }
 
-fn classes(alloc: Global) -> Result<ClassRecs, RowFault> {
-    let mut classes = ClassRecs::new(alloc);
-    add_nodes(alloc, &mut classes)?;
-    add_of_two(alloc, &mut classes)?;
-    add_of_limit(alloc, &mut classes)?;
-    add_logs(alloc, &mut classes)?;
-    Ok(classes)
+fn add_classes(alloc: Global, classes: &mut ClassRecs) -> Result<(), RowFault> {
+    add_nodes(alloc, classes)?;
+    add_of_two(alloc, classes)?;
+    add_of_limit(alloc, classes)?;
+    add_logs(alloc, classes)
 }
 
 /// A class in a binding.
@@ -151,42 +161,52 @@ fn binding(
     })
 }
 
-fn bindings(alloc: Global) -> Result<BindRecs, RowFault> {
-    let mut items = Vec::new(alloc);
-    items.push(binding(alloc, 1, 1, 1, 1)?)?;
-    items.push(binding(alloc, 2, 2, 1, 1)?)?;
-    items.push(binding(alloc, 3, 3, 1, 1)?)?;
-    items.push(binding(alloc, 4, 4, 1, 31)?)?;
-    items.push(binding(alloc, 5, 5, 4, 11)?)?;
-    items.push(binding(alloc, 6, 6, 1, 1)?)?;
-    items.push(binding(alloc, 7, 7, 1, 1)?)?;
-    items.push(binding(alloc, 8, 8, 1, 1)?)?;
-    items.push(binding(alloc, 10, 10, 1, 1)?)?;
-    Ok(BindRecs { items })
+fn add_binding(
+    alloc: Global,
+    bindings: &mut BindRecs,
+    number: u32,
+    subordinate: u32,
+    superior: u32,
+    attribute: u32,
+) -> Result<(), RowFault> {
+    let added = binding(alloc, number, subordinate, superior, attribute)?;
+    Ok(bindings.items.push(added)?)
 }
 
-/// The system's name: that nodeId is 0.
-fn system(alloc: Global) -> Result<Name, RowFault> {
+fn add_bindings(alloc: Global, bindings: &mut BindRecs) -> Result<(), RowFault> {
+    add_binding(alloc, bindings, 1, 1, 1, 1)?;
+    add_binding(alloc, bindings, 2, 2, 1, 1)?;
+    add_binding(alloc, bindings, 3, 3, 1, 1)?;
+    add_binding(alloc, bindings, 4, 4, 1, 31)?;
+    add_binding(alloc, bindings, 5, 5, 4, 11)?;
+    add_binding(alloc, bindings, 6, 6, 1, 1)?;
+    add_binding(alloc, bindings, 7, 7, 1, 1)?;
+    add_binding(alloc, bindings, 8, 8, 1, 1)?;
+    add_binding(alloc, bindings, 10, 10, 1, 1)
+}
+
+/// The part of the system's name that nodeId is 0.
+fn system_part(alloc: Global) -> Result<Rdn, RowFault> {
     let attribute = identifier(alloc, 7, 1)?;
     let value = Bytes::from_slice(alloc, b"\x02\x01\x00")?;
-    let mut parts = Vec::new(alloc);
-    parts.push(Rdn { attribute, value })?;
-    Ok(Name { parts })
+    Ok(Rdn { attribute, value })
 }
 
-/// The schema with these instances.
-pub fn example_set(alloc: Global, instances: InstRecs) -> Result<Set, RowFault> {
-    let classes = classes(alloc)?;
-    let attributes = attributes(alloc)?;
-    let bindings = bindings(alloc)?;
-    let system = system(alloc)?;
-    Ok(Set {
-        classes,
-        attributes,
+fn add_system_part(alloc: Global, system: &mut Name) -> Result<(), RowFault> {
+    Ok(system.parts.push(system_part(alloc)?)?)
+}
+
+/// A schema with these instances and no records.
+fn bare_set(alloc: Global, instances: InstRecs) -> Set {
+    Set {
+        classes: ClassRecs::new(alloc),
+        attributes: AttrRecs::new(alloc),
         groups: GroupRecs {
             items: Vec::new(alloc),
         },
-        bindings,
+        bindings: BindRecs {
+            items: Vec::new(alloc),
+        },
         actions: ActRecs {
             items: Vec::new(alloc),
         },
@@ -197,6 +217,20 @@ pub fn example_set(alloc: Global, instances: InstRecs) -> Result<Set, RowFault> 
             items: Vec::new(alloc),
         },
         instances,
-        system,
-    })
+        system: Name::root(alloc),
+    }
+}
+
+fn add_all(alloc: Global, set: &mut Set) -> Result<(), RowFault> {
+    add_classes(alloc, &mut set.classes)?;
+    add_attributes(alloc, &mut set.attributes)?;
+    add_bindings(alloc, &mut set.bindings)?;
+    add_system_part(alloc, &mut set.system)
+}
+
+/// The schema with these instances.
+pub fn example_set(alloc: Global, instances: InstRecs) -> Result<Set, RowFault> {
+    let mut set = bare_set(alloc, instances);
+    add_all(alloc, &mut set)?;
+    Ok(set)
 }

@@ -4,6 +4,7 @@ use crate::row_fault::RowFault;
 use agent_model::ScriptLines;
 use agent_steps::Agent;
 use journal_text::texts::write_journal;
+use lending::lend;
 use mo_list::ListMib;
 use script_playing::{Ending, play_script};
 use std::alloc::Global;
@@ -59,15 +60,15 @@ fn bad_line(alloc: Global, number: u64) -> Result<String, RowFault> {
 }
 
 /// What a script comes to.
-fn told<L: StepLedger>(alloc: Global, ending: Ending<L>) -> Result<String, RowFault> {
+fn told<L: StepLedger>(alloc: Global, ending: &Ending<L>) -> Result<String, RowFault> {
     match ending {
         Ending::Ended(play) => shown(alloc, "ended ", play.journal()),
         Ending::Full(play, place) => {
             let journal = play.journal();
-            let part = journal.get(..place as usize).unwrap_or(journal);
+            let part = journal.get(..*place as usize).unwrap_or(journal);
             shown(alloc, "full ", part)
         }
-        Ending::Bad(number) => bad_line(alloc, number),
+        Ending::Bad(number) => bad_line(alloc, *number),
     }
 }
 
@@ -82,5 +83,5 @@ pub fn played<L: StepLedger + Drop>(
 ) -> Result<String, RowFault> {
     let agent = Agent::new(alloc, empty_schema(alloc), limits, ListMib::empty());
     let ending = play_script(alloc, agent, lines, steps)?;
-    told(alloc, ending)
+    lend(ending, |ending| told(alloc, ending))
 }

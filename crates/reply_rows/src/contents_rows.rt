@@ -2,6 +2,7 @@
 
 use crate::names;
 use crate::parts::{attributes, get_statuses, id_ref, reason, set_statuses};
+use lending::lend;
 use result_contents::Contents;
 use result_contents::failures::failure_contents;
 use result_contents::results::{
@@ -28,6 +29,24 @@ fn reply(alloc: Global, text: &str) -> Result<Option<ActionReply>, RowFault> {
     }
 }
 
+/// The attributes of an object.
+fn with_attributes(
+    alloc: Global,
+    class: &Oid,
+    name: &[Rdn],
+    text: &str,
+) -> Result<Contents, RowFault> {
+    let held = attributes(alloc, text)?;
+    Ok(attributes_contents(alloc, class, name, TIME, &held)?)
+}
+
+/// What an action of an object replies.
+fn with_reply(alloc: Global, class: &Oid, name: &[Rdn], text: &str) -> Result<Contents, RowFault> {
+    Ok(lend(reply(alloc, text)?, |reply| {
+        action_contents(alloc, class, name, TIME, reply)
+    })?)
+}
+
 /// What an object's reply holds behind class, instance and time.
 fn told(
     alloc: Global,
@@ -38,17 +57,37 @@ fn told(
 ) -> Result<Contents, RowFault> {
     let name = name.parts.as_slice();
     match kind {
-        "attributes" => {
-            let held = attributes(alloc, text)?;
-            Ok(attributes_contents(alloc, class, name, TIME, &held)?)
-        }
-        "action" => {
-            let reply = reply(alloc, text)?;
-            Ok(action_contents(alloc, class, name, TIME, &reply)?)
-        }
+        "attributes" => with_attributes(alloc, class, name, text),
+        "action" => with_reply(alloc, class, name, text),
         "plain" => Ok(plain_contents(alloc, class, name, TIME)?),
         _ => failed(alloc, kind, class, name, text),
     }
+}
+
+/// A getListError.
+fn get_list(alloc: Global, class: &Oid, name: &[Rdn], text: &str) -> Result<Contents, RowFault> {
+    let statuses = get_statuses(alloc, text)?;
+    Ok(get_list_contents(alloc, class, name, TIME, &statuses)?)
+}
+
+/// A setListError.
+fn set_list(alloc: Global, class: &Oid, name: &[Rdn], text: &str) -> Result<Contents, RowFault> {
+    let statuses = set_statuses(alloc, text)?;
+    Ok(set_list_contents(alloc, class, name, TIME, &statuses)?)
+}
+
+/// An actionError of a status and an action.
+fn action_error(
+    alloc: Global,
+    class: &Oid,
+    name: &[Rdn],
+    text: &str,
+) -> Result<Contents, RowFault> {
+    let (status, action) = reading::word(text);
+    let status = reading::integer(status)?;
+    Ok(lend(id_ref(alloc, action)?, |action| {
+        action_error_contents(alloc, class, name, TIME, status, action)
+    })?)
 }
 
 /// The errors of one object.
@@ -60,20 +99,9 @@ fn failed(
     text: &str,
 ) -> Result<Contents, RowFault> {
     match kind {
-        "get_list" => {
-            let statuses = get_statuses(alloc, text)?;
-            Ok(get_list_contents(alloc, class, name, TIME, &statuses)?)
-        }
-        "set_list" => {
-            let statuses = set_statuses(alloc, text)?;
-            Ok(set_list_contents(alloc, class, name, TIME, &statuses)?)
-        }
-        "action_error" => {
-            let (status, action) = reading::word(text);
-            let status = reading::integer(status)?;
-            let action = id_ref(alloc, action)?;
-            Ok(action_error_contents(alloc, class, name, TIME, status, &action)?)
-        }
+        "get_list" => get_list(alloc, class, name, text),
+        "set_list" => set_list(alloc, class, name, text),
+        "action_error" => action_error(alloc, class, name, text),
         _ => Err(RowFault::Call),
     }
 }

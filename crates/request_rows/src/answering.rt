@@ -5,14 +5,43 @@ use crate::receiving::answer_receive;
 use crate::row_fault::RowFault;
 use crate::showing::show_request;
 use cmip_requests::{RequestRefusal, read_cancel, read_request};
+use lending::lend;
 use std::alloc::{AllocError, Global};
-use term_model::Set;
+use term_model::{Request, Set};
+use term_values::Tree;
 
-fn answer_cancel(alloc: Global, words: &str, out: &mut String) -> Result<(), RowFault> {
-    match read_cancel(&reading::tree(alloc, words)?) {
+fn show_cancel(tree: &Tree, out: &mut String) -> Result<(), RowFault> {
+    match read_cancel(tree) {
         Some(id) => Ok(write!(out, "cancel {id}")?),
         None => Ok(out.push_str("mistyped")?),
     }
+}
+
+fn answer_cancel(alloc: Global, words: &str, out: &mut String) -> Result<(), RowFault> {
+    lend(reading::tree(alloc, words)?, |tree| show_cancel(tree, out))
+}
+
+/// Appends what reading a request gave.
+fn show_read(read: &Result<Request, RequestRefusal>, out: &mut String) -> Result<(), RowFault> {
+    match read {
+        Ok(request) => Ok(show_request(request, out)?),
+        Err(RequestRefusal::Mistyped) => Ok(out.push_str("mistyped")?),
+        Err(RequestRefusal::Memory) => Err(RowFault::Memory),
+    }
+}
+
+/// Appends the request of a tree.
+fn answer_tree(
+    alloc: Global,
+    set: &Set,
+    op: i64,
+    tree: &Tree,
+    out: &mut String,
+) -> Result<(), RowFault> {
+    lend(
+        read_request(alloc, set, op, tree),
+        |read| show_read(read, out),
+    )
 }
 
 fn answer_request(
@@ -23,24 +52,30 @@ fn answer_request(
     out: &mut String,
 ) -> Result<(), RowFault> {
     let tree = reading::tree(alloc, words)?;
-    match read_request(alloc, set, op, &tree) {
-        Ok(request) => Ok(show_request(&request, out)?),
-        Err(RequestRefusal::Mistyped) => Ok(out.push_str("mistyped")?),
+    lend(tree, |tree| answer_tree(alloc, set, op, tree, out))
+}
+
+/// Whether there was memory to read a request.
+fn had_memory(read: &Result<Request, RequestRefusal>) -> Result<(), RowFault> {
+    match read {
         Err(RequestRefusal::Memory) => Err(RowFault::Memory),
+        _ => Ok(()),
     }
+}
+
+/// Reads the request of a tree, unless `tree` stands in front.
+fn read_behind(alloc: Global, set: &Set, first: &str, tree: &Tree) -> Result<(), RowFault> {
+    if first == "tree" {
+        return Ok(());
+    }
+    let op = reading::operation(first)?;
+    lend(read_request(alloc, set, op, tree), |read| had_memory(read))
 }
 
 /// Reads the tree of a row and, unless `tree` stands in front, its request.
 fn read_once(alloc: Global, set: &Set, first: &str, octets: &[u8]) -> Result<(), RowFault> {
     let tree = reading::tree_of(alloc, octets)?;
-    if first == "tree" {
-        return Ok(());
-    }
-    let op = reading::operation(first)?;
-    match read_request(alloc, set, op, &tree) {
-        Err(RequestRefusal::Memory) => Err(RowFault::Memory),
-        _ => Ok(()),
-    }
+    lend(tree, |tree| read_behind(alloc, set, first, tree))
 }
 
 /// Reads a row as often as its first word says, so that it can be timed.
@@ -55,7 +90,7 @@ fn read_again(alloc: Global, set: &Set, row: &str, out: &mut String) -> Result<(
 }
 
 /// Adds the answer to a row.
-fn add_answer(alloc: Global, set: &Set, row: &str, out: &mut String) -> Result<(), RowFault> {
+fn answer_row(alloc: Global, set: &Set, row: &str, out: &mut String) -> Result<(), RowFault> {
     let (first, words) = row.split_once(' ').unwrap_or((row, ""));
     match first {
         "receive" => answer_receive(alloc, set, words, out),
@@ -65,19 +100,21 @@ fn add_answer(alloc: Global, set: &Set, row: &str, out: &mut String) -> Result<(
     }
 }
 
+/// Adds what is printed for a line.
+fn add_answer(alloc: Global, set: &Set, line: &str, out: &mut String) -> Result<(), AllocError> {
+    if line.is_empty() || line.starts_with('#') {
+        return out.push_str(line);
+    }
+    if let Err(fault) = answer_row(alloc, set, line, out) {
+        out.clear();
+        out.push_str(fault.text())?;
+    }
+    Ok(())
+}
+
 /// What is printed for a line.
 pub fn answer_line(alloc: Global, set: &Set, line: &str) -> Result<String, AllocError> {
     let mut out = String::new(alloc);
-    if line.is_empty() || line.starts_with('#') {
-        out.push_str(line)?;
-        return Ok(out);
-    }
-    match add_answer(alloc, set, line, &mut out) {
-        Ok(()) => Ok(out),
-        Err(fault) => {
-            let mut text = String::new(alloc);
-            text.push_str(fault.text())?;
-            Ok(text)
-        }
-    }
+    add_answer(alloc, set, line, &mut out)?;
+    Ok(out)
 }

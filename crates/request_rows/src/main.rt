@@ -15,6 +15,7 @@ mod showing;
 mod showing_parts;
 
 use answering::answer_line;
+use lending::lend;
 use row_set::example_set;
 use std::io;
 use term_model::Set;
@@ -29,6 +30,5 @@ fn answer_by(rt: HostRuntime, set: &Set) -> io::Result<()> {
 }
 
 fn main(rt: HostRuntime) -> io::Result<()> {
-    let set = example_set(rt.alloc())?;
-    answer_by(rt, &set)
+    lend(example_set(rt.alloc())?, |set| answer_by(rt, set))
 }

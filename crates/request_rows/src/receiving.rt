@@ -4,6 +4,7 @@ use crate::reading;
 use crate::row_fault::RowFault;
 use crate::showing::show_request;
 use apdu_receiving::{Received, receive_apdu};
+use lending::lend;
 use std::alloc::{AllocError, Global};
 use term_model::Set;
 
@@ -61,5 +62,5 @@ pub fn answer_receive(
     let in_use = ids_in_use(alloc, in_use)?;
     let apdu = reading::octets(alloc, words)?;
     let received = receive_apdu(alloc, set, &in_use, &apdu)?;
-    Ok(show_received(&received, out)?)
+    Ok(lend(received, |received| show_received(received, out))?)
 }

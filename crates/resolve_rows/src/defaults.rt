@@ -1,8 +1,7 @@
 //! Texts of DEFAULT of a row: the module in which one is written, and the place of its first token.
 
-use super::reading::{Document, read_all, shown_refusal};
+use super::reading::{Asked, Document, answer_documents};
 use super::showing::push_octets;
-use asn1_resolve::resolve_modules;
 use asn1_syntax::{Module, ValueText};
 use asn1_types::Types;
 use asn1_values_syntax::value::NamedValue;
@@ -58,7 +57,7 @@ fn shown_text(
 }
 
 /// The text at a path of a name's type, whose module and name have a point between them.
-fn shown_default(
+pub fn shown_default(
     alloc: Global,
     types: &Types,
     name: &str,
@@ -82,13 +81,5 @@ pub fn default_row(alloc: Global, arguments: &str) -> Result<String, AllocError>
     let (name, others) = arguments.split_once(' ').unwrap_or((arguments, ""));
     let (numbers, text) = others.split_once(' ').unwrap_or((others, ""));
     let path = path_of(alloc, numbers)?;
-    let mut documents = Vec::new(alloc);
-    let mut modules = Vec::new(alloc);
-    if !read_all(alloc, text, &mut documents, &mut modules)? {
-        return String::from_str(alloc, "unreadable");
-    }
-    match resolve_modules(alloc, &modules) {
-        Ok(types) => shown_default(alloc, &types, name, &path, &modules, &documents),
-        Err(refusal) => shown_refusal(alloc, refusal, &documents),
-    }
+    answer_documents(alloc, Asked::Default { name, path: &path }, text)
 }

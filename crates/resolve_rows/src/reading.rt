@@ -1,8 +1,10 @@
 //! Documents of a row: a per cent sign stands between each two, and a tilde before the token whose fault is awaited.
 
+use super::defaults::shown_default;
 use super::showing::shown_syntax;
 use asn1_resolve::{ModuleRefusal, UnsupportedKind, resolve_modules};
 use asn1_syntax::{Module, read_module};
+use asn1_types::Types;
 use std::alloc::{AllocError, Global};
 use token_grammar::Token;
 
@@ -93,7 +95,7 @@ fn shown_fault(
 }
 
 /// A refusal as a row has it.
-pub fn shown_refusal(
+fn shown_refusal(
     alloc: Global,
     refusal: ModuleRefusal,
     documents: &[Document],
@@ -121,7 +123,7 @@ pub fn shown_refusal(
 }
 
 /// The documents of a row, and their modules; none where one can't be read.
-pub fn read_all(
+fn read_all(
     alloc: Global,
     text: &str,
     documents: &mut Vec<Document>,
@@ -139,36 +141,57 @@ pub fn read_all(
     Ok(true)
 }
 
-/// The first fault of documents.
-pub fn fault_row(alloc: Global, text: &str) -> Result<String, AllocError> {
-    let mut documents = Vec::new(alloc);
-    let mut modules = Vec::new(alloc);
-    if !read_all(alloc, text, &mut documents, &mut modules)? {
-        return String::from_str(alloc, "unreadable");
-    }
-    match resolve_modules(alloc, &modules) {
-        Ok(_types) => String::from_str(alloc, "no fault"),
-        Err(refusal) => shown_refusal(alloc, refusal, &documents),
+/// What a row asks of the types of its documents.
+#[derive(Clone, Copy)]
+pub enum Asked<'a> {
+    /// Their first fault.
+    Fault,
+    /// The syntax of a type, whose module and name have a point between them.
+    Syntax(&'a str),
+    /// The text of DEFAULT at a path of a name's type.
+    Default {
+        /// The module and the name, with a point between them.
+        name: &'a str,
+        /// The path.
+        path: &'a [usize],
+    },
+}
+
+/// The syntax of a type, whose module and name have a point between them.
+fn shown_type(alloc: Global, types: &Types, name: &str) -> Result<String, AllocError> {
+    let (module_name, type_name) = name.split_once('.').unwrap_or(("", name));
+    let meaning = types.meaning(module_name.as_bytes(), type_name.as_bytes());
+    match types.syntax(alloc, meaning)? {
+        Some(syntax) => shown_syntax(alloc, &syntax),
+        None => String::from_str(alloc, "no type"),
     }
 }
 
-/// The syntax of a type, whose module and name stand before the documents with a point between them.
-pub fn syntax_row(alloc: Global, arguments: &str) -> Result<String, AllocError> {
-    let (name, text) = arguments.split_once(' ').unwrap_or((arguments, ""));
-    let (module_name, type_name) = name.split_once('.').unwrap_or(("", name));
+fn shown_answer(
+    alloc: Global,
+    types: &Types,
+    asked: Asked<'_>,
+    modules: &[Module],
+    documents: &[Document],
+) -> Result<String, AllocError> {
+    match asked {
+        Asked::Fault => String::from_str(alloc, "no fault"),
+        Asked::Syntax(name) => shown_type(alloc, types, name),
+        Asked::Default { name, path } => {
+            shown_default(alloc, types, name, path, modules, documents)
+        }
+    }
+}
+
+/// The answer to what is asked of the documents of a text, or their first fault.
+pub fn answer_documents(alloc: Global, asked: Asked<'_>, text: &str) -> Result<String, AllocError> {
     let mut documents = Vec::new(alloc);
     let mut modules = Vec::new(alloc);
     if !read_all(alloc, text, &mut documents, &mut modules)? {
         return String::from_str(alloc, "unreadable");
     }
     match resolve_modules(alloc, &modules) {
-        Ok(types) => {
-            let meaning = types.meaning(module_name.as_bytes(), type_name.as_bytes());
-            match types.syntax(alloc, meaning)? {
-                Some(syntax) => shown_syntax(alloc, &syntax),
-                None => String::from_str(alloc, "no type"),
-            }
-        }
+        Ok(types) => shown_answer(alloc, &types, asked, &modules, &documents),
         Err(refusal) => shown_refusal(alloc, refusal, &documents),
     }
 }

@@ -6,40 +6,53 @@ use ber_tree::tree_reading::{read_integer_contents, read_oid_contents, read_tree
 use ber_tree::tree_writing::{
     write_identifier, write_integer_contents, write_length, write_oid_contents, write_tree,
 };
+use lending::lend;
 use row_arguments::showing::{show_octets, show_oid};
 use row_arguments::{RowFault, reading};
 use std::alloc::Global;
 use term_values::{Tag, Tree};
 
-/// How many octets spell the tree at the front, and the tree, or the kind and the place of the first fault.
-fn read_tree_row(alloc: Global, text: &str, out: &mut String) -> Result<(), RowFault> {
-    let octets = reading::octets(alloc, text)?;
-    match read_tree(alloc, &octets) {
+/// A tree with its size, or why none was read.
+type Read = Result<(Tree, usize), BerRefusal>;
+
+/// Appends a size and a tree, or the kind and the place of a fault.
+fn show_read(read: &Read, out: &mut String) -> Result<(), RowFault> {
+    match read {
         Ok((tree, size)) => {
             write!(out, "{size}: ")?;
-            Ok(show_tree(&tree, out)?)
+            Ok(show_tree(tree, out)?)
         }
         Err(BerRefusal::Fault { at, kind }) => Ok(write!(out, "{kind:?} at {at}")?),
         Err(BerRefusal::Memory) => Err(RowFault::Memory),
     }
 }
 
-/// The tree that octets spell.
-fn tree(alloc: Global, text: &str) -> Result<Tree, RowFault> {
+/// How many octets spell the tree at the front, and the tree, or the kind and the place of the first fault.
+fn read_tree_row(alloc: Global, text: &str, out: &mut String) -> Result<(), RowFault> {
     let octets = reading::octets(alloc, text)?;
-    match read_tree(alloc, &octets) {
-        Ok((tree, _)) => Ok(tree),
+    lend(read_tree(alloc, &octets), |read| show_read(read, out))
+}
+
+/// Appends the written octets of a tree.
+fn write_read(read: &Read, into: &mut Vec<u8>) -> Result<(), RowFault> {
+    match read {
+        Ok((tree, _)) => Ok(write_tree(tree, into)?),
         Err(BerRefusal::Fault { .. }) => Err(RowFault::Tree),
         Err(BerRefusal::Memory) => Err(RowFault::Memory),
     }
+}
+
+/// Appends the written octets of the tree that octets spell.
+fn write_spelt(alloc: Global, spelt: &[u8], into: &mut Vec<u8>) -> Result<(), RowFault> {
+    lend(read_tree(alloc, spelt), |read| write_read(read, into))
 }
 
 /// The first octets, with the written octets of the tree that the second ones spell behind them.
 fn write_tree_row(alloc: Global, text: &str, out: &mut String) -> Result<(), RowFault> {
     let (front, spelt) = reading::two(text)?;
     let mut into = reading::octets(alloc, front)?;
-    let tree = tree(alloc, spelt)?;
-    write_tree(&tree, &mut into)?;
+    let spelt = reading::octets(alloc, spelt)?;
+    write_spelt(alloc, &spelt, &mut into)?;
     Ok(show_octets(&into, out)?)
 }
 

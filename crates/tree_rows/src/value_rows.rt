@@ -1,6 +1,7 @@
 //! Rows of `term_values`: identifiers, strings of octets, tags, values and trees.
 
 use crate::showing::{show_tag, show_tree};
+use lending::lend;
 use row_arguments::showing::{show_octets, show_oid};
 use row_arguments::{RowFault, reading};
 use std::alloc::{AllocError, Global};
@@ -85,13 +86,19 @@ fn context(text: &str, out: &mut String) -> Result<(), RowFault> {
     Ok(show_tag(Tag::context(reading::arc(text)?), out)?)
 }
 
-/// A copy of a value.
-fn copy_value(alloc: Global, text: &str, out: &mut String) -> Result<(), RowFault> {
-    let value = Value::integer(reading::integer(text)?);
-    match value.copy(alloc)?.form {
+/// Appends the number of a value.
+fn show_number(value: &Value, out: &mut String) -> Result<(), RowFault> {
+    match &value.form {
         ValueForm::Int(number) => Ok(write!(out, "{number}")?),
         _ => Err(RowFault::Arguments),
     }
+}
+
+/// A copy of a value.
+fn copy_value(alloc: Global, text: &str, out: &mut String) -> Result<(), RowFault> {
+    let value = Value::integer(reading::integer(text)?);
+    let copy = lend(value, |value| value.copy(alloc))?;
+    lend(copy, |copy| show_number(copy, out))
 }
 
 /// A constructed value of this name, with one primitive value of that name in it.
@@ -101,7 +108,7 @@ fn constructed(alloc: Global, text: &str, out: &mut String) -> Result<(), RowFau
     let contents = reading::bytes(alloc, contents)?;
     let items = vec![in alloc; Tree::primitive(inner, contents)]?;
     let tree = Tree::constructed(round, Trees { items });
-    Ok(show_tree(&tree, out)?)
+    Ok(lend(tree, |tree| show_tree(tree, out))?)
 }
 
 /// Appends the answer to a call.

@@ -3,15 +3,30 @@
 use crate::row_syntaxes::syntax_named;
 use ber_tree::tree_reading::read_front_tree;
 use ber_values::{DecodeRefusal, decode, encode_into};
+use lending::lend;
 use std::alloc::{AllocError, Global};
 use std::fmt::Write;
-use term_values::{Syntax, Tree, der_len};
+use term_values::{Syntax, Tree, Value, der_len};
 
 /// Appends octets in hexadecimal digits.
 fn show(octets: &[u8], out: &mut String) -> Result<(), AllocError> {
     for octet in octets {
         write!(out, "{octet:02X}")?;
     }
+    Ok(())
+}
+
+/// Appends the one form of a value and how many octets it has.
+fn show_value(
+    alloc: Global,
+    syntax: &Syntax,
+    value: &Value,
+    out: &mut String,
+) -> Result<(), AllocError> {
+    let mut octets = Vec::new(alloc);
+    encode_into(alloc, syntax, value, &mut octets)?;
+    show(&octets, out)?;
+    write!(out, " {}", der_len(syntax, value))?;
     Ok(())
 }
 
@@ -22,17 +37,11 @@ fn answer_tree(
     tree: &Tree,
     out: &mut String,
 ) -> Result<(), AllocError> {
-    match decode(alloc, syntax, tree) {
-        Ok(value) => {
-            let mut octets = Vec::new(alloc);
-            encode_into(alloc, syntax, &value, &mut octets)?;
-            show(&octets, out)?;
-            write!(out, " {}", der_len(syntax, &value))?;
-            Ok(())
-        }
+    lend(decode(alloc, syntax, tree), |decoded| match decoded {
+        Ok(value) => show_value(alloc, syntax, value, out),
         Err(DecodeRefusal::Misfit) => out.push_str("misfit"),
         Err(DecodeRefusal::Memory) => Err(AllocError),
-    }
+    })
 }
 
 /// Appends the answer to octets.
@@ -42,22 +51,32 @@ fn answer_octets(
     octets: &[u8],
     out: &mut String,
 ) -> Result<(), AllocError> {
-    match read_front_tree(alloc, octets)? {
-        Some((tree, _)) => answer_tree(alloc, syntax, &tree, out),
+    lend(read_front_tree(alloc, octets)?, |read| match read {
+        Some((tree, _)) => answer_tree(alloc, syntax, tree, out),
         None => out.push_str("no tree"),
+    })
+}
+
+/// Appends the answer to octets in hexadecimal digits.
+fn answer_digits(
+    alloc: Global,
+    syntax: &Syntax,
+    digits: &str,
+    out: &mut String,
+) -> Result<(), AllocError> {
+    match hex::decode(alloc, digits.as_bytes()) {
+        Ok(octets) => answer_octets(alloc, syntax, &octets, out),
+        Err(_) => out.push_str("no octets"),
     }
 }
 
 /// Appends the answer to a row.
 fn answer_row(alloc: Global, row: &str, out: &mut String) -> Result<(), AllocError> {
     let (name, digits) = row.split_once(' ').unwrap_or((row, ""));
-    match syntax_named(alloc, name)? {
+    lend(syntax_named(alloc, name)?, |found| match found {
+        Some(syntax) => answer_digits(alloc, syntax, digits, out),
         None => out.push_str("no such syntax"),
-        Some(syntax) => match hex::decode(alloc, digits.as_bytes()) {
-            Ok(octets) => answer_octets(alloc, &syntax, &octets, out),
-            Err(_) => out.push_str("no octets"),
-        },
-    }
+    })
 }
 
 /// What is printed for a line.
