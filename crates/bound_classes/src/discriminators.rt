@@ -46,9 +46,7 @@ fn alternative(alloc: Global, name: &[u8], syntax: Syntax) -> Result<Part, Alloc
 fn two_alternatives(alloc: Global, first: Part, second: Part) -> Result<Parts, AllocError>
     ensures { IfOk result (λ parts. parts ≡ parts_listed (first ∷ (second ∷ []))) }
 {
-    let mut items = Vec::new(alloc);
-    items.push(first)?;
-    items.push(second)?;
+    let items = vec![in alloc; first, second]?;
     Ok(Parts { items })
 }
 

@@ -129,10 +129,10 @@ fn asked(alloc: Global, set: &Set, filter: Filter, tree: &Tree) -> Result<Asked,
     ensures { IfOk result (λ asked. asked ≡ valid_of set.now.attributes (written tree.now) filter) }
 {
     if is_valid(set, &filter) {
-        Ok(Asked::Good(filter))
-    } else {
-        Ok(Asked::Bad(kept(alloc, tree)?))
+        return Ok(Asked::Good(filter));
     }
+    drop(filter);
+    Ok(Asked::Bad(kept(alloc, tree)?))
 }
 
 /// The filter that a tree gives as it is asked, or none.

@@ -173,8 +173,16 @@ fn play_on<L: StepLedger + Drop>(
     let agent = Agent::new(alloc, schema, Limits::shipped(), objects);
     objects_stay_good();
     match play_script(alloc, agent, read.lines, steps)? {
-        Ending::Ended(play) => ended_text(alloc, &play, is_whole, count),
-        Ending::Full(play, place) => Err(refusal_of_full(alloc, &play, place, is_whole, count)),
+        Ending::Ended(play) => {
+            let text = ended_text(alloc, &play, is_whole, count);
+            drop(play);
+            text
+        }
+        Ending::Full(play, place) => {
+            let refusal = refusal_of_full(alloc, &play, place, is_whole, count);
+            drop(play);
+            Err(refusal)
+        }
         Ending::Bad(line) => Err(RunRefusal::BadScript { line }),
     }
 }

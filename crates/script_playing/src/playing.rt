@@ -152,6 +152,7 @@ pub fn play_script<L: StepLedger + Drop>(
     };
     let mut watch = Watch::new();
     if let Some(number) = run.play_lines(alloc, lines.items, steps, &mut watch)? {
+        drop(run);
         return Ok(Ending::Bad(number));
     }
     run.end(&mut watch)?;

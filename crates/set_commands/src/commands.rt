@@ -66,7 +66,10 @@ fn opened(alloc: Global, documents: &[Doc]) -> Result<(Compiled, u64), SetRefusa
     let compiled = compiled(alloc, documents)?;
     match object_count(alloc, &compiled) {
         Ok(objects) => Ok((compiled, objects)),
-        Err(refusal) => Err(refusal),
+        Err(refusal) => {
+            drop(compiled);
+            Err(refusal)
+        }
     }
 }
 
@@ -88,7 +91,9 @@ pub fn check_text(alloc: Global, documents: &[Doc]) -> Result<Vec<u8>, SetRefusa
     ensures cause { IfErr result (HasCause documents.now) }
 {
     let (compiled, objects) = opened(alloc, documents)?;
-    Ok(text_of_counts(alloc, &compiled.counts, objects)?)
+    let text = text_of_counts(alloc, &compiled.counts, objects);
+    drop(compiled);
+    Ok(text?)
 }
 
 /// What `report` prints of 1 to 64 documents: the text of the schema to which they are compiled. Objects are opened as
@@ -99,7 +104,9 @@ pub fn schema_text(alloc: Global, documents: &[Doc]) -> Result<Vec<u8>, SetRefus
     ensures cause { IfErr result (HasCause documents.now) }
 {
     let (compiled, _) = opened(alloc, documents)?;
-    Ok(report_text(alloc, &compiled.schema)?)
+    let text = report_text(alloc, &compiled.schema);
+    drop(compiled);
+    Ok(text?)
 }
 
 /// Says whether 1 to 64 documents are accepted, with the refusals of `check`.

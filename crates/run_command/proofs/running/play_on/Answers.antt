@@ -26,7 +26,7 @@ returns-in-Ended-clause-text g c =
     let comes = subst (λ e. IfEnded (λ p. has_unbuilt p.agent ≡ false → Comes first lines p) e) c.in-Ended.is
     (of_ending first lines _ of.frames of.legal of.replayed of.held of.settled) in
     let whole_is = ap (λ (r : ScriptText). r.is_whole) c.read.view_is in
-    IfOk-weaker c.ended_text.result _ _
+    IfOk-weaker c.ended_text-text.result _ _
     (λ text facts. record {
       lines = lines;
       spelt =
@@ -37,7 +37,7 @@ returns-in-Ended-clause-text g c =
           (ends schema objects first lines play same told (comes facts.1) c.requires.good c.objects_stay_good.ensures)
           (subst (λ e. HasRoomTold first e) c.in-Ended.is of.room) facts.2;
     })
-    c.ended_text.ensures.text
+    c.ended_text-text.ensures.text
 
 pub returns-in-Ended-clause-cause : goal.returns-in-Ended-clause-cause
 returns-in-Ended-clause-cause g c =
@@ -53,14 +53,14 @@ returns-in-Ended-clause-cause g c =
     let whole_is = ap (λ (r : ScriptText). r.is_whole) c.read.view_is in
     let lines_are = ap (λ (r : ScriptText). r.lines) c.read.view_is in
     in_err (HasEndedCause play.agent _ (length c.as_slice.result.now)) (HasPlayCause schema objects script)
-    c.ended_text.result
+    c.ended_text-text.result
     (λ e cause. of_ended schema objects first script lines play _ (length c.as_slice.result.now) e same told
     (subst (λ b. AreRead script lines b) (sym whole_is) (record { rest = said.0; spelt = said.1; whole = said.2 }))
     (ap (λ xs. length xs) (c.as_slice.ensures.value ∙ lines_are)) cause)
-    c.ended_text.ensures.bad
+    c.ended_text-text.ensures.bad
 
-pub refusal_of_full-requires-clause-within : goal.refusal_of_full-requires-clause-within
-refusal_of_full-requires-clause-within g c =
+pub refusal_of_full-refusal-requires-clause-within : goal.refusal_of_full-refusal-requires-clause-within
+refusal_of_full-refusal-requires-clause-within g c =
     (subst (λ e. HasRoomTold c.new-agent.result e) c.in-Full.is c.in_ok-play.ensures.room).0
 
 pub returns-in-Full-clause-cause : goal.returns-in-Full-clause-cause
@@ -80,8 +80,8 @@ returns-in-Full-clause-cause g c =
     let whole_is = ap (λ (r : ScriptText). r.is_whole) c.read.view_is in
     let lines_are = ap (λ (r : ScriptText). r.lines) c.read.view_is in
     of_full schema objects first script lines play c.in-Full.place _ (length c.as_slice.result.now)
-    c.refusal_of_full.result same told
+    c.refusal_of_full-refusal.result same told
     (subst (λ b. AreRead script lines b) (sym whole_is) (record { rest = said.0; spelt = said.1; whole = said.2 }))
     (ap (λ xs. length xs) (c.as_slice.ensures.value ∙ lines_are))
     (λ built. ends schema objects first lines play same told (comes built) c.requires.good c.objects_stay_good.ensures)
-    (subst (λ e. HasRoomTold first e) c.in-Full.is of.room).1 c.refusal_of_full.ensures
+    (subst (λ e. HasRoomTold first e) c.in-Full.is of.room).1 c.refusal_of_full-refusal.ensures
