@@ -2,11 +2,8 @@
 
 use row_arguments::{RowFault, reading};
 use std::alloc::Global;
-use term_model::{
-    ActRecs, AgentState, Association, AssociationState, Associations, AttrRecs, Attrs, BindRecs,
-    ClassRecs, GroupRecs, InstRecs, Limits, Name, NamedObject, NoteRecs, Object, Objects, Oids,
-    Operations, Rdn, RuleRecs, Set, WaitingRecords,
-};
+use agent_model::{AgentState, Association, AssociationState, Associations, Limits, Operations};
+use term_model::{ActRecs, AttrRecs, Attrs, BindRecs, ClassRecs, GroupRecs, InstRecs, Name, NamedObject, NoteRecs, Object, Objects, Oids, Rdn, RuleRecs, Set, WaitingRecords};
 use term_values::{Bytes, Oid};
 
 /// An association for which these octets were placed and taken.

@@ -5,7 +5,7 @@ use journal_text::texts::{write_decimal, write_entry, write_journal};
 use row_arguments::{RowFault, reading};
 use std::alloc::Global;
 use std::str;
-use term_model::{Entry, Why};
+use agent_model::{Entry, Why};
 
 /// The first word of a text, and the rest.
 fn word(text: &str) -> (&str, &str) {

@@ -6,7 +6,7 @@ use journal_text::texts::{run_text, write_outs};
 use lending::lend;
 use row_arguments::{RowFault, reading};
 use std::alloc::{AllocError, Global};
-use term_model::AgentState;
+use agent_model::AgentState;
 
 /// The text that is printed of an agent.
 fn outs_text(alloc: Global, agent: &AgentState) -> Result<Vec<u8>, AllocError> {

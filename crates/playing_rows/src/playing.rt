@@ -8,10 +8,8 @@ use lending::lend;
 use mo_list::ListMib;
 use script_playing::{Ending, play_script};
 use std::alloc::Global;
-use term_model::{
-    ActRecs, AttrRecs, BindRecs, ClassRecs, Entry, GroupRecs, InstRecs, Limits, Name, NoteRecs,
-    RuleRecs, Set, StepLedger, Steps,
-};
+use agent_model::{Entry, Limits};
+use term_model::{ActRecs, AttrRecs, BindRecs, ClassRecs, GroupRecs, InstRecs, Name, NoteRecs, RuleRecs, Set, StepLedger, Steps};
 
 /// A schema that has no classes.
 fn empty_schema(alloc: Global) -> Set {

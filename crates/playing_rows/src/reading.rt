@@ -5,7 +5,7 @@ use agent_model::ScriptLines;
 use script_lines::read_script_text;
 use std::alloc::Global;
 use std::str::SplitWhitespace;
-use term_model::Limits;
+use agent_model::Limits;
 
 /// The next number below 2 ^ 64.
 fn next_number(words: &mut SplitWhitespace<'_>) -> Result<u64, RowFault> {

@@ -9,11 +9,12 @@ ghost use Rattle.run_command.specs.RunCauses.{HasBehaviourCause, HasCause, HasCo
 ghost use Rattle.run_command.specs.RunCauses.{HasFullCause, HasOpeningCause, HasPlayCause, HasSchemaCause};
 ghost use Rattle.run_command.specs.ScriptRuns.{AreCompiled, IsPlayedOn, IsRun, IsRunOf};
 ghost use Rattle.term_model.specs.Opening.{opened};
-ghost use Rattle.term_model.specs.Texts.{journal_text, outs, separator};
+ghost use Rattle.agent_model.specs.Texts.{journal_text, outs, separator};
 ghost use Rattle.term_model.specs.WellFormedObjects.{AreGood};
 ghost use Rattle.term_model.specs.WholeSet.{IsWhole};
 
 use crate::refusal::{RunRefusal, of_compiling, of_opening};
+use agent_model::Limits;
 use agent_steps::Agent;
 use bound_classes::has_behaviour;
 use journal_text::texts::{text_of_run, write_journal};
@@ -27,7 +28,7 @@ use std::alloc::{AllocError, Global};
 use std::marker::Brand;
 use std::sync::ledger::{Blank, Ledger};
 use template_compile::{Doc, compile_documents};
-use term_model::{Limits, Set, StepLedger, Steps, Tally};
+use term_model::{Set, StepLedger, Steps, Tally};
 
 /// The schema to which documents are compiled.
 fn compiled(alloc: Global, documents: &[Doc]) -> Result<Set, RunRefusal>

@@ -8,15 +8,15 @@ use Rattle.std.proofs.lemmas.Bool.{false≢true, cases_Bool, eqb-false, ne_eqb}
 use Rattle.std.proofs.lemmas.List.Sums.{sum_by-cons}
 use Rattle.std.proofs.lemmas.Option.{none-some, slice_get_past, slice_get_within, slice_get-get_or}
 use Rattle.std.proofs.lemmas.List.{length-set, get_or-set_same, set_at}
-use Rattle.term_model.specs.declared.agent_state.AgentState.{AgentState}
-use Rattle.term_model.specs.declared.agent_state.Association.{Association}
-use Rattle.term_model.specs.declared.agent_state.Operation.{Operation}
-use Rattle.term_model.specs.declared.agent_state.OperationState.{OperationState}
-use Rattle.term_model.specs.declared.limits.Limits.{Limits}
+use Rattle.agent_model.specs.declared.agent_state.AgentState.{AgentState}
+use Rattle.agent_model.specs.declared.agent_state.Association.{Association}
+use Rattle.agent_model.specs.declared.agent_state.Operation.{Operation}
+use Rattle.agent_model.specs.declared.agent_state.OperationState.{OperationState}
+use Rattle.agent_model.specs.declared.limits.Limits.{Limits}
 use Rattle.term_model.specs.declared.schema.Set.{Set}
-use Rattle.term_model.specs.AgentState.{numbered, is_outstanding}
-use Rattle.term_model.specs.AgentState.{left_to_take, granted_moment, is_closed_state}
-use Rattle.term_model.specs.Step.{changed_association, changed_operation, ended_with, with_taken}
+use Rattle.agent_model.specs.AgentState.{numbered, is_outstanding}
+use Rattle.agent_model.specs.AgentState.{left_to_take, granted_moment, is_closed_state}
+use Rattle.agent_model.specs.Step.{changed_association, changed_operation, ended_with, with_taken}
 
 -- an item stands under a number
 pub record StandsAt {T : Type 0} (items : List T) (number : ℕ) (item : T) : Type 0 where

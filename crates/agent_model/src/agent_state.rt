@@ -1,13 +1,9 @@
 //! The state of the one-manager agent: one thread, one entry after the other.
 
 use crate::entry::Why;
-use crate::event::WaitingRecords;
 use crate::limits::Limits;
-use crate::name::Name;
-use crate::objects::Objects;
-use crate::request::Request;
-use crate::schema::Set;
 use std::marker::Model;
+use term_model::{Name, Objects, Request, Set, WaitingRecords};
 use term_values::{Bytes, Oid};
 
 /// How far an association has come.
@@ -47,7 +43,7 @@ pub struct Associations {
 
 impl Model for Associations {
     ghost use Rattle.std.specs.Prelude.{List};
-    ghost use Rattle.term_model.specs.declared.agent_state.Association.{Association};
+    ghost use Rattle.agent_model.specs.declared.agent_state.Association.{Association};
 
     ghost Value = { List Association };
 
@@ -107,7 +103,7 @@ impl Model for Operations {
     ghost use Rattle.std.specs.Coded.{codes};
     ghost use Rattle.term_values.specs.Typed.{value_code};
     ghost use Rattle.term_model.specs.contracts.filter.Filter as filter;
-    ghost use Rattle.term_model.specs.declared.agent_state.Operation.{Operation};
+    ghost use Rattle.agent_model.specs.declared.agent_state.Operation.{Operation};
 
     ghost Value = { List Operation };
 

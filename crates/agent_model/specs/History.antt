@@ -1,8 +1,8 @@
 -- The frames of an association in a journal; docs/PROFILE.md, section 7.
 use Rattle.std.specs.Prelude.{ℕ, ◌==◌, List, Option, None, Some, if◌then◌else◌}
 use Rattle.std.specs.List.{filter_map}
-use Rattle.term_model.specs.declared.entry.Entry.{Entry}
-use Rattle.term_model.specs.declared.entry.Entry.TheVariants as entry
+use Rattle.agent_model.specs.declared.entry.Entry.{Entry}
+use Rattle.agent_model.specs.declared.entry.Entry.TheVariants as entry
 
 -- what an association brought in an entry
 abbrev pub brought : ℕ → Entry → Option (List ℕ)

@@ -1,25 +1,18 @@
 -- The texts of a journal and of what it comes to; docs/PROFILE.md, section 5. Each line ends in a line feed.
 use Rattle.std.specs.Prelude.{ℕ, ◌+◌, List, [], ◌∷◌, ◌++◌, codes, decimal, length, flat_map}
 use Rattle.hex.specs.Hex.{encode_upper}
-use Rattle.term_model.specs.declared.agent_state.AgentState.{AgentState}
-use Rattle.term_model.specs.declared.agent_state.Association.{Association}
-use Rattle.term_model.specs.declared.entry.Entry.{Entry}
-use Rattle.term_model.specs.declared.entry.Entry.TheVariants as entry
-use Rattle.term_model.specs.declared.entry.Why.{Why}
-use Rattle.term_model.specs.declared.entry.Why.TheVariants as why
-
-abbrev pub line_feed : List ℕ
-line_feed = 10 ∷ []
+use Rattle.agent_model.specs.declared.agent_state.AgentState.{AgentState}
+use Rattle.agent_model.specs.declared.agent_state.Association.{Association}
+use Rattle.agent_model.specs.declared.entry.Entry.{Entry}
+use Rattle.agent_model.specs.declared.entry.Entry.TheVariants as entry
+use Rattle.agent_model.specs.declared.entry.Why.{Why}
+use Rattle.agent_model.specs.declared.entry.Why.TheVariants as why
+use Rattle.agent_model.specs.LogNames.{log_octets}
+use Rattle.term_model.specs.LineTexts.{line_feed, one_word, two_words}
 
 -- the line of two dashes between a journal and what it comes to
 abbrev pub separator : List ℕ
 separator = 45 ∷ 45 ∷ line_feed
-
-abbrev pub two_words : List ℕ → ℕ → List ℕ → List ℕ
-two_words word number text = word ++ (decimal number ++ (codes " " ++ (text ++ line_feed)))
-
-abbrev pub one_word : List ℕ → ℕ → List ℕ
-one_word word number = word ++ (decimal number ++ line_feed)
 
 abbrev pub cause_text : Why → List ℕ
 cause_text why.End = codes "end"
@@ -32,8 +25,10 @@ cause_text why.Memory = codes "memory"
 abbrev pub line : Entry → List ℕ
 line (entry.Opened number bind) = two_words (codes "opened ") number (encode_upper bind)
 line (entry.Arrived number apdu) = two_words (codes "arrived ") number (encode_upper apdu)
+line (entry.Begun number log) = two_words (codes "begun ") number (encode_upper (log_octets log))
 line (entry.Granted number moment) = two_words (codes "granted ") number (decimal moment)
 line (entry.Committed number) = one_word (codes "committed ") number
+line (entry.Starved number) = one_word (codes "starved ") number
 line (entry.Taken number count) = two_words (codes "taken ") number (decimal count)
 line (entry.Finished number) = one_word (codes "finished ") number
 line (entry.Closed number cause) = two_words (codes "closed ") number (cause_text cause)

@@ -1,13 +1,15 @@
 -- Which entries the program can hold, and that different journals of them have different texts; docs/PROFILE.md,
 -- section 5.
-use Rattle.std.specs.Prelude.{◌≡◌, ℕ, ◌<◌, ◌^◌, List, ◌++◌}
+use Rattle.std.specs.Prelude.{◌≡◌, ℕ, ◌<◌, ◌^◌, List, ◌++◌, Some}
 use Rattle.std.specs.List.{All}
 use Rattle.hex.specs.Hex.{IsBytes}
-use Rattle.term_model.specs.declared.entry.Entry.{Entry}
-use Rattle.term_model.specs.declared.entry.Entry.TheVariants as entry
-use Rattle.term_model.specs.declared.entry.Why.{Why}
-use Rattle.term_model.specs.declared.entry.Why.TheVariants as why
-use Rattle.term_model.specs.Texts.{journal_text, separator}
+use Rattle.agent_model.specs.declared.entry.Entry.{Entry}
+use Rattle.agent_model.specs.declared.entry.Entry.TheVariants as entry
+use Rattle.agent_model.specs.declared.entry.Why.{Why}
+use Rattle.agent_model.specs.declared.entry.Why.TheVariants as why
+use Rattle.term_model.specs.declared.name.Rdn.{Rdn}
+use Rattle.agent_model.specs.LogNames.{log_in, log_octets}
+use Rattle.agent_model.specs.Texts.{journal_text, separator}
 
 -- a number of 64 bits
 abbrev pub IsNumber : ℕ → Type 0
@@ -18,12 +20,18 @@ abbrev pub IsCause : Why → Type 0
 IsCause (why.BadFrame at) = IsNumber at
 IsCause _ = Unit {0}
 
--- each number has 64 bits, and each octet has 8
+-- the name of a log is the one that its octets tell
+abbrev pub IsLog : List Rdn → Type 0
+IsLog log = IsBytes (log_octets log) × (log_in (log_octets log) ≡ Some log)
+
+-- each number has 64 bits, each octet has 8, and each log's name is told by its octets
 abbrev pub IsEntry : Entry → Type 0
 IsEntry (entry.Opened number bind) = IsNumber number × IsBytes bind
 IsEntry (entry.Arrived number apdu) = IsNumber number × IsBytes apdu
+IsEntry (entry.Begun number log) = IsNumber number × IsLog log
 IsEntry (entry.Granted number moment) = IsNumber number × IsNumber moment
 IsEntry (entry.Committed number) = IsNumber number
+IsEntry (entry.Starved number) = IsNumber number
 IsEntry (entry.Taken number count) = IsNumber number × IsNumber count
 IsEntry (entry.Finished number) = IsNumber number
 IsEntry (entry.Closed number cause) = IsNumber number × IsCause cause

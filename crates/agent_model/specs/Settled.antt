@@ -1,9 +1,9 @@
 -- Settled: no association is open, nothing that was placed for one is left to take, and no operation of one is
 -- outstanding; docs/PROFILE.md, section 7.
 use Rattle.std.specs.Prelude.{◌≡◌, ℕ, length, IsTrue, Some}
-use Rattle.term_model.specs.declared.agent_state.AgentState.{AgentState}
-use Rattle.term_model.specs.declared.agent_state.Association.{Association}
-use Rattle.term_model.specs.AgentState.{association_of, is_closed_state, outstanding}
+use Rattle.agent_model.specs.declared.agent_state.AgentState.{AgentState}
+use Rattle.agent_model.specs.declared.agent_state.Association.{Association}
+use Rattle.agent_model.specs.AgentState.{association_of, is_closed_state, outstanding}
 
 -- nothing is left to do for an association
 pub record IsDone (agent : AgentState) (number : ℕ) (a : Association) : Type 0 where

@@ -12,12 +12,15 @@ use Rattle.std.proofs.lemmas.List.Elements.{All-head, All-tail}
 use Rattle.std.proofs.lemmas.Str.Parse.{digit_at}
 use Rattle.hex.specs.Hex.{IsBytes, decode_of, encode_upper, encode_with, hex_digit_value, upper_digits}
 use Rattle.hex.proofs.HexLemmas.{IsDigits-upper_digits, decode_of-encode_upper}
-use Rattle.term_model.specs.declared.entry.Entry.{Entry}
-use Rattle.term_model.specs.declared.entry.Entry.TheVariants as entry
-use Rattle.term_model.specs.declared.entry.Why.{Why}
-use Rattle.term_model.specs.declared.entry.Why.TheVariants as why
-use Rattle.term_model.specs.Texts.{cause_text, journal_text, line, line_feed, one_word, two_words}
-use Rattle.term_model.specs.TextLaws.{IsCause, IsEntry, IsNumber}
+use Rattle.agent_model.specs.declared.entry.Entry.{Entry}
+use Rattle.agent_model.specs.declared.entry.Entry.TheVariants as entry
+use Rattle.agent_model.specs.declared.entry.Why.{Why}
+use Rattle.agent_model.specs.declared.entry.Why.TheVariants as why
+use Rattle.term_model.specs.LineTexts.{line_feed, one_word, two_words}
+use Rattle.agent_model.specs.Texts.{cause_text, journal_text, line}
+use Rattle.term_model.specs.declared.name.Rdn.{Rdn}
+use Rattle.agent_model.specs.LogNames.{log_in, log_octets}
+use Rattle.agent_model.specs.TextLaws.{IsCause, IsEntry, IsLog, IsNumber}
 
 -- all codes lie above a limit, or the first one does not
 abbrev is_above : ℕ → List ℕ → Bool
@@ -82,8 +85,10 @@ octets_read octets all = ap (λ r. result_unwrap_or r []) (decode_of-encode_uppe
 abbrev word : Entry → List ℕ
 word (entry.Opened number bind) = codes "opened"
 word (entry.Arrived number apdu) = codes "arrived"
+word (entry.Begun number log) = codes "begun"
 word (entry.Granted number moment) = codes "granted"
 word (entry.Committed number) = codes "committed"
+word (entry.Starved number) = codes "starved"
 word (entry.Taken number count) = codes "taken"
 word (entry.Finished number) = codes "finished"
 word (entry.Closed number cause) = codes "closed"
@@ -91,8 +96,10 @@ word (entry.Closed number cause) = codes "closed"
 abbrev number_of : Entry → ℕ
 number_of (entry.Opened number bind) = number
 number_of (entry.Arrived number apdu) = number
+number_of (entry.Begun number log) = number
 number_of (entry.Granted number moment) = number
 number_of (entry.Committed number) = number
+number_of (entry.Starved number) = number
 number_of (entry.Taken number count) = number
 number_of (entry.Finished number) = number
 number_of (entry.Closed number cause) = number
@@ -100,8 +107,10 @@ number_of (entry.Closed number cause) = number
 abbrev text_of : Entry → Option (List ℕ)
 text_of (entry.Opened number bind) = Some (encode_upper bind)
 text_of (entry.Arrived number apdu) = Some (encode_upper apdu)
+text_of (entry.Begun number log) = Some (encode_upper (log_octets log))
 text_of (entry.Granted number moment) = Some (decimal moment)
 text_of (entry.Committed number) = None
+text_of (entry.Starved number) = None
 text_of (entry.Taken number count) = Some (decimal count)
 text_of (entry.Finished number) = None
 text_of (entry.Closed number cause) = Some (cause_text cause)
@@ -129,13 +138,16 @@ one_word_then front number r =
 line_then : (e : Entry) (r : List ℕ) → line e ++ r ≡ word e ++ 32 ∷ (decimal (number_of e) ++ tail (text_of e) r)
 line_then (entry.Opened number bind) r = two_words_then (codes "opened") number (encode_upper bind) r
 line_then (entry.Arrived number apdu) r = two_words_then (codes "arrived") number (encode_upper apdu) r
+line_then (entry.Begun number log) r = two_words_then (codes "begun") number (encode_upper (log_octets log)) r
 line_then (entry.Granted number moment) r = two_words_then (codes "granted") number (decimal moment) r
 line_then (entry.Committed number) r = one_word_then (codes "committed") number r
+line_then (entry.Starved number) r = one_word_then (codes "starved") number r
 line_then (entry.Taken number count) r = two_words_then (codes "taken") number (decimal count) r
 line_then (entry.Finished number) r = one_word_then (codes "finished") number r
 line_then (entry.Closed number cause) r = two_words_then (codes "closed") number (cause_text cause) r
 
--- the entry is read from them: its kind by the third letter of the word, a cause by the first one of its text
+-- the entry is read from them: its kind by the third letter of the word, and where two words have the same one by the
+-- first; a cause by the first letter of its text
 abbrev cause_read : List ℕ → Why
 cause_read text =
     if get_or text 0 0 == 101 then why.End
@@ -145,18 +157,23 @@ cause_read text =
     else if get_or text 0 0 == 106 then why.JournalFull
     else why.Memory
 
-abbrev entry_of_text : ℕ → ℕ → List ℕ → Entry
-entry_of_text letter number text =
+abbrev name_read : List ℕ → List Rdn
+name_read octets = option_map_or (λ (name : List Rdn). name) (log_in octets) []
+
+abbrev entry_of_text : ℕ → ℕ → ℕ → List ℕ → Entry
+entry_of_text first letter number text =
     if letter == 101 then entry.Opened number (result_unwrap_or (decode_of text) [])
     else if letter == 114 then entry.Arrived number (result_unwrap_or (decode_of text) [])
-    else if letter == 97 then entry.Granted number (digits_value 10 text)
+    else if letter == 103 then entry.Begun number (name_read (result_unwrap_or (decode_of text) []))
+    else if letter == 97 then (if first == 115 then entry.Starved number else entry.Granted number (digits_value 10 text))
     else if letter == 109 then entry.Committed number
     else if letter == 107 then entry.Taken number (digits_value 10 text)
     else if letter == 110 then entry.Finished number
     else entry.Closed number (cause_read text)
 
 abbrev entry_read : List ℕ → ℕ → Option (List ℕ) → Entry
-entry_read front number text = entry_of_text (get_or front 2 0) number (option_map_or (λ t. t) text [])
+entry_read front number text =
+    entry_of_text (get_or front 0 0) (get_or front 2 0) number (option_map_or (λ t. t) text [])
 
 cause_is_read : (cause : Why) → IsCause cause → cause_read (cause_text cause) ≡ cause
 cause_is_read why.End is = refl
@@ -166,11 +183,19 @@ cause_is_read why.WriteFault is = refl
 cause_is_read why.JournalFull is = refl
 cause_is_read why.Memory is = refl
 
+name_is_read : (log : List Rdn) → IsLog log
+    → name_read (result_unwrap_or (decode_of (encode_upper (log_octets log))) []) ≡ log
+name_is_read log is =
+    ap name_read (octets_read (log_octets log) is.0)
+    ∙ ap (λ o. option_map_or (λ (name : List Rdn). name) o []) is.1
+
 entry_is_read : (e : Entry) → IsEntry e → entry_read (word e) (number_of e) (text_of e) ≡ e
 entry_is_read (entry.Opened number bind) is = ap (entry.Opened number) (octets_read bind is.1)
 entry_is_read (entry.Arrived number apdu) is = ap (entry.Arrived number) (octets_read apdu is.1)
+entry_is_read (entry.Begun number log) is = ap (entry.Begun number) (name_is_read log is.1)
 entry_is_read (entry.Granted number moment) is = ap (entry.Granted number) (decimal_read moment is.1)
 entry_is_read (entry.Committed number) is = refl
+entry_is_read (entry.Starved number) is = refl
 entry_is_read (entry.Taken number count) is = ap (entry.Taken number) (decimal_read count is.1)
 entry_is_read (entry.Finished number) is = refl
 entry_is_read (entry.Closed number cause) is = ap (entry.Closed number) (cause_is_read cause is.1)
@@ -179,8 +204,10 @@ entry_is_read (entry.Closed number cause) is = ap (entry.Closed number) (cause_i
 word_above : (e : Entry) → is_above 32 (word e) ≡ true
 word_above (entry.Opened number bind) = refl
 word_above (entry.Arrived number apdu) = refl
+word_above (entry.Begun number log) = refl
 word_above (entry.Granted number moment) = refl
 word_above (entry.Committed number) = refl
+word_above (entry.Starved number) = refl
 word_above (entry.Taken number count) = refl
 word_above (entry.Finished number) = refl
 word_above (entry.Closed number cause) = refl
@@ -188,8 +215,10 @@ word_above (entry.Closed number cause) = refl
 number_is : (e : Entry) → IsEntry e → IsNumber (number_of e)
 number_is (entry.Opened number bind) is = is.0
 number_is (entry.Arrived number apdu) is = is.0
+number_is (entry.Begun number log) is = is.0
 number_is (entry.Granted number moment) is = is.0
 number_is (entry.Committed number) is = is
+number_is (entry.Starved number) is = is
 number_is (entry.Taken number count) is = is.0
 number_is (entry.Finished number) is = is
 number_is (entry.Closed number cause) is = is.0
@@ -208,8 +237,10 @@ text_above text = option_map_or (is_above 10) text true ≡ true
 text_is_above : (e : Entry) → IsEntry e → text_above (text_of e)
 text_is_above (entry.Opened number bind) is = octets_above 10 bind (omega arith) is.1
 text_is_above (entry.Arrived number apdu) is = octets_above 10 apdu (omega arith) is.1
+text_is_above (entry.Begun number log) is = octets_above 10 (log_octets log) (omega arith) is.1.0
 text_is_above (entry.Granted number moment) is = decimal_above 10 moment (omega arith) is.1
 text_is_above (entry.Committed number) is = refl
+text_is_above (entry.Starved number) is = refl
 text_is_above (entry.Taken number count) is = decimal_above 10 count (omega arith) is.1
 text_is_above (entry.Finished number) is = refl
 text_is_above (entry.Closed number cause) is = cause_above cause is.1
@@ -269,8 +300,10 @@ one_line e f r s is_e is_f same =
 begins_with_letter : (e : Entry) (r : List ℕ) → 96 < get_or (line e ++ r) 0 0
 begins_with_letter (entry.Opened number bind) r = omega arith
 begins_with_letter (entry.Arrived number apdu) r = omega arith
+begins_with_letter (entry.Begun number log) r = omega arith
 begins_with_letter (entry.Granted number moment) r = omega arith
 begins_with_letter (entry.Committed number) r = omega arith
+begins_with_letter (entry.Starved number) r = omega arith
 begins_with_letter (entry.Taken number count) r = omega arith
 begins_with_letter (entry.Finished number) r = omega arith
 begins_with_letter (entry.Closed number cause) r = omega arith

@@ -1,15 +1,15 @@
 -- What the one-manager agent holds of associations and operations; docs/PROFILE.md, section 7.
 use Rattle.std.specs.Prelude.{ℕ, ◌-◌, ◌==◌, ◌&&◌, Bool, true, false, not, List}
 use Rattle.std.specs.Prelude.{length, count_by, slice_get, Option, None, Some, if◌then◌else◌}
-use Rattle.term_model.specs.declared.agent_state.AgentState.{AgentState}
-use Rattle.term_model.specs.declared.agent_state.Association.{Association}
-use Rattle.term_model.specs.declared.agent_state.AssociationState.{AssociationState}
-use Rattle.term_model.specs.declared.agent_state.AssociationState.TheVariants as association
-use Rattle.term_model.specs.declared.agent_state.Operation.{Operation}
-use Rattle.term_model.specs.declared.agent_state.OperationState.{OperationState}
-use Rattle.term_model.specs.declared.agent_state.OperationState.TheVariants as operation
-use Rattle.term_model.specs.declared.agent_state.Work.{Work}
-use Rattle.term_model.specs.declared.agent_state.Work.TheVariants as work
+use Rattle.agent_model.specs.declared.agent_state.AgentState.{AgentState}
+use Rattle.agent_model.specs.declared.agent_state.Association.{Association}
+use Rattle.agent_model.specs.declared.agent_state.AssociationState.{AssociationState}
+use Rattle.agent_model.specs.declared.agent_state.AssociationState.TheVariants as association
+use Rattle.agent_model.specs.declared.agent_state.Operation.{Operation}
+use Rattle.agent_model.specs.declared.agent_state.OperationState.{OperationState}
+use Rattle.agent_model.specs.declared.agent_state.OperationState.TheVariants as operation
+use Rattle.agent_model.specs.declared.agent_state.Work.{Work}
+use Rattle.agent_model.specs.declared.agent_state.Work.TheVariants as work
 
 -- what stands under a number, which counts from 1
 abbrev pub numbered : {T : Type 0} → List T → ℕ → Option T

@@ -2,19 +2,19 @@
 use Rattle.std.specs.Prelude.{◌≡◌, ℕ, pos, true, false, [], ◌∷◌, None, Some, refl}
 use Rattle.term_values.specs.Typed.TypedSlots.{Empty, Filled, NoSlots}
 use Rattle.term_values.specs.Typed.TypedValue.{Raw}
-use Rattle.term_model.specs.declared.agent_state.AgentState.{AgentState}
-use Rattle.term_model.specs.declared.agent_state.Association.{Association}
-use Rattle.term_model.specs.declared.agent_state.AssociationState.TheVariants as association
-use Rattle.term_model.specs.declared.agent_state.Operation.{Operation}
-use Rattle.term_model.specs.declared.agent_state.OperationState.TheVariants as operation
-use Rattle.term_model.specs.declared.agent_state.Work.TheVariants as work
-use Rattle.term_model.specs.declared.entry.Entry.TheVariants as entry
-use Rattle.term_model.specs.declared.entry.Why.TheVariants as why
-use Rattle.term_model.specs.AgentLimits.{shipped}
-use Rattle.term_model.specs.AgentState.{association_of, is_closed_state, left_to_take, numbered, outstanding}
+use Rattle.agent_model.specs.declared.agent_state.AgentState.{AgentState}
+use Rattle.agent_model.specs.declared.agent_state.Association.{Association}
+use Rattle.agent_model.specs.declared.agent_state.AssociationState.TheVariants as association
+use Rattle.agent_model.specs.declared.agent_state.Operation.{Operation}
+use Rattle.agent_model.specs.declared.agent_state.OperationState.TheVariants as operation
+use Rattle.agent_model.specs.declared.agent_state.Work.TheVariants as work
+use Rattle.agent_model.specs.declared.entry.Entry.TheVariants as entry
+use Rattle.agent_model.specs.declared.entry.Why.TheVariants as why
+use Rattle.agent_model.specs.AgentLimits.{shipped}
+use Rattle.agent_model.specs.AgentState.{association_of, is_closed_state, left_to_take, numbered, outstanding}
 use Rattle.term_model.specs.GetRequest.{get_request}
 use Rattle.term_model.specs.SentApdus.{parameter_slot}
-use Rattle.term_model.specs.Step.{is_legal, may_close, may_take}
+use Rattle.agent_model.specs.Step.{is_legal, may_close, may_take}
 use Rattle.term_model.proofs.ExampleNetwork.{element_oid, network}
 
 -- an association of which two octets are taken, and its Get of the root with the invoke id 7, which waits

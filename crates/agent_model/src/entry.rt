@@ -1,6 +1,7 @@
 //! Entries of the journal.
 
 use std::marker::Model;
+use term_model::Name;
 use term_values::Bytes;
 
 /// Why an association was closed.
@@ -27,10 +28,14 @@ pub enum Entry {
     Opened(u64, Bytes),
     /// Of this association this APDU arrived.
     Arrived(u64, Bytes),
+    /// An operation begins that appends a waiting record to the log with this name.
+    Begun(u64, Name),
     /// This operation has all its locks, at this time in seconds since 1970.
     Granted(u64, u64),
     /// This operation was performed.
     Committed(u64),
+    /// This operation ended for want of memory.
+    Starved(u64),
     /// Of those placed for this association so many bytes were taken to be sent.
     Taken(u64, u64),
     /// No more comes from this association.
@@ -48,7 +53,7 @@ pub struct Entries {
 
 impl Model for Entries {
     ghost use Rattle.std.specs.Prelude.{List};
-    ghost use Rattle.term_model.specs.declared.entry.Entry.{Entry};
+    ghost use Rattle.agent_model.specs.declared.entry.Entry.{Entry};
 
     ghost Value = { List Entry };
 

@@ -1,7 +1,7 @@
 //! How much an agent holds at the most. The numbers are this project's own.
 
 ghost use Rattle.std.specs.Prelude.{◌≡◌};
-ghost use Rattle.term_model.specs.AgentLimits.{shipped};
+ghost use Rattle.agent_model.specs.AgentLimits.{shipped};
 
 /// Limits of an agent.
 #[derive(Clone, Copy, Debug, PartialEq, Eq)]

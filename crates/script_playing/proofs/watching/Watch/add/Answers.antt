@@ -1,6 +1,6 @@
 use Rattle.std.proofs.Common.{rules, arith, refl}
 use Rattle.script_playing.proofs.WatchingLaws.{watched_passing}
-use Rattle.script_playing.proofs.watching.Watch.count.Goals as goal
+use Rattle.script_playing.proofs.watching.Watch.add.Goals as goal
 
 pub returns-clause-watched : goal.returns-clause-watched
 returns-clause-watched c first agent journal count none_ w =
