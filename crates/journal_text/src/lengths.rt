@@ -6,8 +6,11 @@ ghost use Rattle.term_model.specs.LineTexts.{one_word, two_words};
 ghost use Rattle.agent_model.specs.Texts.{cause_text, line};
 ghost use Rattle.agent_model.specs.declared.entry.Entry.TheVariants as Entry;
 
+use crate::log_names::log_name;
 use agent_model::{Entry, Why};
 use itoa::Buffer;
+use std::alloc::{AllocError, Global};
+use term_model::Name;
 
 /// How many decimal digits a number has.
 fn digits_length(number: u64) -> u128
