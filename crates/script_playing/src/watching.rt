@@ -1,6 +1,6 @@
 //! A watch on the room of a journal while it is written: docs/PROFILE.md, section 7.
 
-ghost use Rattle.std.specs.Prelude.{◌≡◌, ◌+◌, ◌-◌, ◌*◌, ◌^◌, ◌<◌, ◌≤◌, ◌++◌, [], ◌∷◌, ℕ, List, length, min, nat_lt};
+ghost use Rattle.std.specs.Prelude.{◌≡◌, ◌+◌, ◌-◌, ◌*◌, ◌^◌, ◌<◌, ◌≤◌, ◌++◌, [], ◌∷◌, ℕ, List, OnOk, length, min, nat_lt};
 ghost use Rattle.agent_model.specs.declared.agent_state.AgentState.{AgentState};
 ghost use Rattle.agent_model.specs.Texts.{line};
 ghost use Rattle.agent_model.specs.JournalRoom.{is_refused, places_asked};
@@ -11,6 +11,7 @@ ghost use Rattle.script_playing.specs.Watching.{AreOf, IsCounted, IsWatched, ref
 use agent_model::{Entry, Limits};
 use agent_steps::Agent;
 use journal_text::lengths::line_length;
+use std::alloc::{AllocError, Global};
 use term_model::StepLedger;
 
 /// Octets of the text that are reserved for the line of a place without an entry.
