@@ -13,7 +13,8 @@ use crate::association_changes::{count_left, is_closed, is_live};
 use crate::association_table::AssociationTable;
 use crate::requests::has_unbuilt;
 use agent_model::{Association, Limits, Operations};
-use mo_list::ListMib;
+use mo_list::ListMib as Mib;
+use object_maps::ObjectMap;
 use std::alloc::Global;
 use std::marker::Model;
 use term_model::{Set, StepLedger};
@@ -27,7 +28,7 @@ pub struct Agent<L: StepLedger> {
     /// How much it holds at the most.
     pub(crate) limits: Limits,
     /// The objects as they are now.
-    pub(crate) mib: ListMib<L>,
+    pub(crate) mib: Mib<L>,
     /// All associations that were opened.
     pub(crate) associations: AssociationTable,
     /// All operations that were queued.
@@ -57,7 +58,7 @@ impl<L: StepLedger> Model for Agent<L> {
 
 impl<L: StepLedger> Agent<L> {
     /// The agent before any entry, with the objects at the opening.
-    pub fn new(alloc: Global, schema: Set, limits: Limits, mib: ListMib<L>) -> Agent<L>
+    pub fn new(alloc: Global, schema: Set, limits: Limits, mib: Mib<L>) -> Agent<L>
         ensures { result ≡ started schema limits mib }
     {
         Agent {

@@ -19,7 +19,7 @@ use agent_steps::Agent;
 use bound_classes::has_behaviour;
 use journal_text::texts::{text_of_run, write_journal};
 use mib_opening::opening;
-use mo_list::ListMib;
+use mo_list::ListMib as Mib;
 use opening_sizes::laws::opened_are_small;
 use script_lines::read_script_text;
 use script_playing::laws::objects_stay_good;
@@ -47,7 +47,7 @@ fn opened_objects<L: StepLedger>(
     alloc: Global,
     schema: &Set,
     steps: &mut Steps<L>,
-) -> Result<ListMib<L>, RunRefusal>
+) -> Result<Mib<L>, RunRefusal>
     ensures opened { IfOk result (λ objects. opened schema.now ≡ Ok objects) }
     ensures good { IfOk result (λ objects. IsWhole schema.now → IsEncodable schema.now → AreGood schema.now objects) }
     ensures cause { IfErr result (HasOpeningCause schema.now) }
@@ -159,7 +159,7 @@ fn refusal_of_full<L: StepLedger>(
 fn play_on<L: StepLedger + Drop>(
     alloc: Global,
     schema: Set,
-    objects: ListMib<L>,
+    objects: Mib<L>,
     script: &[u8],
     steps: &mut Steps<L>,
 ) -> Result<Vec<u8>, RunRefusal>

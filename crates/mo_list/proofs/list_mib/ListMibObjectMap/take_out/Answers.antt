@@ -6,7 +6,7 @@ use Rattle.mo_list.specs.Entries.{objects_of}
 use Rattle.mo_list.specs.Places.{IsPlace}
 use Rattle.mo_list.proofs.FindingLaws.{one_call}
 use Rattle.mo_list.proofs.ChangeLaws.{is_there, keeps, removed_rises, removes}
-use Rattle.mo_list.proofs.list_mib.ListMib.take_out.Goals as goal
+use Rattle.mo_list.proofs.list_mib.ListMibObjectMap.take_out.Goals as goal
 
 pub invariant_of-self : goal.invariant_of-self
 invariant_of-self g c =

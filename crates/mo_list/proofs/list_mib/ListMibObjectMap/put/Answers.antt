@@ -8,7 +8,7 @@ use Rattle.mo_list.specs.Places.{IsPlace}
 use Rattle.mo_list.proofs.FindingLaws.{one_call}
 use Rattle.term_model.proofs.MapLaws.{names_rise}
 use Rattle.mo_list.proofs.ChangeLaws.{changed, is_there}
-use Rattle.mo_list.proofs.list_mib.ListMib.put.Goals as goal
+use Rattle.mo_list.proofs.list_mib.ListMibObjectMap.put.Goals as goal
 
 pub invariant_of-self-2 : goal.invariant_of-self-2
 invariant_of-self-2 g c =
