@@ -1,0 +1,3 @@
+-- Lemmas of agent_links, and its definitions computed at examples.
+pub mod ShareLemmas
+mod StandardFacts
