@@ -48,6 +48,6 @@ pub record FactoryState : Type 0 where
 -- the halves of a session past the end of the list: no bytes are left, and no room
 abbrev pub silent_halves : Halves
 silent_halves = (
-    record { left = []; turn = 2 ^ 64 - 1; failing = []; calls = 0; faults = 0 },
-    record { written = []; room = 0; turn = 2 ^ 64 - 1; failing = []; calls = 0; faults = 0 },
-  )
+  record { left = []; turn = 2 ^ 64 - 1; failing = []; calls = 0; faults = 0 },
+  record { written = []; room = 0; turn = 2 ^ 64 - 1; failing = []; calls = 0; faults = 0 },
+)

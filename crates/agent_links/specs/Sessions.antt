@@ -15,7 +15,7 @@ silent = record { given = []; written = [] }
 -- was told before, the bytes of the source, those of the sink, and what is told after.
 abbrev pub Gives : Option (List Session) → Option (List ℕ) → Option (List ℕ) → Option (List Session) → Type 0
 Gives None source sink after = after ≡ None
-Gives (Some []) source sink after = Empty {0}
+Gives (Some []) source sink after = ⊥
 Gives (Some (session ∷ rest)) source sink after =
     (source ≡ Some session.given) × (sink ≡ Some session.written) × (after ≡ Some rest)
 

@@ -1,7 +1,8 @@
 //! Sessions in memory, for tests.
-ghost use Rattle.std.specs.Prelude.{◌≡◌, ◌↔◌, ◌≤◌, [], ◌∷◌, ◌++◌, None, Ok, Some, IfOk, IfSome, OnErr, OnOk, IsErr};
-ghost use Rattle.std.specs.Prelude.{length, map};
+ghost use Rattle.std.specs.Prelude.{◌≡◌, ◌↔◌, ◌+◌, ◌≤◌, [], ◌∷◌, ◌++◌, None, Ok, Some, IfOk, IfSome, OnErr, OnOk, IsErr};
+ghost use Rattle.std.specs.Prelude.{length, map, option_to_list};
 ghost use Rattle.agent_bytes.specs.Faults.{Rose, one_more};
+ghost use Rattle.agent_links.specs.Sessions.{Gives};
 ghost use Rattle.agent_links.specs.Memory.{IsFresh, NextFails, session_of};
 
 use crate::acceptor::Post;
@@ -90,7 +91,36 @@ impl Post for MemPost {
 
     ghost faults = { λ post. post.faults };
 
-    fn next(&mut self) -> Result<Option<(MemSource, MemSink)>, Failed> {
+    #[tactic(auto, using(crate::proofs::SessionLemmas::first_given))]
+    fn next(&mut self) -> Result<Option<(MemSource, MemSink)>, Failed>
+        // It fails exactly where its number is listed and a session is left.
+        ensures fails { IsErr result ↔ NextFails self.old }
+
+        // Each call is counted. A session is the first of those that are left, and a failed call takes none.
+        ensures taken { IfOk result (λ given. self.old.sessions ≡ option_to_list given ++ self.new.sessions) }
+        ensures gave { OnOk result (self.new ≡ record self.old {
+          sessions = self.new.sessions;
+          calls = one_more self.old.calls;
+        }) }
+        ensures refused { OnErr result (self.new ≡ record self.old {
+          calls = one_more self.old.calls;
+          faults = one_more self.old.faults;
+        }) }
+
+        // As every acceptor.
+        ensures given { IfOk result (λ given. IfSome given (λ halves.
+            Gives (Some (map session_of self.old.sessions)) (Some halves.0.left) (Some halves.1.written)
+            (Some (map session_of self.new.sessions)))) }
+        ensures fresh { IfOk result (λ given. IfSome given (λ halves.
+            (halves.0.faults ≡ 0) × (halves.1.faults ≡ 0))) }
+        ensures fewer { IfOk result (λ given. IfSome given (λ _.
+            length self.old.sessions ≡ length self.new.sessions + 1)) }
+        ensures ended { (result ≡ Ok None) ↔ (length self.old.sessions ≡ 0) }
+        ensures none { (result ≡ Ok None) → (length self.new.sessions ≡ 0)
+            × (Some (map session_of self.new.sessions) ≡ Some (map session_of self.old.sessions)) }
+        ensures failed { OnErr result (Rose self.old.faults self.new.faults) }
+        ensures counted { self.old.faults ≤ self.new.faults }
+    {
         let fails = self.failing.contains(&self.calls) && !self.sessions.is_empty();
         self.calls = counted_up(self.calls);
         if fails {

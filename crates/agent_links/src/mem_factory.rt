@@ -1,5 +1,6 @@
 //! Files and sessions in memory, for tests.
 ghost use Rattle.std.specs.Prelude.{◌≡◌, ◌≢◌, ◌≤◌, [], ◌∷◌, ◌++◌, Some, Err, IfOk, OnOk, OnErr, All, map, drop, get_or};
+ghost use Rattle.std.proofs.Common.{ap};
 ghost use Rattle.agent_bytes.specs.Faults.{Rose};
 ghost use Rattle.agent_bytes.specs.Memory.{bytes_named};
 ghost use Rattle.agent_links.specs.Shares.{shared, part, parts};

@@ -1,5 +1,5 @@
 //! Listening on an address of TCP, beside the files of the runtime.
-ghost use Rattle.std.specs.Prelude.{◌≡◌, ◌≢◌, ◌<◌, ◌≤◌, None, Err, IfOk, All, map};
+ghost use Rattle.std.specs.Prelude.{◌≡◌, ◌≢◌, ◌<◌, ◌≤◌, None, Err, IfOk, All, map, refl};
 ghost use Rattle.agent_bytes.specs.Faults.{Rose};
 ghost use Rattle.agent_links.specs.Shares.{shares};
 
@@ -58,7 +58,7 @@ impl<'a, R: rt::Files + Net<Listener = TcpListener, Stream = TcpStream> + Clock>
     /// The same, where a write may move nothing for `seconds`.
     pub fn with_patience(mut self, seconds: u64) -> TcpYard<'a, R>
         requires { 0 < seconds }
-        ensures { result ≡ self }
+        ensures { result ≡ self.entry }
     {
         self.patience = seconds;
         self
@@ -77,6 +77,7 @@ impl<'a, R: rt::Files + Net<Listener = TcpListener, Stream = TcpStream> + Clock>
     }
 
     // An acceptor for each worker, all of one listener.
+    #[tactic(auto, using(crate::proofs::SessionLemmas::all_with_last, crate::proofs::SessionLemmas::map_with_last))]
     fn acceptors(
         &self,
         alloc: Global,
