@@ -36,7 +36,7 @@ pub fn acceptor<'a, R: Files + Net<Listener = TcpListener, Stream = TcpStream> +
 }
 
 /// A peer connects, and its session is given.
-pub fn link<R: Net<Listener = TcpListener, Stream = TcpStream> + Clock + Sync>(
+pub fn next_link<R: Net<Listener = TcpListener, Stream = TcpStream> + Clock + Sync>(
     rt: &R,
     post: &mut TcpPost<'_, R>,
     address: SocketAddr,

@@ -1,6 +1,6 @@
 //! Connections over loopback: what is read and written, how they end, and what a fault of one leaves to the others.
 
-use crate::links::{Link, acceptor, link, peer_gets, read_in_pieces, send_bytes};
+use crate::links::{Link, acceptor, next_link, peer_gets, read_in_pieces, send_bytes};
 use agent_bytes::{Failed, Sink, Source, write_all};
 use agent_links::{Post, TcpIn, TcpOut, TcpPost, TcpYard, Yard, YardRefusal};
 use std::alloc::Global;
@@ -15,9 +15,11 @@ const PATIENCE: u64 = 30;
 const FRAME: &[u8] = b"\0\0\0\x05hello";
 
 #[test]
-fn a_frame_goes_there_in_pieces_and_back_behind_the_peer_s_end(rt: HostRuntime) -> Result<(), Fail> {
+fn a_frame_goes_there_in_pieces_and_back_behind_the_peer_s_end(
+    rt: HostRuntime,
+) -> Result<(), Fail> {
     let (mut post, address) = acceptor(&rt, rt.alloc(), 1, PATIENCE)?;
-    let mut link = link(&rt, &mut post, address)?;
+    let mut link = next_link(&rt, &mut post, address)?;
     send_bytes(&link.peer, FRAME)?;
     link.peer.shutdown(Shutdown::Write)?;
     let frame = read_in_pieces(&mut link.source, rt.alloc())?;
@@ -37,7 +39,7 @@ fn check_answer(rt: &impl Abort, link: &Link) -> Result<(), Fail> {
 #[test]
 fn a_sink_that_ends_ends_its_source_and_its_peer(rt: HostRuntime) -> Result<(), Fail> {
     let (mut post, address) = acceptor(&rt, rt.alloc(), 1, PATIENCE)?;
-    let mut link = link(&rt, &mut post, address)?;
+    let mut link = next_link(&rt, &mut post, address)?;
     link.sink.end();
     check_ended(&rt, &mut link)
 }
@@ -57,12 +59,12 @@ fn a_peer_that_resets_is_a_fault_of_its_link_alone(rt: HostRuntime) -> Result<()
         peer,
         mut source,
         mut sink,
-    } = link(&rt, &mut post, address)?;
+    } = next_link(&rt, &mut post, address)?;
     write_all(&mut sink, FRAME)?;
     // A peer that closes with bytes unread resets the connection.
     drop(peer);
     check_reset(&rt, &mut source, &mut sink);
-    let mut link = link(&rt, &mut post, address)?;
+    let mut link = next_link(&rt, &mut post, address)?;
     assert_eq!(rt; post.faults(), 0);
     write_all(&mut link.sink, FRAME)?;
     check_answer(&rt, &link)
@@ -79,8 +81,8 @@ fn check_reset(rt: &impl Abort, source: &mut TcpIn, sink: &mut TcpOut) {
 #[test]
 fn a_connection_is_let_go_at_the_next_call(rt: HostRuntime) -> Result<(), Fail> {
     let (mut post, address) = acceptor(&rt, rt.alloc(), 2, PATIENCE)?;
-    let mut first = link(&rt, &mut post, address)?;
-    let _second = link(&rt, &mut post, address)?;
+    let mut first = next_link(&rt, &mut post, address)?;
+    let _second = next_link(&rt, &mut post, address)?;
     let mut into = [0u8; 4];
     assert_eq!(rt; peer_gets(&first.peer, &mut into)?, 0);
     check_reset(&rt, &mut first.source, &mut first.sink);
@@ -96,7 +98,7 @@ fn check_used_up<R: Clock + Sync>(rt: &impl Abort, post: &mut TcpPost<'_, R>) {
 #[test]
 fn a_peer_that_never_reads_is_a_fault_of_its_sink(rt: HostRuntime) -> Result<(), Fail> {
     let (mut post, address) = acceptor(&rt, rt.alloc(), 1, 1)?;
-    let mut link = link(&rt, &mut post, address)?;
+    let mut link = next_link(&rt, &mut post, address)?;
     let started = Instant::now(&rt)?;
     assert!(rt; fills_up(&mut link.sink, rt.alloc())?);
     assert!(rt; started.elapsed(&rt)? >= Duration::from_secs(1));
@@ -153,7 +155,7 @@ fn six_hundred_links_come_one_after_another(rt: HostRuntime) -> Result<(), Fail>
             peer,
             source,
             mut sink,
-        } = link(&rt, &mut post, address)?;
+        } = next_link(&rt, &mut post, address)?;
         write_all(&mut sink, FRAME)?;
         let mut answer = [0u8; 16];
         assert_eq!(rt; peer_gets(&peer, &mut answer)?, FRAME.len());

@@ -38,7 +38,12 @@ fn next_told(post: &mut MemPost) -> Result<Option<(usize, u8)>, Failed> {
 fn a_list_is_dealt_in_order_and_ends_in_empty_sessions(rt: HostRuntime) -> Result<(), Fail> {
     let alloc: Global = rt.alloc();
     let mut yard = three_sessions(alloc)?;
-    assert!(rt; matches!(yard.listen(alloc, "anywhere", 5, 2), Err(YardRefusal::Failed)));
+    assert!(rt;
+        matches!(
+            yard.listen(alloc, "anywhere", 5, 2),
+            Err(YardRefusal::Failed)
+        )
+    );
     assert_eq!(rt; yard.faults(), 1);
     let mut posts = yard.listen(alloc, "anywhere", 5, 2)?;
     assert_eq!(rt; posts.len(), 2);
