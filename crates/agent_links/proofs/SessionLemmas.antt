@@ -26,7 +26,8 @@ popped_fresh None before after fresh same = tt
 popped_fresh (Some halves) before after fresh same =
     (subst (λ (all : List Halves). All IsFresh all) same fresh) 0 halves (omega arith)
 
-pub silent_fresh : {E : Type 0} (made : Result Halves E) → IfOk made (λ halves. halves ≡ silent_halves) → IfOk made IsFresh
+pub silent_fresh : {E : Type 0} (made : Result Halves E) → IfOk made (λ halves. halves ≡ silent_halves) →
+    IfOk made IsFresh
 silent_fresh (Ok halves) same = subst (λ (h : Halves). IsFresh h) (sym same) (refl, refl)
 silent_fresh (Err _) same = tt
 

@@ -7,7 +7,7 @@ use Rattle.std.proofs.lemmas.Nat.{div-add-mod'}
 use Rattle.std.proofs.lemmas.List.{map-append}
 use Rattle.std.proofs.Math.Nat.{suc-mul, mul_comm, mod-lt}
 use Rattle.std.proofs.Math.ListN.{get_or-map}
-use Rattle.agent_links.specs.Shares.{share, shared, first_shares, shares, part, first_parts, parts}
+use Rattle.agent_links.specs.Shares.{share, shared, first_shares, part, first_parts, parts}
 use Rattle.agent_links.specs.Sessions.{Session, silent}
 use Rattle.agent_links.specs.ShareLaws.{joined}
 

@@ -1,6 +1,6 @@
 //! Sessions in memory, for tests.
-ghost use Rattle.std.specs.Prelude.{◌≡◌, ◌↔◌, ◌+◌, ◌≤◌, [], ◌∷◌, ◌++◌, None, Ok, Some, IfOk, IfSome, OnErr, OnOk, IsErr};
-ghost use Rattle.std.specs.Prelude.{length, map, option_to_list};
+ghost use Rattle.std.specs.Prelude.{◌≡◌, ◌↔◌, ◌+◌, ◌≤◌, [], ◌∷◌, ◌++◌, None, Ok, Some, IfOk, IfSome, OnErr, OnOk};
+ghost use Rattle.std.specs.Prelude.{IsErr, length, map, option_to_list};
 ghost use Rattle.agent_bytes.specs.Faults.{Rose, one_more};
 ghost use Rattle.agent_links.specs.Sessions.{Gives};
 ghost use Rattle.agent_links.specs.Memory.{IsFresh, NextFails, session_of};

@@ -1,7 +1,8 @@
 use Rattle.std.proofs.Common.{◌≡◌, suc, ◌+◌, All, map, ap, sym, subst, ◌∙◌, arith}
 use Rattle.agent_links.specs.Shares.{shared, first_parts}
 use Rattle.agent_links.specs.Memory.{AcceptorState, silent_halves}
-use Rattle.agent_links.proofs.SessionLemmas.{IsOf, all_with_last, map_with_last, more_taken, part_given, rest_given, without}
+use Rattle.agent_links.proofs.SessionLemmas.{IsOf, all_with_last, map_with_last}
+use Rattle.agent_links.proofs.SessionLemmas.{more_taken, part_given, rest_given, without}
 use Rattle.agent_links.proofs.mem_factory.MemYard.acceptors.Goals as goal
 
 pub loop-worker-preserved : goal.loop-worker-preserved

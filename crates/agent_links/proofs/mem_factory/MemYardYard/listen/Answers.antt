@@ -6,12 +6,14 @@ use Rattle.agent_links.proofs.SessionLemmas.{parts_counted, parts_told, rest_tol
 use Rattle.agent_links.proofs.mem_factory.MemYardYard.listen.Goals as goal
 
 pub returns-in-Ok-clause-shares : goal.returns-in-Ok-clause-shares
-returns-in-Ok-clause-shares c = parts_counted c.in-Ok.posts.items c.self.inside.sessions.items c.args.sessions c.args.workers c.in-Ok.ensures.parts
+returns-in-Ok-clause-shares c =
+    parts_counted c.in-Ok.posts.items c.self.inside.sessions.items c.args.sessions c.args.workers c.in-Ok.ensures.parts
 
 pub returns-in-Ok-clause-dealt : goal.returns-in-Ok-clause-dealt
 returns-in-Ok-clause-dealt c =
     parts_told c.in-Ok.posts.items c.self.inside.sessions.items c.args.sessions c.args.workers c.in-Ok.ensures.parts
-    ∙ ap (λ (yard : FactoryState). told_parts (map session_of yard.sessions) c.args.sessions c.args.workers) c.self.view_is
+    ∙ ap (λ (yard : FactoryState). told_parts (map session_of yard.sessions) c.args.sessions c.args.workers)
+    c.self.view_is
 
 pub returns-in-Ok-clause-rest : goal.returns-in-Ok-clause-rest
 returns-in-Ok-clause-rest c =
