@@ -1,5 +1,7 @@
 //! Links over loopback: an acceptor on a port that the system chooses, peers, and what passes between them.
 
+ghost use Rattle.std.specs.Prelude.{◌<◌};
+
 use agent_bytes::Source;
 use agent_links::{Post, TcpIn, TcpOut, TcpPost, TcpYard, Yard};
 use std::alloc::Global;
