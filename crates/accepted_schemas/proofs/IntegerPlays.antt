@@ -2,7 +2,7 @@
 -- encoding, and where a script is played on its objects, each obeys its templates; nothing is asked of lengths or tags
 -- (X.722, section 8; X.660, clause 7; X.690, section 8; docs/PROFILE.md, sections 2, 3 and 5).
 use Rattle.std.specs.Prelude.{List}
-use Rattle.term_model.specs.Played.{Play}
+use Rattle.agent_model.specs.Played.{Play}
 use Rattle.term_model.specs.declared.objects.NamedObject.{NamedObject}
 use Rattle.term_model.specs.declared.schema.Set.{Set}
 use Rattle.asn1_names.specs.TermViews.{module_terms}

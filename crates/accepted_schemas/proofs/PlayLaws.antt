@@ -1,7 +1,7 @@
 -- PlayLaws: where a script is played on the objects of accepted documents, each object obeys its templates after each
 -- part of the journal (X.722, section 8; docs/PROFILE.md, sections 2, 3 and 5).
 use Rattle.std.specs.Prelude.{◌≡◌, List, true, All}
-use Rattle.term_model.specs.Played.{Play}
+use Rattle.agent_model.specs.Played.{Play}
 use Rattle.term_model.specs.declared.objects.NamedObject.{NamedObject}
 use Rattle.term_model.specs.declared.schema.AttrRec.{AttrRec}
 use Rattle.term_model.specs.declared.schema.Set.{Set}

@@ -28,4 +28,11 @@ pub trait Sink {
         ensures failed { OnErr result (Rose (faults self.old) (faults self.new)) }
         ensures quiet { OnOk result (faults self.new ≡ faults self.old) }
         ensures counted { faults self.old ≤ faults self.new };
+
+    /// Says that nothing more is written. A sink that is one half of a connection ends both halves: a read that waits
+    /// on the other one comes back. The bytes that were written, and the count, stay as they are.
+    fn end(&mut self)
+        ensures stays { contents self.new ≡ contents self.old }
+        ensures uncounted { faults self.new ≡ faults self.old }
+    {}
 }

@@ -5,11 +5,11 @@ use Rattle.std.specs.Prelude.{ℤ, ◌==◌, slice_get, slice_set, if◌then◌e
 use Rattle.std.specs.Option.{option_map_or}
 use Rattle.std.proofs.lemmas.List.{append-nil}
 use Rattle.std.proofs.lemmas.Option.{same_Some}
-use Rattle.term_model.specs.declared.agent_state.AgentState.{AgentState}
-use Rattle.term_model.specs.declared.agent_state.Association.{Association}
-use Rattle.term_model.specs.declared.agent_state.AssociationState.{AssociationState}
-use Rattle.term_model.specs.AgentState.{association_of, numbered}
-use Rattle.term_model.specs.Step.{changed_association, with_placed, with_state, with_taken}
+use Rattle.agent_model.specs.declared.agent_state.AgentState.{AgentState}
+use Rattle.agent_model.specs.declared.agent_state.Association.{Association}
+use Rattle.agent_model.specs.declared.agent_state.AssociationState.{AssociationState}
+use Rattle.agent_model.specs.AgentState.{association_of, numbered}
+use Rattle.agent_model.specs.Step.{changed_association, with_placed, with_state, with_taken}
 use Rattle.agent_model.specs.Performing.{with_own}
 
 -- a list of octets begins another

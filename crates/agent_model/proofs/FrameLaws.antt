@@ -5,16 +5,16 @@ use Rattle.std.specs.Prelude.{Ok, ◌==◌, if◌then◌else◌}
 use Rattle.std.proofs.lemmas.Bool.{cases_Bool}
 use Rattle.std.proofs.lemmas.List.{append-nil, length-append}
 use Rattle.std.proofs.lemmas.List.Elements.{filter_map-append}
-use Rattle.term_model.specs.declared.agent_state.AgentState.{AgentState}
-use Rattle.term_model.specs.declared.agent_state.Association.{Association}
-use Rattle.term_model.specs.declared.agent_state.Operation.{Operation}
-use Rattle.term_model.specs.declared.entry.Entry.{Entry}
-use Rattle.term_model.specs.declared.entry.Entry.TheVariants as entry
-use Rattle.term_model.specs.Bind.{bind_answer, title_in}
-use Rattle.term_model.specs.History.{brought, came}
-use Rattle.term_model.specs.Played.{Play}
+use Rattle.agent_model.specs.declared.agent_state.AgentState.{AgentState}
+use Rattle.agent_model.specs.declared.agent_state.Association.{Association}
+use Rattle.agent_model.specs.declared.agent_state.Operation.{Operation}
+use Rattle.agent_model.specs.declared.entry.Entry.{Entry}
+use Rattle.agent_model.specs.declared.entry.Entry.TheVariants as entry
+use Rattle.agent_model.specs.Bind.{bind_answer, title_in}
+use Rattle.agent_model.specs.History.{brought, came}
+use Rattle.agent_model.specs.Played.{Play}
 use Rattle.term_model.specs.RemoteOperation.{frame}
-use Rattle.term_model.specs.Step.{changed_association, is_legal}
+use Rattle.agent_model.specs.Step.{changed_association, is_legal}
 use Rattle.agent_model.specs.declared.script_line.ScriptLine.{ScriptLine}
 use Rattle.agent_model.specs.declared.script_line.ScriptLine.TheVariants as line
 use Rattle.agent_model.specs.Binding.{answer_to, associated}
@@ -52,9 +52,11 @@ step_count agent next none =
 opens_none : (next : Entry) → BringsNone next → OpensNone next
 opens_none (entry.Opened number bind) none = absurd none
 opens_none (entry.Arrived number apdu) none = absurd none
+opens_none (entry.Begun number log) none = tt
 opens_none (entry.Granted number moment) none = tt
 opens_none (entry.Committed number) none = tt
 opens_none (entry.Taken number count) none = tt
+opens_none (entry.Starved number) none = tt
 opens_none (entry.Finished number) none = tt
 opens_none (entry.Closed number cause) none = tt
 
@@ -78,9 +80,11 @@ came_more number journal next = filter_map-append (brought number) journal (next
 came_none : (number : ℕ) (next : Entry) → BringsNone next → came number (next ∷ []) ≡ []
 came_none number (entry.Opened a bind) none = absurd none
 came_none number (entry.Arrived a apdu) none = absurd none
+came_none number (entry.Begun a log) none = refl
 came_none number (entry.Granted a moment) none = refl
 came_none number (entry.Committed a) none = refl
 came_none number (entry.Taken a count) none = refl
+came_none number (entry.Starved a) none = refl
 came_none number (entry.Finished a) none = refl
 came_none number (entry.Closed a cause) none = refl
 

@@ -6,30 +6,30 @@ use Rattle.std.proofs.Common.{◌≡◌, ℕ, zero, suc, ◌+◌, Bool, true, fa
 use Rattle.std.proofs.Common.{Some, None, refl, ◌∙◌}
 use Rattle.std.specs.Prelude.{ℤ, map, nat_lt, position, slice_get, if◌then◌else◌}
 use Rattle.std.specs.Option.{option_map_or}
-use Rattle.term_model.specs.declared.agent_state.AgentState.{AgentState}
-use Rattle.term_model.specs.declared.agent_state.Association.{Association}
-use Rattle.term_model.specs.declared.agent_state.AssociationState.{AssociationState}
-use Rattle.term_model.specs.declared.agent_state.AssociationState.TheVariants as standing
-use Rattle.term_model.specs.declared.agent_state.Operation.{Operation}
-use Rattle.term_model.specs.declared.agent_state.OperationState.TheVariants as operation
-use Rattle.term_model.specs.declared.agent_state.Work.{Work}
-use Rattle.term_model.specs.declared.agent_state.Work.TheVariants as work
-use Rattle.term_model.specs.declared.entry.Entry.{Entry}
-use Rattle.term_model.specs.declared.entry.Entry.TheVariants as entry
+use Rattle.agent_model.specs.declared.agent_state.AgentState.{AgentState}
+use Rattle.agent_model.specs.declared.agent_state.Association.{Association}
+use Rattle.agent_model.specs.declared.agent_state.AssociationState.{AssociationState}
+use Rattle.agent_model.specs.declared.agent_state.AssociationState.TheVariants as standing
+use Rattle.agent_model.specs.declared.agent_state.Operation.{Operation}
+use Rattle.agent_model.specs.declared.agent_state.OperationState.TheVariants as operation
+use Rattle.agent_model.specs.declared.agent_state.Work.{Work}
+use Rattle.agent_model.specs.declared.agent_state.Work.TheVariants as work
+use Rattle.agent_model.specs.declared.entry.Entry.{Entry}
+use Rattle.agent_model.specs.declared.entry.Entry.TheVariants as entry
 use Rattle.term_model.specs.declared.objects.NamedObject.{NamedObject}
 use Rattle.term_model.specs.declared.reply.Reply.{Reply}
 use Rattle.term_model.specs.declared.request.Request.{Request}
-use Rattle.term_model.specs.AgentState.{association_of, granted_moment, left_to_take, operation_of}
+use Rattle.agent_model.specs.AgentState.{association_of, granted_moment, left_to_take, operation_of}
 use Rattle.term_model.specs.Arriving.{Arriving}
 use Rattle.term_model.specs.Arriving.Arriving.{Rejected, Cancels, NoEffect, Queued}
-use Rattle.term_model.specs.Step.{changed_association, changed_operation, ended, ended_with, is_get}
-use Rattle.term_model.specs.Step.{is_outstanding_as, queued, with_placed, with_state, with_taken}
+use Rattle.agent_model.specs.Step.{begun, changed_association, changed_operation, ended, ended_with, is_get}
+use Rattle.agent_model.specs.Step.{is_outstanding_as, queued, with_placed, with_state, with_taken}
 use Rattle.operation_model.specs.WholeOperation.{Outcome, outcome}
 use Rattle.agent_model.specs.Performing.{Done, answering, carried_out, concluding, frames_to, is_confirmed}
 use Rattle.agent_model.specs.Performing.{nothing_sent, sending, with_own}
 use Rattle.agent_model.specs.Placing.{Sent, bytes_for, placed, placed_for, placed_from, placed_within}
 use Rattle.agent_model.specs.Receiving.{received}
-use Rattle.agent_model.specs.Stepping.{cancelled_at, cancelled_where, effect, performing, taken_in}
+use Rattle.agent_model.specs.Stepping.{cancelled_at, cancelled_where, effect, performing, starving, taken_in}
 use Rattle.agent_model.proofs.BeginningLaws.{Grows, own_grows, placed_grows, state_grows, taken_grows}
 
 -- an entry that opens no association
@@ -123,14 +123,22 @@ module _ (Keeps : AgentState → AgentState → Type 0) (itself : (agent : Agent
   taken_in_keeps agent number (Queued invocation) =
       by_operations agent (agent.operations ++ queued number invocation ∷ [])
 
+  starved_keeps : (agent : AgentState) (number : ℕ) (w : Work) → Keeps agent (starving agent number w).agent
+  starved_keeps agent number (work.Asked asker invoke asked) = ended_keeps agent number
+  starved_keeps agent number (work.Append log own) = ended_keeps agent number
+
   -- entries that neither open nor commit
   pub plain_keeps : (agent : AgentState) (next : Entry) → OpensNone next → CommitsNone next
       → Keeps agent (effect agent next).agent
   plain_keeps agent (entry.Opened number bind) none done = absurd none
   plain_keeps agent (entry.Arrived number apdu) none done = taken_in_keeps agent number (received agent number apdu)
+  plain_keeps agent (entry.Begun number log) none done = by_operations agent (agent.operations ++ begun log ∷ [])
   plain_keeps agent (entry.Granted number moment) none done =
       by_operations agent (changed_operation agent.operations number (operation.Granted moment))
   plain_keeps agent (entry.Committed number) none done = absurd done
+  plain_keeps agent (entry.Starved number) none done =
+      where_done (λ (o : Operation). starving agent number o.work) (operation_of agent number) agent
+      (λ o. starved_keeps agent number o.work)
   plain_keeps agent (entry.Taken number count) none done =
       by_association agent number (with_taken count) (taken_grows count)
   plain_keeps agent (entry.Finished number) none done =

@@ -6,15 +6,15 @@ use Rattle.std.specs.Option.{option_map_or}
 use Rattle.std.proofs.lemmas.Bool.{cases_Bool, eqb-true, eqb-false, ltb-true, ltb-false, ne_eqb, eq-eqb}
 use Rattle.std.proofs.lemmas.List.{append-nil, length-set}
 use Rattle.std.proofs.lemmas.Option.{same_Some, slice_get_past}
-use Rattle.term_model.specs.declared.agent_state.AgentState.{AgentState}
-use Rattle.term_model.specs.declared.agent_state.Association.{Association}
-use Rattle.term_model.specs.declared.agent_state.Operation.{Operation}
-use Rattle.term_model.specs.declared.agent_state.AssociationState.TheVariants as standing
-use Rattle.term_model.specs.declared.agent_state.OperationState.{OperationState}
-use Rattle.term_model.specs.declared.agent_state.OperationState.TheVariants as operation
-use Rattle.term_model.specs.AgentState.{association_of, is_outstanding, left_to_take, numbered}
-use Rattle.term_model.specs.Step.{changed_association, ended_with, with_placed, with_state}
-use Rattle.term_model.proofs.StepLaws.{changed_association_at, stands_from_some}
+use Rattle.agent_model.specs.declared.agent_state.AgentState.{AgentState}
+use Rattle.agent_model.specs.declared.agent_state.Association.{Association}
+use Rattle.agent_model.specs.declared.agent_state.Operation.{Operation}
+use Rattle.agent_model.specs.declared.agent_state.AssociationState.TheVariants as standing
+use Rattle.agent_model.specs.declared.agent_state.OperationState.{OperationState}
+use Rattle.agent_model.specs.declared.agent_state.OperationState.TheVariants as operation
+use Rattle.agent_model.specs.AgentState.{association_of, is_outstanding, left_to_take, numbered}
+use Rattle.agent_model.specs.Step.{changed_association, ended_with, with_placed, with_state}
+use Rattle.agent_model.proofs.StandingLaws.{changed_association_at, stands_from_some}
 use Rattle.agent_model.specs.Placing.{Sent, bytes_for, overrun, placed, placed_for, placed_from, placed_within}
 
 -- where nothing is sent, nothing is placed

@@ -8,16 +8,16 @@ use Rattle.term_values.specs.Moment.{date_from, date_in_year, moment_text}
 use Rattle.term_values.specs.Octets.{integer_contents, integer_in}
 use Rattle.term_values.specs.Oid.{oid_in, subidentifier}
 use Rattle.term_values.specs.Typed.TypedValue.{Int}
-use Rattle.term_model.specs.declared.agent_state.AgentState.{AgentState}
-use Rattle.term_model.specs.declared.agent_state.Association.{Association}
-use Rattle.term_model.specs.declared.entry.Entry.{Entry}
-use Rattle.term_model.specs.declared.entry.Entry.TheVariants as entry
-use Rattle.term_model.specs.declared.entry.Why.TheVariants as why
+use Rattle.agent_model.specs.declared.agent_state.AgentState.{AgentState}
+use Rattle.agent_model.specs.declared.agent_state.Association.{Association}
+use Rattle.agent_model.specs.declared.entry.Entry.{Entry}
+use Rattle.agent_model.specs.declared.entry.Entry.TheVariants as entry
+use Rattle.agent_model.specs.declared.entry.Why.TheVariants as why
 use Rattle.term_model.specs.declared.name.Rdn.{Rdn}
 use Rattle.term_model.specs.declared.objects.NamedObject.{NamedObject}
-use Rattle.term_model.specs.AgentLimits.{shipped}
-use Rattle.term_model.specs.AgentState.{association_of}
-use Rattle.term_model.specs.Played.{Play}
+use Rattle.agent_model.specs.AgentLimits.{shipped}
+use Rattle.agent_model.specs.AgentState.{association_of}
+use Rattle.agent_model.specs.Played.{Play}
 use Rattle.term_model.specs.SentApdus.{sent_reply}
 use Rattle.term_model.proofs.ExampleNetwork.{element, id_oid, load_value, network}
 use Rattle.agent_model.specs.declared.script_line.ScriptLine.{ScriptLine}

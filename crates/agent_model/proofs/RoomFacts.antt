@@ -6,12 +6,12 @@ use Rattle.term_values.specs.BerReading.{front_of, identifier_of, length_at}
 use Rattle.term_values.specs.Der.{identifier_octets, length_octets}
 use Rattle.term_values.specs.Octets.{integer_contents}
 use Rattle.term_values.specs.Oid.{oid_in, subidentifier}
-use Rattle.term_model.specs.declared.agent_state.AgentState.{AgentState}
-use Rattle.term_model.specs.declared.agent_state.OperationState.TheVariants as operation
-use Rattle.term_model.specs.declared.entry.Entry.{Entry}
-use Rattle.term_model.specs.declared.entry.Entry.TheVariants as entry
-use Rattle.term_model.specs.declared.entry.Why.TheVariants as why
-use Rattle.term_model.specs.AgentLimits.{shipped}
+use Rattle.agent_model.specs.declared.agent_state.AgentState.{AgentState}
+use Rattle.agent_model.specs.declared.agent_state.OperationState.TheVariants as operation
+use Rattle.agent_model.specs.declared.entry.Entry.{Entry}
+use Rattle.agent_model.specs.declared.entry.Entry.TheVariants as entry
+use Rattle.agent_model.specs.declared.entry.Why.TheVariants as why
+use Rattle.agent_model.specs.AgentLimits.{shipped}
 use Rattle.term_model.proofs.ExampleNetwork.{network}
 use Rattle.agent_model.specs.JournalRoom.{IsFilled, is_refused_behind, reserved, reserved_by_operation}
 use Rattle.agent_model.specs.Journals.{replayed}

@@ -2,8 +2,8 @@
 use Rattle.std.proofs.Common.{◌≡◌, true, false, List, [], ◌∷◌, ◌++◌, refl, sym, ap, ◌∙◌}
 use Rattle.std.proofs.lemmas.Bool.{false≢true}
 use Rattle.std.proofs.lemmas.List.{append_assoc}
-use Rattle.term_model.specs.declared.agent_state.AgentState.{AgentState}
-use Rattle.term_model.specs.declared.entry.Entry.{Entry}
+use Rattle.agent_model.specs.declared.agent_state.AgentState.{AgentState}
+use Rattle.agent_model.specs.declared.entry.Entry.{Entry}
 use Rattle.agent_model.specs.JournalLaws.{FilledOnce}
 use Rattle.agent_model.specs.JournalRoom.{HasRoom, IsFilled, is_refused_behind}
 

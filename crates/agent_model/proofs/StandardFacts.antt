@@ -5,19 +5,19 @@ use Rattle.term_values.specs.BerReading.{front_of, identifier_of, length_at}
 use Rattle.term_values.specs.Der.{identifier_octets, length_octets}
 use Rattle.term_values.specs.Octets.{integer_contents, integer_in}
 use Rattle.term_values.specs.Oid.{oid_in, subidentifier}
-use Rattle.term_model.specs.declared.agent_state.AgentState.{AgentState}
-use Rattle.term_model.specs.declared.agent_state.Association.{Association}
-use Rattle.term_model.specs.declared.agent_state.AssociationState.TheVariants as association
-use Rattle.term_model.specs.declared.agent_state.Operation.{Operation}
-use Rattle.term_model.specs.declared.agent_state.OperationState.TheVariants as operation
-use Rattle.term_model.specs.declared.agent_state.Work.TheVariants as work
-use Rattle.term_model.specs.declared.entry.Entry.TheVariants as entry
-use Rattle.term_model.specs.declared.entry.Why.TheVariants as why
+use Rattle.agent_model.specs.declared.agent_state.AgentState.{AgentState}
+use Rattle.agent_model.specs.declared.agent_state.Association.{Association}
+use Rattle.agent_model.specs.declared.agent_state.AssociationState.TheVariants as association
+use Rattle.agent_model.specs.declared.agent_state.Operation.{Operation}
+use Rattle.agent_model.specs.declared.agent_state.OperationState.TheVariants as operation
+use Rattle.agent_model.specs.declared.agent_state.Work.TheVariants as work
+use Rattle.agent_model.specs.declared.entry.Entry.TheVariants as entry
+use Rattle.agent_model.specs.declared.entry.Why.TheVariants as why
 use Rattle.term_model.specs.declared.request.IdRef.TheVariants.{Global}
 use Rattle.term_model.specs.declared.request.Named.TheVariants as named
 use Rattle.term_model.specs.declared.request.Request.{Request}
 use Rattle.term_model.specs.declared.request.Request.TheVariants as request
-use Rattle.term_model.specs.AgentLimits.{shipped}
+use Rattle.agent_model.specs.AgentLimits.{shipped}
 use Rattle.term_model.specs.Arriving.{Arriving}
 use Rattle.term_model.specs.Arriving.Arriving.{NoEffect}
 use Rattle.term_model.specs.GetRequest.{get_request, head_alone}

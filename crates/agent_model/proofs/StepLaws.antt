@@ -4,30 +4,30 @@ use Rattle.std.proofs.Common.{refl, ap, ◌∙◌, arith}
 use Rattle.std.specs.Prelude.{ℤ, ◌&&◌, ◌==◌, if◌then◌else◌, is_some, map, nat_le, option_and_then, position, slice_get}
 use Rattle.std.specs.Option.{option_map_or}
 use Rattle.std.proofs.lemmas.Bool.{and_parts, eq-eqb, eqb-true, le-leb}
-use Rattle.term_model.specs.declared.agent_state.AgentState.{AgentState}
-use Rattle.term_model.specs.declared.agent_state.Association.{Association}
-use Rattle.term_model.specs.declared.agent_state.AssociationState.TheVariants as standing
-use Rattle.term_model.specs.declared.agent_state.Operation.{Operation}
-use Rattle.term_model.specs.declared.agent_state.OperationState.TheVariants as operation
-use Rattle.term_model.specs.declared.agent_state.Work.TheVariants as work
-use Rattle.term_model.specs.declared.entry.Entry.{Entry}
-use Rattle.term_model.specs.declared.entry.Entry.TheVariants as entry
-use Rattle.term_model.specs.declared.entry.Why.{Why}
-use Rattle.term_model.specs.declared.entry.Why.TheVariants as why
+use Rattle.agent_model.specs.declared.agent_state.AgentState.{AgentState}
+use Rattle.agent_model.specs.declared.agent_state.Association.{Association}
+use Rattle.agent_model.specs.declared.agent_state.AssociationState.TheVariants as standing
+use Rattle.agent_model.specs.declared.agent_state.Operation.{Operation}
+use Rattle.agent_model.specs.declared.agent_state.OperationState.TheVariants as operation
+use Rattle.agent_model.specs.declared.agent_state.Work.TheVariants as work
+use Rattle.agent_model.specs.declared.entry.Entry.{Entry}
+use Rattle.agent_model.specs.declared.entry.Entry.TheVariants as entry
+use Rattle.agent_model.specs.declared.entry.Why.{Why}
+use Rattle.agent_model.specs.declared.entry.Why.TheVariants as why
 use Rattle.term_model.specs.declared.objects.NamedObject.{NamedObject}
 use Rattle.term_model.specs.declared.request.Invocation.{Invocation}
 use Rattle.term_model.specs.declared.request.Request.{Request}
-use Rattle.term_model.specs.AgentState.{association_of, granted_moment, is_finished_state, is_waiting_state}
-use Rattle.term_model.specs.AgentState.{left_to_take, numbered}
-use Rattle.term_model.specs.AgentState.{operation_of, outstanding}
+use Rattle.agent_model.specs.AgentState.{association_of, granted_moment, is_finished_state, is_waiting_state}
+use Rattle.agent_model.specs.AgentState.{left_to_take, numbered}
+use Rattle.agent_model.specs.AgentState.{operation_of, outstanding}
 use Rattle.term_model.specs.Arriving.Arriving.{Rejected, Cancels, NoEffect, Queued}
-use Rattle.term_model.specs.Bind.{bind_answer, title_in}
+use Rattle.agent_model.specs.Bind.{bind_answer, title_in}
 use Rattle.term_model.specs.RemoteOperation.{frame, integer}
 use Rattle.term_model.specs.SentApdus.{sent_reject}
-use Rattle.term_model.specs.Step.{changed_association, changed_operation, counted, ended, ended_with, is_get, is_legal}
-use Rattle.term_model.specs.Step.{is_outstanding_as, last_moment, may_close, may_take, mistyped_operation}
-use Rattle.term_model.specs.Step.{no_such_invoke_id, queued, with_state, with_taken}
-use Rattle.term_model.proofs.StepLaws.{changed_operation_at, ground_of, none_ended, numbered_set, stands_where_passed}
+use Rattle.agent_model.specs.Step.{changed_association, changed_operation, counted, ended, ended_with, is_get, is_legal}
+use Rattle.agent_model.specs.Step.{is_outstanding_as, last_moment, may_close, may_take, mistyped_operation}
+use Rattle.agent_model.specs.Step.{no_such_invoke_id, queued, with_state, with_taken}
+use Rattle.agent_model.proofs.StandingLaws.{changed_operation_at, ground_of, none_ended, numbered_set, stands_where_passed}
 use Rattle.operation_model.specs.WholeOperation.{Outcome, outcome}
 use Rattle.agent_model.specs.Binding.{answer_to, associated}
 use Rattle.agent_model.specs.Performing.{frames_to, is_confirmed, nothing_sent, with_own}

@@ -2,10 +2,10 @@
 -- the journal of a script comes to its agent and has the script's frames, and a journal is filled in one way;
 -- docs/PROFILE.md, section 7.
 use Rattle.std.specs.Prelude.{◌≡◌, ℕ, ◌&&◌, List, [], ◌++◌, Ok}
-use Rattle.term_model.specs.declared.agent_state.AgentState.{AgentState}
-use Rattle.term_model.specs.declared.entry.Entry.{Entry}
-use Rattle.term_model.specs.History.{came}
-use Rattle.term_model.specs.Played.{Play}
+use Rattle.agent_model.specs.declared.agent_state.AgentState.{AgentState}
+use Rattle.agent_model.specs.declared.entry.Entry.{Entry}
+use Rattle.agent_model.specs.History.{came}
+use Rattle.agent_model.specs.Played.{Play}
 use Rattle.agent_model.specs.declared.script_line.ScriptLine.{ScriptLine}
 use Rattle.agent_model.specs.JournalRoom.{HasRoom, IsFilled}
 use Rattle.agent_model.specs.Journals.{is_legal_journal, out, replayed}

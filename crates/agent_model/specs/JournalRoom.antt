@@ -2,16 +2,16 @@
 -- its limits of entries and of octets of its text, and the part of a journal before the first of these; docs/PROFILE.md,
 -- section 7.
 use Rattle.std.specs.Prelude.{◌≡◌, ℕ, ◌+◌, ◌-◌, ◌*◌, ◌&&◌, ◌||◌, Bool, true, false, List, ◌∷◌, ◌++◌, length, nat_lt, sum_by}
-use Rattle.term_model.specs.declared.agent_state.AgentState.{AgentState}
-use Rattle.term_model.specs.declared.agent_state.Association.{Association}
-use Rattle.term_model.specs.declared.agent_state.AssociationState.{AssociationState}
-use Rattle.term_model.specs.declared.agent_state.AssociationState.TheVariants as association
-use Rattle.term_model.specs.declared.agent_state.Operation.{Operation}
-use Rattle.term_model.specs.declared.agent_state.OperationState.{OperationState}
-use Rattle.term_model.specs.declared.agent_state.OperationState.TheVariants as operation
-use Rattle.term_model.specs.declared.entry.Entry.{Entry}
-use Rattle.term_model.specs.declared.entry.Entry.TheVariants as entry
-use Rattle.term_model.specs.Texts.{journal_text, line}
+use Rattle.agent_model.specs.declared.agent_state.AgentState.{AgentState}
+use Rattle.agent_model.specs.declared.agent_state.Association.{Association}
+use Rattle.agent_model.specs.declared.agent_state.AssociationState.{AssociationState}
+use Rattle.agent_model.specs.declared.agent_state.AssociationState.TheVariants as association
+use Rattle.agent_model.specs.declared.agent_state.Operation.{Operation}
+use Rattle.agent_model.specs.declared.agent_state.OperationState.{OperationState}
+use Rattle.agent_model.specs.declared.agent_state.OperationState.TheVariants as operation
+use Rattle.agent_model.specs.declared.entry.Entry.{Entry}
+use Rattle.agent_model.specs.declared.entry.Entry.TheVariants as entry
+use Rattle.agent_model.specs.Texts.{journal_text, line}
 use Rattle.agent_model.specs.Journals.{replayed}
 
 -- the entries that are still to come of an association: it is finished and closed
@@ -37,14 +37,17 @@ reserved_by_operations operations = sum_by (λ (o : Operation). reserved_by_oper
 abbrev pub reserved : AgentState → ℕ
 reserved agent = reserved_by_associations agent.associations + reserved_by_operations agent.operations
 
--- the places that an entry asks for: its own, and of an opening and of an arrival the two that are reserved for an
--- association or an operation, also where there comes to be none; all other entries stand in places reserved for them
+-- the places that an entry asks for: its own, and of an opening, of an arrival and of an append that begins the two that
+-- are reserved for an association or an operation, also where there comes to be none; all other entries stand in places
+-- reserved for them
 abbrev pub places_asked : Entry → ℕ
 places_asked (entry.Opened number bind) = 3
 places_asked (entry.Arrived number apdu) = 3
 places_asked (entry.Taken number count) = 1
+places_asked (entry.Begun number log) = 3
 places_asked (entry.Granted number moment) = 0
 places_asked (entry.Committed number) = 0
+places_asked (entry.Starved number) = 0
 places_asked (entry.Finished number) = 0
 places_asked (entry.Closed number cause) = 0
 

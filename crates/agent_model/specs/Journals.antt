@@ -2,11 +2,11 @@
 -- of term_model; docs/PROFILE.md, section 7.
 use Rattle.std.specs.Prelude.{ℕ, ◌&&◌, Bool, true, List, [], ◌∷◌}
 use Rattle.std.specs.Option.{option_map_or}
-use Rattle.term_model.specs.declared.agent_state.AgentState.{AgentState}
-use Rattle.term_model.specs.declared.agent_state.Association.{Association}
-use Rattle.term_model.specs.declared.entry.Entry.{Entry}
-use Rattle.term_model.specs.AgentState.{association_of}
-use Rattle.term_model.specs.Step.{is_legal}
+use Rattle.agent_model.specs.declared.agent_state.AgentState.{AgentState}
+use Rattle.agent_model.specs.declared.agent_state.Association.{Association}
+use Rattle.agent_model.specs.declared.entry.Entry.{Entry}
+use Rattle.agent_model.specs.AgentState.{association_of}
+use Rattle.agent_model.specs.Step.{is_legal}
 use Rattle.agent_model.specs.Stepping.{step}
 
 -- the agent after a journal

@@ -1,11 +1,21 @@
 -- The definitions that the contracts of this crate cite.
+pub mod AgentLimits
+pub mod AgentState
+pub mod Bind
 pub mod Binding
+pub mod History
 pub mod JournalLaws
 pub mod JournalRoom
 pub mod Journals
+pub mod LogNames
 pub mod Performing
 pub mod Placing
+pub mod Played
 pub mod Playing
 pub mod Receiving
+pub mod Settled
 pub mod Starting
+pub mod Step
 pub mod Stepping
+pub mod TextLaws
+pub mod Texts

@@ -2,16 +2,16 @@
 -- m-Set, and nothing for other requests; no append is begun.
 use Rattle.std.specs.Prelude.{ℕ, ℤ, List, [], ◌∷◌, Bool, true, if◌then◌else◌}
 use Rattle.std.specs.Option.{option_map_or}
-use Rattle.term_model.specs.declared.agent_state.AgentState.{AgentState}
-use Rattle.term_model.specs.declared.agent_state.Association.{Association}
-use Rattle.term_model.specs.declared.agent_state.Work.{Work}
-use Rattle.term_model.specs.declared.agent_state.Work.TheVariants as work
+use Rattle.agent_model.specs.declared.agent_state.AgentState.{AgentState}
+use Rattle.agent_model.specs.declared.agent_state.Association.{Association}
+use Rattle.agent_model.specs.declared.agent_state.Work.{Work}
+use Rattle.agent_model.specs.declared.agent_state.Work.TheVariants as work
 use Rattle.term_model.specs.declared.reply.Reply.{Reply}
 use Rattle.term_model.specs.declared.request.Request.{Request}
 use Rattle.term_model.specs.declared.request.Request.TheVariants as request
-use Rattle.term_model.specs.AgentState.{association_of}
+use Rattle.agent_model.specs.AgentState.{association_of}
 use Rattle.term_model.specs.Operation.{Replied, operation_number, replied}
-use Rattle.term_model.specs.Step.{changed_association}
+use Rattle.agent_model.specs.Step.{changed_association}
 use Rattle.operation_model.specs.WholeOperation.{Outcome, outcome}
 use Rattle.agent_model.specs.Placing.{Sent}
 

@@ -2,11 +2,11 @@
 -- have, none of the step's bytes are placed for it, and it is closed; docs/PROFILE.md, section 7.
 use Rattle.std.specs.Prelude.{ℕ, zero, suc, ◌+◌, ◌==◌, List, [], ◌∷◌, ◌++◌, length, map, nat_lt, if◌then◌else◌}
 use Rattle.std.specs.Option.{option_map_or}
-use Rattle.term_model.specs.declared.agent_state.AgentState.{AgentState}
-use Rattle.term_model.specs.declared.agent_state.Association.{Association}
-use Rattle.term_model.specs.declared.agent_state.AssociationState.TheVariants.{Overrun}
-use Rattle.term_model.specs.AgentState.{association_of, left_to_take}
-use Rattle.term_model.specs.Step.{changed_association, ended_with, with_placed, with_state}
+use Rattle.agent_model.specs.declared.agent_state.AgentState.{AgentState}
+use Rattle.agent_model.specs.declared.agent_state.Association.{Association}
+use Rattle.agent_model.specs.declared.agent_state.AssociationState.TheVariants.{Overrun}
+use Rattle.agent_model.specs.AgentState.{association_of, left_to_take}
+use Rattle.agent_model.specs.Step.{changed_association, ended_with, with_placed, with_state}
 
 -- bytes for the associations under these numbers, in their order
 abbrev pub Sent : Type 0

@@ -4,16 +4,16 @@
 use Rattle.std.specs.Prelude.{ℕ, zero, suc, ◌+◌, ◌==◌, List, [], ◌∷◌, ◌++◌, Bool, true, false, length, min, nat_lt, is_some}
 use Rattle.std.specs.Prelude.{Result, Ok, Err, if◌then◌else◌}
 use Rattle.std.specs.Option.{option_map_or}
-use Rattle.term_model.specs.declared.agent_state.AgentState.{AgentState}
-use Rattle.term_model.specs.declared.agent_state.Association.{Association}
-use Rattle.term_model.specs.declared.entry.Entry.{Entry}
-use Rattle.term_model.specs.declared.entry.Entry.TheVariants as entry
-use Rattle.term_model.specs.declared.entry.Why.TheVariants as why
+use Rattle.agent_model.specs.declared.agent_state.AgentState.{AgentState}
+use Rattle.agent_model.specs.declared.agent_state.Association.{Association}
+use Rattle.agent_model.specs.declared.entry.Entry.{Entry}
+use Rattle.agent_model.specs.declared.entry.Entry.TheVariants as entry
+use Rattle.agent_model.specs.declared.entry.Why.TheVariants as why
 use Rattle.agent_model.specs.declared.script_line.ScriptLine.{ScriptLine}
 use Rattle.agent_model.specs.declared.script_line.ScriptLine.TheVariants as line
-use Rattle.term_model.specs.AgentState.{association_of, left_to_take, is_live_state, is_closed_state}
-use Rattle.term_model.specs.Played.{Play}
-use Rattle.term_model.specs.Step.{last_moment}
+use Rattle.agent_model.specs.AgentState.{association_of, left_to_take, is_live_state, is_closed_state}
+use Rattle.agent_model.specs.Played.{Play}
+use Rattle.agent_model.specs.Step.{last_moment}
 use Rattle.agent_model.specs.Stepping.{step}
 
 abbrev pub with_entry : Play → Entry → Play

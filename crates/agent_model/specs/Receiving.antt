@@ -8,7 +8,7 @@ use Rattle.std.specs.Option.{option_map, option_map_or}
 use Rattle.std.specs.Ordering.{int_eq}
 use Rattle.term_values.specs.BerReading.{tree_in}
 use Rattle.term_values.specs.Tree.{TreeValue}
-use Rattle.term_model.specs.declared.agent_state.AgentState.{AgentState}
+use Rattle.agent_model.specs.declared.agent_state.AgentState.{AgentState}
 use Rattle.term_model.specs.declared.apdu.Apdu.{Apdu}
 use Rattle.term_model.specs.declared.apdu.Apdu.TheVariants as apdus
 use Rattle.term_model.specs.declared.request.Request.{Request}
@@ -17,7 +17,7 @@ use Rattle.term_model.specs.ApduReading.{apdu_of, is_recognised}
 use Rattle.term_model.specs.Arriving.{Arriving}
 use Rattle.term_model.specs.Arriving.Arriving.{Rejected, Cancels, NoEffect, Queued}
 use Rattle.term_model.specs.RequestReading.{cancelled_in, request_in}
-use Rattle.term_model.specs.Step.{is_outstanding_as}
+use Rattle.agent_model.specs.Step.{is_outstanding_as}
 
 -- general problems, of what has no invoke id
 abbrev pub unrecognised_apdu : Arriving

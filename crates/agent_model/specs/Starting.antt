@@ -1,7 +1,7 @@
 -- Starting: the agent before any entry; docs/PROFILE.md, section 7.
 use Rattle.std.specs.Prelude.{List, []}
-use Rattle.term_model.specs.declared.agent_state.AgentState.{AgentState}
-use Rattle.term_model.specs.declared.limits.Limits.{Limits}
+use Rattle.agent_model.specs.declared.agent_state.AgentState.{AgentState}
+use Rattle.agent_model.specs.declared.limits.Limits.{Limits}
 use Rattle.term_model.specs.declared.objects.NamedObject.{NamedObject}
 use Rattle.term_model.specs.declared.schema.Set.{Set}
 

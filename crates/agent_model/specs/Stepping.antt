@@ -3,23 +3,24 @@
 use Rattle.std.specs.Prelude.{ℕ, ℤ, pos, ◌+◌, List, [], ◌∷◌, ◌++◌, Option, None, Some, map, position, slice_get}
 use Rattle.std.specs.Prelude.{if◌then◌else◌}
 use Rattle.std.specs.Option.{option_map_or}
-use Rattle.term_model.specs.declared.agent_state.AgentState.{AgentState}
-use Rattle.term_model.specs.declared.agent_state.AssociationState.TheVariants as association
-use Rattle.term_model.specs.declared.agent_state.Operation.{Operation}
-use Rattle.term_model.specs.declared.agent_state.OperationState.TheVariants as operation
-use Rattle.term_model.specs.declared.agent_state.Work.{Work}
-use Rattle.term_model.specs.declared.entry.Entry.{Entry}
-use Rattle.term_model.specs.declared.entry.Entry.TheVariants as entry
+use Rattle.agent_model.specs.declared.agent_state.AgentState.{AgentState}
+use Rattle.agent_model.specs.declared.agent_state.AssociationState.TheVariants as association
+use Rattle.agent_model.specs.declared.agent_state.Operation.{Operation}
+use Rattle.agent_model.specs.declared.agent_state.OperationState.TheVariants as operation
+use Rattle.agent_model.specs.declared.agent_state.Work.{Work}
+use Rattle.agent_model.specs.declared.agent_state.Work.TheVariants as work
+use Rattle.agent_model.specs.declared.entry.Entry.{Entry}
+use Rattle.agent_model.specs.declared.entry.Entry.TheVariants as entry
 use Rattle.term_model.specs.declared.reply.Reply.TheVariants as reply
-use Rattle.term_model.specs.AgentState.{granted_moment, operation_of}
+use Rattle.agent_model.specs.AgentState.{granted_moment, operation_of}
 use Rattle.term_model.specs.Arriving.{Arriving}
 use Rattle.term_model.specs.Arriving.Arriving.{Rejected, Cancels, NoEffect, Queued}
-use Rattle.term_model.specs.Bind.{bind_answer, title_in}
+use Rattle.agent_model.specs.Bind.{bind_answer, title_in}
 use Rattle.term_model.specs.RemoteOperation.{frame, integer}
 use Rattle.term_model.specs.SentApdus.{sent_reject, sent_reply}
-use Rattle.term_model.specs.Step.{changed_association, changed_operation, counted, ended, ended_with, is_get, is_legal}
-use Rattle.term_model.specs.Step.{is_outstanding_as, mistyped_operation, no_such_invoke_id, operation_cancelled, queued}
-use Rattle.term_model.specs.Step.{with_state, with_taken}
+use Rattle.agent_model.specs.Step.{begun, changed_association, changed_operation, counted, ended, ended_with, is_get, is_legal}
+use Rattle.agent_model.specs.Step.{is_outstanding_as, mistyped_operation, no_such_invoke_id, operation_cancelled, queued}
+use Rattle.agent_model.specs.Step.{with_state, with_taken}
 use Rattle.agent_model.specs.Binding.{answer_to, associated}
 use Rattle.agent_model.specs.Performing.{Done, carried_out, nothing_sent}
 use Rattle.agent_model.specs.Placing.{placed}
@@ -75,10 +76,22 @@ abbrev pub performing : AgentState → ℕ → Work → ℕ → Done
 performing agent number w moment =
     let done = carried_out agent w moment in record { agent = ended done.agent number; sent = done.sent }
 
+-- the problem resourceLimitation of an invoke: X.229, section 9
+abbrev pub resource_limitation : ℤ
+resource_limitation = pos 3
+
+-- the operation under a number ends for want of memory: what a manager asked for is rejected
+abbrev pub starving : AgentState → ℕ → Work → Done
+starving agent number (work.Asked asker invoke asked) =
+    sending_to asker (sent_reject (Some invoke) 1 resource_limitation) (ended agent number)
+starving agent number (work.Append log own) = nothing_sent (ended agent number)
+
 -- what the entry does
 abbrev pub effect : AgentState → Entry → Done
 effect agent (entry.Opened number bind) = opening agent number (title_in bind)
 effect agent (entry.Arrived number apdu) = taken_in agent number (received agent number apdu)
+effect agent (entry.Begun number log) =
+    nothing_sent (record agent { operations = agent.operations ++ begun log ∷ [] })
 effect agent (entry.Granted number moment) = nothing_sent (record agent {
   operations = changed_operation agent.operations number (operation.Granted moment);
 })
@@ -86,6 +99,8 @@ effect agent (entry.Committed number) =
     option_map_or (λ (o : Operation).
     option_map_or (performing agent number o.work) (granted_moment o.state) (nothing_sent agent))
     (operation_of agent number) (nothing_sent agent)
+effect agent (entry.Starved number) =
+    option_map_or (λ (o : Operation). starving agent number o.work) (operation_of agent number) (nothing_sent agent)
 effect agent (entry.Taken number count) = nothing_sent (record agent {
   associations = changed_association agent.associations number (with_taken count);
 })

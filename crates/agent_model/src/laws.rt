@@ -1,7 +1,9 @@
-//! Laws of journals, each as the contract of a function that does nothing; docs/PROFILE.md, section 7.
+//! Laws of journals and their texts, each as the contract of a function that does nothing; docs/PROFILE.md, sections 5
+//! and 7.
 
 ghost use Rattle.agent_model.specs.JournalLaws.{FilledOnce, LegalGoesOn, PlacedStays, ReplayGoesOn, ScriptFrames};
 ghost use Rattle.agent_model.specs.JournalLaws.{ScriptReplays};
+ghost use Rattle.agent_model.specs.TextLaws.{PrintTellsJournal, TextsDiffer};
 
 /// A journal that follows another is replayed from the state that the other one came to.
 pub fn replay_goes_on()
@@ -35,4 +37,14 @@ pub fn script_frames()
 /// it has room for all.
 pub fn filled_once()
     ensures { FilledOnce }
+{}
+
+/// Different journals have different texts.
+pub fn texts_differ()
+    ensures { TextsDiffer }
+{}
+
+/// What stands in front of the line of two dashes is the text of one journal alone, whatever stands behind it.
+pub fn print_tells_journal()
+    ensures { PrintTellsJournal }
 {}

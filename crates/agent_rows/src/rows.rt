@@ -4,8 +4,8 @@ use crate::devices::{
     show_memory_files, show_output, show_read_up_to, show_real_file, show_sink, show_source,
 };
 use crate::runs::{
-    show_changed_run, show_command, show_documents_run, show_real_run, show_run, show_run_end,
-    show_run_with_faults, show_shipped,
+    show_changed_run, show_command, show_cuts, show_documents_run, show_real_run, show_run,
+    show_run_end, show_run_with_faults, show_shipped,
 };
 use crate::stored_files::StoredFiles;
 use crate::texts::first_word;
@@ -47,7 +47,8 @@ fn answer_call(
         "change" => show_changed_run(rt, files, rest, answer),
         "fails" => show_run_with_faults(rt, files, rest, answer),
         "command" => show_command(rt, files, rest, answer),
-        "documents" => show_documents_run(rt, rest, answer),
+        "documents" => show_documents_run(rt, files, rest, answer),
+        "cut" => show_cuts(rt, files, rest, answer),
         "examples" => show_real_run(rt, rest, answer),
         "shipped" => show_shipped(rt.alloc(), rest, answer),
         _ => answer_device(rt, files, call, rest, answer),

@@ -3,7 +3,7 @@
 
 use crate::stand_ins::CommandLine;
 use crate::stored_files::StoredFiles;
-use crate::texts::{first_number, first_word, show_quoted, text_of};
+use crate::texts::{first_number, first_word, separate, show_quoted, text_of};
 use agent_bytes::{MemFiles, MemSink, RealFiles};
 use agent_run::{agent, command_words};
 use shipped_documents::DMI;
@@ -20,6 +20,9 @@ const TURN: usize = 100;
 
 /// The words of a run of the files `script` and `document`.
 const WORDS: &str = "run script document";
+
+/// The words of a check of the file `document`.
+const CHECK: &str = "check document";
 
 /// The words of a line.
 fn words_of(alloc: Global, line: &str) -> Result<Vec<String>, AllocError> {
@@ -97,12 +100,13 @@ pub(crate) fn show_run(
 /// Adds a document of this text, which is named by its number, to the files and to the words.
 fn add_document(
     alloc: Global,
+    stored: &StoredFiles,
     text: &str,
     words: &mut Vec<String>,
     files: &mut MemFiles,
 ) -> Result<(), AllocError> {
     let number = words.len();
-    let text = text_of(alloc, text)?;
+    let text = stored.whole_text(alloc, text)?;
     let mut name = String::new(alloc);
     write!(name, "{number}")?;
     files.add(alloc, name.as_str(), text.as_bytes())?;
@@ -110,9 +114,11 @@ fn add_document(
     Ok(())
 }
 
-/// `documents COMMAND TEXT%TEXT..`: a run of a command on documents of these texts, which are named 1, 2 and so on.
+/// `documents COMMAND TEXT%TEXT..`: a run of a command on documents of these texts, which are named 1, 2 and so on. A
+/// word `$NAME` of a text stands for the stored file of this name.
 pub(crate) fn show_documents_run(
     rt: &HostRuntime,
+    stored: &StoredFiles,
     row: &str,
     answer: &mut String,
 ) -> Result<(), AllocError> {
@@ -121,10 +127,41 @@ pub(crate) fn show_documents_run(
     let mut words = words_of(alloc, command)?;
     let mut files = MemFiles::new(alloc, Vec::new(alloc));
     for text in texts.split('%') {
-        add_document(alloc, text, &mut words, &mut files)?;
+        add_document(alloc, stored, text, &mut words, &mut files)?;
     }
     let mut out = MemSink::new(alloc, ROOM, Vec::new(alloc))?;
     show_words_run(rt, &words, &mut files, &mut out, answer)
+}
+
+/// `cut TEXT`: the words of a text, which have one blank between them, stand in a line each. The answer has what `check`
+/// writes of the first line alone, of the first two, and so on.
+pub(crate) fn show_cuts(
+    rt: &HostRuntime,
+    stored: &StoredFiles,
+    text: &str,
+    answer: &mut String,
+) -> Result<(), AllocError> {
+    let alloc = rt.alloc();
+    let text = stored.whole_text(alloc, text)?;
+    let mut lines = String::new(alloc);
+    for word in text.as_str().split(' ') {
+        lines.push_str(word)?;
+        lines.push('\n')?;
+        show_check(rt, lines.as_str(), answer)?;
+    }
+    Ok(())
+}
+
+/// Appends what `check` writes of one document.
+fn show_check(rt: &HostRuntime, text: &str, answer: &mut String) -> Result<(), AllocError> {
+    let alloc = rt.alloc();
+    let words = words_of(alloc, CHECK)?;
+    let mut files = MemFiles::new(alloc, Vec::new(alloc));
+    files.add(alloc, "document", text.as_bytes())?;
+    let mut out = MemSink::new(alloc, ROOM, Vec::new(alloc))?;
+    agent(rt, &words, &mut files, &mut out);
+    separate(answer)?;
+    show_quoted(out.written(), answer)
 }
 
 /// `shipped TEXT`: whether this is the text of the document that is shipped.

@@ -1,6 +1,6 @@
 //! The files of a table: each row that runs or reads one finds those that earlier rows stored.
 
-use crate::texts::{add_numbered, changed, first_number, first_word, text_of};
+use crate::texts::{add_numbered, add_text, changed, first_number, first_word};
 use agent_bytes::{Files, MemFiles, RealFiles};
 use std::alloc::{AllocError, Global};
 
@@ -37,9 +37,31 @@ impl StoredFiles {
     pub(crate) fn store(&mut self, alloc: Global, row: &str) -> Result<(), AllocError> {
         let (name, text) = first_word(row);
         let name = String::from_str(alloc, name)?;
-        let text = text_of(alloc, text)?;
+        let text = self.whole_text(alloc, text)?;
         self.items.push(StoredFile { name, text })?;
         Ok(())
+    }
+
+    /// The text that a row's text stands for, where a word `$NAME` stands for the text of the file of this name.
+    pub(crate) fn whole_text(&self, alloc: Global, text: &str) -> Result<String, AllocError> {
+        let mut whole = String::new(alloc);
+        let mut is_first = true;
+        for word in text.split(' ') {
+            if !is_first {
+                whole.push(' ')?;
+            }
+            self.add_word(word, &mut whole)?;
+            is_first = false;
+        }
+        Ok(whole)
+    }
+
+    /// Appends what a word of a row's text stands for.
+    fn add_word(&self, word: &str, into: &mut String) -> Result<(), AllocError> {
+        match word.strip_prefix("$") {
+            Some(name) => into.push_str(self.text(name)),
+            None => add_text(word, into),
+        }
     }
 
     /// `load NAME FILE`: stores a file of the system, which is named from the folder in which the program runs; an

@@ -17,7 +17,7 @@ use Rattle.run_command.specs.ScriptRuns.{IsBadInstance as IsUnopened, IsBadScrip
 use Rattle.run_command.specs.ScriptRuns.{IsUnplayedDocument, IsUnplayedScript}
 use Rattle.set_commands.specs.CommandTexts.{IsBadInstance, IsChecked, IsReported}
 use Rattle.template_compile.specs.DocumentFaults.{IsTold}
-use Rattle.term_model.specs.Texts.{line_feed}
+use Rattle.term_model.specs.LineTexts.{line_feed}
 use Rattle.agent_run.specs.Files.{AreDocuments, FileToRead, IsWithin, Names, NamesLonger, Told}
 use Rattle.agent_run.specs.Files.{files_of, most_script}
 use Rattle.agent_run.specs.Statuses.{bad_document, bad_script, file_fault, file_too_large, journal_full, not_built}

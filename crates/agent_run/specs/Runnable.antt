@@ -9,9 +9,9 @@ use Rattle.template_compile.specs.Acceptance.{AreAccepted}
 use Rattle.template_compile.specs.Counting.{IsCompiled}
 use Rattle.term_model.specs.declared.objects.NamedObject.{NamedObject}
 use Rattle.term_model.specs.declared.schema.Set.{Set}
-use Rattle.term_model.specs.AgentLimits.{shipped}
+use Rattle.agent_model.specs.AgentLimits.{shipped}
 use Rattle.term_model.specs.Opening.{opened}
-use Rattle.term_model.specs.Played.{Play}
+use Rattle.agent_model.specs.Played.{Play}
 use Rattle.agent_model.specs.declared.script_line.ScriptLine.{ScriptLine}
 use Rattle.agent_model.specs.JournalRoom.{HasRoom}
 use Rattle.agent_model.specs.Playing.{ended, played}

@@ -1,7 +1,7 @@
 //! How a command ends when it is not done: its status, and the line that says why (docs/OPERATING.md, Commands).
 
 ghost use Rattle.std.specs.Prelude.{◌≡◌, ◌++◌, ℕ, List, IfOk, OnOk};
-ghost use Rattle.term_model.specs.Texts.{line_feed};
+ghost use Rattle.term_model.specs.LineTexts.{line_feed};
 ghost use Rattle.agent_run.specs.Refusing.{HasRunCause, HasSetCause, bad_document_line, bad_instance_line};
 ghost use Rattle.agent_run.specs.Refusing.{bad_script_line, kind_name, line_of, numbered, status_of, two_numbers};
 ghost use Rattle.agent_run.specs.Refusing.{text_before, text_of, unbuilt_name};

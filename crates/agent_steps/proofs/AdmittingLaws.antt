@@ -11,14 +11,14 @@ use Rattle.std.proofs.lemmas.List.Folds.{list_any-append}
 use Rattle.std.proofs.lemmas.List.Sums.{sum_by-append, sum_by-cons}
 use Rattle.std.proofs.lemmas.Map.Views.{any-filter_same}
 use Rattle.std.proofs.lemmas.Option.{none-some, same_Some, slice_get_past}
-use Rattle.term_model.specs.declared.agent_state.Association.{Association}
-use Rattle.term_model.specs.declared.agent_state.AssociationState.{AssociationState}
-use Rattle.term_model.specs.declared.agent_state.AssociationState.TheVariants as standing
-use Rattle.term_model.specs.declared.agent_state.AssociationState.TheVariants.{Finished, Overrun}
-use Rattle.term_model.specs.AgentState.{is_closed_state, is_live_state, numbered}
-use Rattle.term_model.specs.Step.{changed_association, with_state}
+use Rattle.agent_model.specs.declared.agent_state.Association.{Association}
+use Rattle.agent_model.specs.declared.agent_state.AssociationState.{AssociationState}
+use Rattle.agent_model.specs.declared.agent_state.AssociationState.TheVariants as standing
+use Rattle.agent_model.specs.declared.agent_state.AssociationState.TheVariants.{Finished, Overrun}
+use Rattle.agent_model.specs.AgentState.{is_closed_state, is_live_state, numbered}
+use Rattle.agent_model.specs.Step.{changed_association, with_state}
 use Rattle.term_model.specs.Comparing.{is_same_oid}
-use Rattle.term_model.proofs.StepLaws.{StandsAt, changed_association_at, numbered_last, numbered_set, stands_from_some}
+use Rattle.agent_model.proofs.StandingLaws.{StandsAt, changed_association_at, numbered_last, numbered_set, stands_from_some}
 use Rattle.agent_model.specs.Binding.{count_open, has_title, is_open}
 use Rattle.agent_model.specs.JournalRoom.{reserved_by_association, reserved_by_associations}
 use Rattle.agent_steps.specs.Admitting.{AreCounted, count_live, is_admitted, is_live}

@@ -10,12 +10,12 @@ use Rattle.std.proofs.lemmas.Bool.{cases_Bool}
 use Rattle.std.proofs.lemmas.List.Elements.{All-cons, All-head, All-push, All-set, All-tail}
 use Rattle.std.proofs.lemmas.Iterator.Adapters.{position_from-zero}
 use Rattle.std.proofs.lemmas.Option.{none-some, same_Some}
-use Rattle.term_model.specs.declared.agent_state.Operation.{Operation}
-use Rattle.term_model.specs.declared.agent_state.OperationState.{OperationState}
+use Rattle.agent_model.specs.declared.agent_state.Operation.{Operation}
+use Rattle.agent_model.specs.declared.agent_state.OperationState.{OperationState}
 use Rattle.term_model.specs.declared.request.Invocation.{Invocation}
 use Rattle.term_model.specs.declared.schema.Set.{Set}
-use Rattle.term_model.specs.AgentState.{is_asked_by, is_ended_state, is_outstanding}
-use Rattle.term_model.specs.Step.{changed_operation, ended_with, is_asked_as, is_outstanding_as, queued}
+use Rattle.agent_model.specs.AgentState.{is_asked_by, is_ended_state, is_outstanding}
+use Rattle.agent_model.specs.Step.{changed_operation, ended_with, is_asked_as, is_outstanding_as, queued}
 use Rattle.operation_model.specs.OperationConditions.{HasValidFilter}
 use Rattle.agent_steps.specs.Asking.{AreAskableUnder, IsAskable}
 

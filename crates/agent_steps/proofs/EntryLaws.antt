@@ -5,16 +5,16 @@ use Rattle.std.proofs.Common.{sym, ap, ◌∙◌, ⊎_elim}
 use Rattle.std.specs.Prelude.{ℤ, ◌==◌}
 use Rattle.std.proofs.Math.Path.{fun_ext}
 use Rattle.std.proofs.lemmas.Bool.{cases_Bool}
-use Rattle.term_model.specs.declared.agent_state.AgentState.{AgentState}
-use Rattle.term_model.specs.declared.agent_state.Association.{Association}
-use Rattle.term_model.specs.declared.agent_state.Operation.{Operation}
-use Rattle.term_model.specs.declared.entry.Entry.TheVariants as entry
-use Rattle.term_model.specs.AgentState.{granted_moment, operation_of}
+use Rattle.agent_model.specs.declared.agent_state.AgentState.{AgentState}
+use Rattle.agent_model.specs.declared.agent_state.Association.{Association}
+use Rattle.agent_model.specs.declared.agent_state.Operation.{Operation}
+use Rattle.agent_model.specs.declared.entry.Entry.TheVariants as entry
+use Rattle.agent_model.specs.AgentState.{granted_moment, operation_of}
 use Rattle.term_model.specs.Arriving.{Arriving}
 use Rattle.term_model.specs.Arriving.Arriving.{Cancels}
-use Rattle.term_model.specs.Bind.{bind_answer, title_in}
+use Rattle.agent_model.specs.Bind.{bind_answer, title_in}
 use Rattle.term_model.specs.RemoteOperation.{frame, integer}
-use Rattle.term_model.specs.Step.{counted, ended, is_legal, no_such_invoke_id}
+use Rattle.agent_model.specs.Step.{counted, ended, is_legal, no_such_invoke_id}
 use Rattle.agent_model.specs.Binding.{accepted, answer_to, associated, is_open}
 use Rattle.agent_model.specs.Performing.{Done, carried_out}
 use Rattle.agent_model.specs.Placing.{placed}

@@ -5,17 +5,17 @@ use Rattle.std.specs.Prelude.{ℤ, option_and_then}
 use Rattle.std.specs.Option.{option_map, option_map_or}
 use Rattle.std.proofs.lemmas.List.{append-nil}
 use Rattle.std.proofs.lemmas.Option.{same_Some}
-use Rattle.term_model.specs.declared.agent_state.AgentState.{AgentState}
-use Rattle.term_model.specs.declared.agent_state.Association.{Association}
-use Rattle.term_model.specs.declared.agent_state.Operation.{Operation}
-use Rattle.term_model.specs.declared.agent_state.Work.TheVariants.{Asked}
+use Rattle.agent_model.specs.declared.agent_state.AgentState.{AgentState}
+use Rattle.agent_model.specs.declared.agent_state.Association.{Association}
+use Rattle.agent_model.specs.declared.agent_state.Operation.{Operation}
+use Rattle.agent_model.specs.declared.agent_state.Work.TheVariants.{Asked}
 use Rattle.term_model.specs.declared.objects.NamedObject.{NamedObject}
 use Rattle.term_model.specs.declared.reply.Reply.{Reply}
 use Rattle.term_model.specs.declared.request.Request.{Request}
-use Rattle.term_model.specs.AgentState.{association_of, granted_moment, operation_of}
+use Rattle.agent_model.specs.AgentState.{association_of, granted_moment, operation_of}
 use Rattle.term_model.specs.Operation.{operation_number, own_behind, replied}
 use Rattle.term_model.specs.SentApdus.{sent_reply}
-use Rattle.term_model.specs.Step.{changed_association}
+use Rattle.agent_model.specs.Step.{changed_association}
 use Rattle.operation_model.specs.WholeOperation.{Outcome, outcome}
 use Rattle.agent_model.specs.Performing.{Done, carried_out, is_confirmed, nothing_sent, sending, with_own}
 use Rattle.agent_steps.specs.Answering.{answered}

@@ -1,14 +1,14 @@
 -- Examples of the definitions, by docs/PROFILE.md, section 7: two associations, of which one is closed, and an
 -- operation that was granted at a moment.
 use Rattle.std.specs.Prelude.{◌≡◌, ℕ, pos, [], ◌∷◌, true, false, None, Some, refl}
-use Rattle.term_model.specs.declared.agent_state.AgentState.{AgentState}
-use Rattle.term_model.specs.declared.agent_state.Association.{Association}
-use Rattle.term_model.specs.declared.agent_state.AssociationState.{AssociationState}
-use Rattle.term_model.specs.declared.agent_state.AssociationState.TheVariants.{Closed, Finished, Live}
-use Rattle.term_model.specs.declared.agent_state.OperationState.{OperationState}
-use Rattle.term_model.specs.declared.agent_state.OperationState.TheVariants.{Ended, Granted}
-use Rattle.term_model.specs.declared.agent_state.Work.TheVariants.{Asked}
-use Rattle.term_model.specs.declared.entry.Why.TheVariants.{End}
+use Rattle.agent_model.specs.declared.agent_state.AgentState.{AgentState}
+use Rattle.agent_model.specs.declared.agent_state.Association.{Association}
+use Rattle.agent_model.specs.declared.agent_state.AssociationState.{AssociationState}
+use Rattle.agent_model.specs.declared.agent_state.AssociationState.TheVariants.{Closed, Finished, Live}
+use Rattle.agent_model.specs.declared.agent_state.OperationState.{OperationState}
+use Rattle.agent_model.specs.declared.agent_state.OperationState.TheVariants.{Ended, Granted}
+use Rattle.agent_model.specs.declared.agent_state.Work.TheVariants.{Asked}
+use Rattle.agent_model.specs.declared.entry.Why.TheVariants.{End}
 use Rattle.term_model.specs.declared.filter.Asked.TheVariants.{Large}
 use Rattle.term_model.specs.declared.request.Head.{Head}
 use Rattle.term_model.specs.declared.request.IdRef.TheVariants.{Local}
@@ -17,8 +17,8 @@ use Rattle.term_model.specs.declared.request.Request.{Request}
 use Rattle.term_model.specs.declared.request.Request.TheVariants.{Delete, Get}
 use Rattle.term_model.specs.declared.schema.Set.{Set}
 use Rattle.term_model.specs.declared.scope.Scope.TheVariants.{Plain}
-use Rattle.term_model.specs.AgentLimits.{shipped}
-use Rattle.term_model.specs.AgentState.{is_closed_state, is_live_state}
+use Rattle.agent_model.specs.AgentLimits.{shipped}
+use Rattle.agent_model.specs.AgentState.{is_closed_state, is_live_state}
 use Rattle.agent_model.specs.Performing.{nothing_sent}
 use Rattle.agent_steps.specs.Admitting.{AreCounted, count_live, is_admitted, is_live, with_all_taken}
 use Rattle.agent_steps.specs.Answering.{answered}

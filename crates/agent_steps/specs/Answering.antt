@@ -1,10 +1,10 @@
 -- Answering: the replies to an invoke of an association, by the number of the operation; X.711, section 7.
 use Rattle.std.specs.Prelude.{ℕ, ℤ, List}
 use Rattle.std.specs.Option.{option_map_or}
-use Rattle.term_model.specs.declared.agent_state.AgentState.{AgentState}
-use Rattle.term_model.specs.declared.agent_state.Association.{Association}
+use Rattle.agent_model.specs.declared.agent_state.AgentState.{AgentState}
+use Rattle.agent_model.specs.declared.agent_state.Association.{Association}
 use Rattle.term_model.specs.declared.reply.Reply.{Reply}
-use Rattle.term_model.specs.AgentState.{association_of}
+use Rattle.agent_model.specs.AgentState.{association_of}
 use Rattle.term_model.specs.Operation.{replied}
 use Rattle.agent_model.specs.Performing.{Done, nothing_sent, sending}
 

@@ -1,10 +1,10 @@
 -- Asking: what the operations of an agent ask for; X.711, section 7.
 use Rattle.std.specs.Prelude.{List, Bool, true, false, All}
 use Rattle.std.specs.List.{list_any}
-use Rattle.term_model.specs.declared.agent_state.AgentState.{AgentState}
-use Rattle.term_model.specs.declared.agent_state.Operation.{Operation}
-use Rattle.term_model.specs.declared.agent_state.Work.{Work}
-use Rattle.term_model.specs.declared.agent_state.Work.TheVariants as work
+use Rattle.agent_model.specs.declared.agent_state.AgentState.{AgentState}
+use Rattle.agent_model.specs.declared.agent_state.Operation.{Operation}
+use Rattle.agent_model.specs.declared.agent_state.Work.{Work}
+use Rattle.agent_model.specs.declared.agent_state.Work.TheVariants as work
 use Rattle.term_model.specs.declared.request.Request.{Request}
 use Rattle.term_model.specs.declared.request.Request.TheVariants as request
 use Rattle.term_model.specs.declared.schema.Set.{Set}

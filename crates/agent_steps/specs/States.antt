@@ -1,15 +1,15 @@
 -- States: what an association or an operation of an agent has come to; docs/PROFILE.md, section 7.
 use Rattle.std.specs.Prelude.{◌≡◌, ℕ, List, [], ◌∷◌, Bool, true, false, Option, option_and_then, All}
 use Rattle.std.specs.Option.{option_map_or}
-use Rattle.term_model.specs.declared.agent_state.AgentState.{AgentState}
-use Rattle.term_model.specs.declared.agent_state.Association.{Association}
-use Rattle.term_model.specs.declared.agent_state.AssociationState.{AssociationState}
-use Rattle.term_model.specs.declared.agent_state.Operation.{Operation}
-use Rattle.term_model.specs.declared.limits.Limits.{Limits}
+use Rattle.agent_model.specs.declared.agent_state.AgentState.{AgentState}
+use Rattle.agent_model.specs.declared.agent_state.Association.{Association}
+use Rattle.agent_model.specs.declared.agent_state.AssociationState.{AssociationState}
+use Rattle.agent_model.specs.declared.agent_state.Operation.{Operation}
+use Rattle.agent_model.specs.declared.limits.Limits.{Limits}
 use Rattle.term_model.specs.declared.objects.NamedObject.{NamedObject}
 use Rattle.term_model.specs.declared.schema.Set.{Set}
 use Rattle.agent_model.specs.Placing.{Sent}
-use Rattle.term_model.specs.AgentState.{association_of, granted_moment, is_ended_state, operation_of}
+use Rattle.agent_model.specs.AgentState.{association_of, granted_moment, is_ended_state, operation_of}
 
 -- an agent whose operations are all on objects: no record waits for a log
 abbrev pub agent_of : Set → Limits → List NamedObject → List Association → List Operation → ℕ → AgentState

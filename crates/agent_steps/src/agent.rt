@@ -2,8 +2,8 @@
 
 ghost use Rattle.std.specs.Prelude.{◌≡◌, ◌+◌, ◌^◌, ◌<◌, length};
 ghost use Rattle.std.specs.Option.{option_map_or};
-ghost use Rattle.term_model.specs.AgentState.{association_of, is_closed_state, is_live_state, left_to_take};
-ghost use Rattle.term_model.specs.Step.{counted};
+ghost use Rattle.agent_model.specs.AgentState.{association_of, is_closed_state, is_live_state, left_to_take};
+ghost use Rattle.agent_model.specs.Step.{counted};
 ghost use Rattle.agent_model.specs.JournalRoom.{reserved_by_associations};
 ghost use Rattle.agent_model.specs.Starting.{started};
 ghost use Rattle.agent_steps.specs.Asking.{AreAskable, has_unbuilt};
@@ -12,10 +12,12 @@ ghost use Rattle.agent_steps.specs.States.{has_state};
 use crate::association_changes::{count_left, is_closed, is_live};
 use crate::association_table::AssociationTable;
 use crate::requests::has_unbuilt;
-use mo_list::ListMib;
+use agent_model::{Association, Limits, Operations};
+use mo_list::ListMib as Mib;
+use object_maps::ObjectMap;
 use std::alloc::Global;
 use std::marker::Model;
-use term_model::{Association, Limits, Operations, Set, StepLedger};
+use term_model::{Set, StepLedger};
 
 /// An agent between two entries of its journal. Contracts see it as the state of the definition, with no record that
 /// waits for a log. The filter of each of its operations is valid under its records.
@@ -26,7 +28,7 @@ pub struct Agent<L: StepLedger> {
     /// How much it holds at the most.
     pub(crate) limits: Limits,
     /// The objects as they are now.
-    pub(crate) mib: ListMib<L>,
+    pub(crate) mib: Mib<L>,
     /// All associations that were opened.
     pub(crate) associations: AssociationTable,
     /// All operations that were queued.
@@ -40,7 +42,7 @@ impl<L: StepLedger> Model for Agent<L> {
     ghost use Rattle.term_values.specs.SyntaxCode.{syntax_code};
     ghost use Rattle.term_values.specs.Typed.{value_code};
     ghost use Rattle.term_model.specs.contracts.filter.Filter as filter;
-    ghost use Rattle.term_model.specs.declared.agent_state.AgentState.{AgentState};
+    ghost use Rattle.agent_model.specs.declared.agent_state.AgentState.{AgentState};
     ghost use Rattle.agent_steps.specs.Asking.{AreAskableUnder};
     ghost use Rattle.agent_steps.specs.States.{agent_of};
 
@@ -56,7 +58,7 @@ impl<L: StepLedger> Model for Agent<L> {
 
 impl<L: StepLedger> Agent<L> {
     /// The agent before any entry, with the objects at the opening.
-    pub fn new(alloc: Global, schema: Set, limits: Limits, mib: ListMib<L>) -> Agent<L>
+    pub fn new(alloc: Global, schema: Set, limits: Limits, mib: Mib<L>) -> Agent<L>
         ensures { result ≡ started schema limits mib }
     {
         Agent {

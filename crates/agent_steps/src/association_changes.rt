@@ -2,14 +2,14 @@
 
 ghost use Rattle.std.specs.Prelude.{◌≡◌, ◌+◌, ◌≤◌, ◌++◌, ◌∷◌, [], length, IfOk, OnErr, OnOk, Some};
 ghost use Rattle.std.specs.Prelude.{if◌then◌else◌};
-ghost use Rattle.term_model.specs.declared.agent_state.Association.{Association};
-ghost use Rattle.term_model.specs.AgentState.{is_closed_state, is_live_state, left_to_take, numbered};
-ghost use Rattle.term_model.specs.Step.{changed_association, with_placed, with_state};
+ghost use Rattle.agent_model.specs.declared.agent_state.Association.{Association};
+ghost use Rattle.agent_model.specs.AgentState.{is_closed_state, is_live_state, left_to_take, numbered};
+ghost use Rattle.agent_model.specs.Step.{changed_association, with_placed, with_state};
 ghost use Rattle.agent_model.specs.Performing.{with_own};
 ghost use Rattle.agent_steps.specs.Admitting.{with_all_taken};
 
+use agent_model::{Association, AssociationState, Associations};
 use std::alloc::AllocError;
-use term_model::{Association, AssociationState, Associations};
 
 /// Whether a manager may send.
 pub fn is_live(state: AssociationState) -> bool

@@ -5,9 +5,9 @@ ghost use Rattle.std.specs.Prelude.{◌≡◌, ◌+◌, ◌^◌, ◌<◌, ◌≤
 ghost use Rattle.std.specs.Prelude.{ℕ, OnOk, Some, true, vec_capacity, vec_len};
 ghost use Rattle.std.specs.List.{filter, list_any};
 ghost use Rattle.std.specs.Option.{option_copied, option_map_or};
-ghost use Rattle.term_model.specs.declared.agent_state.Association.{Association};
-ghost use Rattle.term_model.specs.AgentState.{is_closed_state, numbered};
-ghost use Rattle.term_model.specs.Step.{changed_association, with_placed, with_state};
+ghost use Rattle.agent_model.specs.declared.agent_state.Association.{Association};
+ghost use Rattle.agent_model.specs.AgentState.{is_closed_state, numbered};
+ghost use Rattle.agent_model.specs.Step.{changed_association, with_placed, with_state};
 ghost use Rattle.agent_model.specs.Binding.{count_open, has_title, is_open};
 ghost use Rattle.agent_model.specs.JournalRoom.{reserved_by_associations};
 ghost use Rattle.agent_model.specs.Performing.{with_own};
@@ -17,9 +17,9 @@ use crate::association_changes::{
     add_association, is_closed, is_closed_at, place, places_of_live, places_of_live_at,
     set_association_state, set_own, take_placed,
 };
+use agent_model::{Association, AssociationState, Associations};
 use std::alloc::{AllocError, Global};
 use std::marker::Model;
-use term_model::{Association, AssociationState, Associations};
 use term_values::Oid;
 
 /// The result of a BIND that is accepted.
@@ -49,7 +49,7 @@ pub struct AssociationTable {
 
 impl Model for AssociationTable {
     ghost use Rattle.std.specs.Prelude.{List};
-    ghost use Rattle.term_model.specs.declared.agent_state.Association.{Association};
+    ghost use Rattle.agent_model.specs.declared.agent_state.Association.{Association};
     ghost use Rattle.agent_steps.specs.Admitting.{AreCounted};
 
     ghost Value = { List Association };

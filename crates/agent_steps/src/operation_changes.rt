@@ -1,10 +1,10 @@
 //! Changes of the operations of an agent: docs/PROFILE.md, section 7.
 
 ghost use Rattle.std.specs.Prelude.{◌≡◌, ◌≤◌, length, map};
-ghost use Rattle.term_model.specs.AgentState.{is_ended_state, is_outstanding};
-ghost use Rattle.term_model.specs.Step.{changed_operation, ended_with};
+ghost use Rattle.agent_model.specs.AgentState.{is_ended_state, is_outstanding};
+ghost use Rattle.agent_model.specs.Step.{changed_operation, ended_with};
 
-use term_model::{Operation, OperationState, Operations, Work};
+use agent_model::{Operation, OperationState, Operations, Work};
 
 /// Sets the state of the operation under this number.
 pub fn set_operation_state(operations: &mut Operations, number: u64, state: OperationState)

@@ -1,10 +1,10 @@
 //! Performs operations that are granted: X.711, section 7.
 
 ghost use Rattle.std.specs.Prelude.{◌≡◌, ◌+◌, ◌^◌, ◌<◌, ◌≤◌, [], ◌∷◌, Some, length, IfOk, OnOk};
-ghost use Rattle.term_model.specs.declared.agent_state.Operation.{Operation};
-ghost use Rattle.term_model.specs.AgentState.{numbered, operation_of};
+ghost use Rattle.agent_model.specs.declared.agent_state.Operation.{Operation};
+ghost use Rattle.agent_model.specs.AgentState.{numbered, operation_of};
 ghost use Rattle.term_model.specs.Operation.{replied};
-ghost use Rattle.term_model.specs.Step.{ended};
+ghost use Rattle.agent_model.specs.Step.{ended};
 ghost use Rattle.operation_model.specs.OperationConditions.{AreSmall};
 ghost use Rattle.agent_model.specs.Performing.{carried_out};
 ghost use Rattle.agent_model.specs.Stepping.{step};
@@ -14,10 +14,11 @@ ghost use Rattle.agent_steps.specs.States.{moment_of_grant, sent_to};
 use crate::agent::Agent;
 use crate::operation_changes::set_operation_state;
 use crate::requests::{is_confirmed, operation_number};
+use agent_model::{Entry, Operation, OperationState, Operations, Work};
 use cmip_replies::{own_behind, write_reply};
 use op_install::perform_request;
 use std::alloc::{AllocError, Global};
-use term_model::{Entry, Operation, OperationState, Operations, Reply, StepLedger, Steps, Work};
+use term_model::{Reply, StepLedger, Steps};
 use term_values::Bytes;
 
 /// The frames of replies in their order, and the next own invoke id behind them.

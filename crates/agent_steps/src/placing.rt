@@ -7,8 +7,9 @@ ghost use Rattle.agent_steps.specs.States.{sent_to};
 use crate::agent::Agent;
 use crate::association_changes::count_left;
 use crate::operation_changes::end_all_outstanding;
+use agent_model::AssociationState;
 use std::alloc::AllocError;
-use term_model::{AssociationState, StepLedger};
+use term_model::StepLedger;
 use term_values::Bytes;
 
 impl<L: StepLedger> Agent<L> {

@@ -3,20 +3,19 @@
 ghost use Rattle.std.specs.Prelude.{◌≡◌, ◌<◌, ◌++◌, ◌∷◌, [], Some, IfOk, OnErr, OnOk};
 ghost use Rattle.term_model.specs.RemoteOperation.{integer};
 ghost use Rattle.term_model.specs.SentApdus.{sent_reject};
-ghost use Rattle.term_model.specs.Step.{no_such_invoke_id, queued};
+ghost use Rattle.agent_model.specs.Step.{no_such_invoke_id, queued};
 ghost use Rattle.agent_model.specs.Stepping.{sent_error, taken_in};
 ghost use Rattle.apdu_receiving.specs.Arrivals.{HasSmallClass, HasValidRequest, arriving_of};
 ghost use Rattle.agent_steps.specs.States.{IsIdle, sent_to};
 
 use crate::agent::Agent;
+use agent_model::{Operation, OperationState, Operations, Work};
 use apdu_receiving::Received;
 use ber_tree::tree_writing::write_integer_contents;
 use ber_tree::value_writing::write_value;
 use cmip_replies::{write_reject, write_reply};
 use std::alloc::{AllocError, Global};
-use term_model::{
-    CmisError, Invocation, Operation, OperationState, Operations, Reply, StepLedger, Work,
-};
+use term_model::{CmisError, Invocation, Reply, StepLedger};
 use term_values::{Bytes, Tag};
 
 /// noSuchInvokeId: X.711, section 7.5.

@@ -6,7 +6,8 @@ ghost use Rattle.term_model.specs.Operation.{operation_number};
 ghost use Rattle.agent_model.specs.Performing.{is_confirmed};
 ghost use Rattle.agent_steps.specs.Asking.{is_unbuilt, is_unbuilt_work};
 
-use term_model::{Operations, Request, Work};
+use agent_model::{Operations, Work};
+use term_model::Request;
 
 /// m-EventReport and m-EventReport-Confirmed.
 const M_EVENT_REPORT: i64 = 0;

@@ -4,8 +4,8 @@
 ghost use Rattle.std.specs.Prelude.{◌≡◌, ◌+◌, ◌^◌, ◌<◌, ◌==◌, length, IsTrue, OnOk};
 ghost use Rattle.std.specs.Prelude.{if◌then◌else◌};
 ghost use Rattle.std.specs.Option.{option_map_or};
-ghost use Rattle.term_model.specs.AgentState.{association_of, left_to_take};
-ghost use Rattle.term_model.specs.Step.{is_legal};
+ghost use Rattle.agent_model.specs.AgentState.{association_of, left_to_take};
+ghost use Rattle.agent_model.specs.Step.{is_legal};
 ghost use Rattle.agent_model.specs.Binding.{answer_to, associated};
 ghost use Rattle.agent_model.specs.Stepping.{step};
 ghost use Rattle.agent_steps.specs.States.{IsIdle};
@@ -13,11 +13,12 @@ ghost use Rattle.agent_steps.specs.States.{IsIdle};
 use crate::agent::Agent;
 use crate::association_table::{ACCEPTED, BAD_BIND, TITLE_IN_USE, TOO_MANY};
 use crate::operation_changes::set_operation_state;
+use agent_model::{Association, AssociationState, Entry, OperationState, Why};
 use apdu_receiving::receive_apdu;
 use bind_apdus::bind_reading::title_in;
 use bind_apdus::bind_writing::bind_answer_frame;
 use std::alloc::{AllocError, Global};
-use term_model::{Association, AssociationState, Entry, OperationState, StepLedger, Why};
+use term_model::StepLedger;
 use term_values::{Bytes, Oid};
 
 /// The first of the agent's own invoke ids.

@@ -10,7 +10,7 @@ use Rattle.term_values.specs.Tree.TreeValue.{Constructed}
 use Rattle.term_values.specs.Typed.TypedSlots.{Filled, NoSlots}
 use Rattle.term_values.specs.Typed.TypedValue.{Identifier}
 use Rattle.typed_laws.proofs.Choosing.{then_some}
-use Rattle.term_model.specs.Bind.{IsBind, title_of}
+use Rattle.agent_model.specs.Bind.{IsBind, title_of}
 use Rattle.term_model.specs.Parts.{oid_under, one_under}
 use Rattle.bind_apdus.proofs.PartsDenoted.{identifier_back, oid_given, oid_told, one_told, present, sequence_back}
 

@@ -2,7 +2,7 @@
 -- reads, in Bind.
 use Rattle.std.specs.Prelude.{◌≡◌, ◌↔◌, ℕ, List, Some}
 use Rattle.term_values.specs.Tree.{TreeValue}
-use Rattle.term_model.specs.Bind.{IsBind, title_of}
+use Rattle.agent_model.specs.Bind.{IsBind, title_of}
 
 -- a title is read exactly where the tree is the BIND of it
 abbrev pub TitleIsDenoted : Type 0

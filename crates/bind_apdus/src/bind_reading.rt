@@ -5,7 +5,7 @@ ghost use Rattle.std.specs.Option.{option_copied};
 ghost use Rattle.term_values.specs.BerReading.{tree_in};
 ghost use Rattle.term_values.specs.Oid.{oid_in};
 ghost use Rattle.term_values.specs.Tree.{listed};
-ghost use Rattle.term_model.specs.Bind.{title_in, title_of};
+ghost use Rattle.agent_model.specs.Bind.{title_in, title_of};
 ghost use Rattle.term_model.specs.Parts.{oid_under, one, one_under};
 
 use ber_tree::tree_reading::{read_front_tree, read_oid_contents};

@@ -4,7 +4,7 @@
 
 ghost use Rattle.std.specs.Prelude.{◌≡◌, ◌++◌, ◌^◌, ◌<◌, IfOk, OnOk, reverse};
 ghost use Rattle.ber_tree.specs.Writing.{Extends};
-ghost use Rattle.term_model.specs.Bind.{bind_answer};
+ghost use Rattle.agent_model.specs.Bind.{bind_answer};
 ghost use Rattle.term_model.specs.RemoteOperation.{frame};
 
 use ber_tree::tree_writing::reverse_from;

@@ -1,15 +1,20 @@
 //! Whether an entry may stand next in the journal: docs/PROFILE.md, section 7.
 
-ghost use Rattle.std.specs.Prelude.{◌≡◌, ◌&&◌, false, is_some, nat_le, nat_lt};
+ghost use Rattle.std.specs.Prelude.{◌≡◌, ◌==◌, ◌+◌, ◌&&◌, count_by, false, is_some, length, nat_le, nat_lt, not};
+ghost use Rattle.std.specs.List.{list_any};
 ghost use Rattle.std.specs.Option.{option_map, option_map_or};
-ghost use Rattle.term_model.specs.AgentState.{association_of, is_closed_state, is_finished_state, is_live_state};
-ghost use Rattle.term_model.specs.AgentState.{granted_moment, is_waiting_state, operation_of};
-ghost use Rattle.term_model.specs.AgentState.{is_outstanding, left_to_take, outstanding};
-ghost use Rattle.term_model.specs.Step.{is_legal, may_close, may_take};
+ghost use Rattle.std.specs.Ordering.{is_lt};
+ghost use Rattle.term_model.specs.NameOrder.{name_cmp};
+ghost use Rattle.agent_model.specs.AgentState.{association_of, is_closed_state, is_finished_state, is_live_state};
+ghost use Rattle.agent_model.specs.AgentState.{granted_moment, is_ended_state, is_waiting_state, operation_of};
+ghost use Rattle.agent_model.specs.AgentState.{is_outstanding, left_to_take, outstanding};
+ghost use Rattle.agent_model.specs.Step.{has_more, is_append_to, is_due, is_due_before, is_legal, may_close, may_take, waits_for};
 
-use term_model::{
+use agent_model::{
     AgentState, Association, AssociationState, Entry, Operation, OperationState, Why, Work,
 };
+use std::cmp::Ordering;
+use term_model::{Name, WaitingRecord};
 
 /// The most operations of an association that have not ended.
 const MOST_OUTSTANDING: u64 = 64;
@@ -138,6 +143,97 @@ fn may_commit(agent: &AgentState, number: u64) -> bool
     }
 }
 
+/// Whether the operation under this number may end for want of memory.
+fn may_starve(agent: &AgentState, number: u64) -> bool
+    ensures { result ≡ option_map_or (λ o. not (is_ended_state o.state)) (operation_of agent.now number) false }
+{
+    match operation_at(agent, number) {
+        None => false,
+        Some(operation) => !matches!(operation.state, OperationState::Ended(_)),
+    }
+}
+
+/// Whether the operation appends to the log with this name, and has not ended.
+fn is_append_left(operation: &Operation, log: &Name) -> bool
+    ensures { result ≡ is_append_to log.now operation.now }
+{
+    let appends = match &operation.work {
+        Work::Asked { .. } => false,
+        Work::Append { log: other, .. } => log == other,
+    };
+    appends && !matches!(operation.state, OperationState::Ended(_))
+}
+
+/// How many appends to the log with this name have begun and not ended.
+fn count_appends(agent: &AgentState, log: &Name) -> u64
+    ensures { result ≡ count_by (is_append_to log.now) agent.now.operations }
+{
+    let mut count = 0;
+    for operation in &agent.operations.items {
+        if is_append_left(operation, log) {
+            count += 1;
+        }
+    }
+    count
+}
+
+/// How many records wait for the log with this name.
+fn count_waiting(agent: &AgentState, log: &Name) -> u64
+    ensures { result ≡ count_by (waits_for log.now) agent.now.waiting }
+{
+    let mut count = 0;
+    for waiting in &agent.waiting.items {
+        if log == &waiting.log {
+            count += 1;
+        }
+    }
+    count
+}
+
+/// Whether more records wait for the log with this name than appends to it have begun and not ended.
+fn has_more(agent: &AgentState, log: &Name) -> bool
+    ensures { result ≡ has_more agent.now log.now }
+{
+    count_appends(agent, log) < count_waiting(agent, log)
+}
+
+/// Whether a name is less than another.
+fn is_less(name: &Name, other: &Name) -> bool
+    ensures { result ≡ is_lt (name_cmp name.now other.now) }
+{
+    matches!(name.cmp(other), Ordering::Less)
+}
+
+/// Whether more records wait for the log of a waiting record, and its name is less than this one.
+#[tactic(auto, unfolding(agent_model::specs::Step::is_due_before))]
+fn is_due_before(agent: &AgentState, log: &Name, waiting: &WaitingRecord) -> bool
+    ensures { result ≡ is_due_before agent.now log.now waiting.now }
+{
+    is_less(&waiting.log, log) && has_more(agent, &waiting.log)
+}
+
+/// Whether for a log with a lesser name more records wait than appends to it have begun and not ended.
+fn is_another_due(agent: &AgentState, log: &Name) -> bool
+    ensures { result ≡ list_any (is_due_before agent.now log.now) agent.now.waiting }
+{
+    for waiting in &agent.waiting.items {
+        if is_due_before(agent, log, waiting) {
+            return true;
+        }
+    }
+    false
+}
+
+/// Whether an append to the log with this name may begin under this number: more records wait for it, and for no log
+/// with a lesser name. It goes over the operations once for each record that waits.
+#[tactic(auto, unfolding(agent_model::specs::Step::is_due))]
+fn may_begin(agent: &AgentState, number: u64, log: &Name) -> bool
+    ensures { result ≡ (number == length agent.now.operations + 1 && is_due agent.now log.now) }
+{
+    let operations = agent.operations.items.len() as u64;
+    number == operations + 1 && has_more(agent, log) && !is_another_due(agent, log)
+}
+
 /// Whether so many bytes may be taken of the association under this number.
 fn may_take_of(agent: &AgentState, number: u64, count: u64) -> bool
     ensures { result ≡ option_map_or (λ a. may_take count (left_to_take a)) (association_of agent.now number) false }
@@ -180,8 +276,10 @@ pub fn may_stand_next(agent: &AgentState, entry: &Entry) -> bool
             *number == associations + 1
         }
         Entry::Arrived(number, _) => may_arrive(agent, *number),
+        Entry::Begun(number, log) => may_begin(agent, *number, log),
         Entry::Granted(number, moment) => may_grant(agent, *number, *moment),
         Entry::Committed(number) => may_commit(agent, *number),
+        Entry::Starved(number) => may_starve(agent, *number),
         Entry::Taken(number, count) => may_take_of(agent, *number, *count),
         Entry::Finished(number) => may_finish(agent, *number),
         Entry::Closed(number, cause) => may_close_at(agent, *number, *cause),

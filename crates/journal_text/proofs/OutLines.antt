@@ -3,8 +3,9 @@ use Rattle.std.proofs.Common.{◌≡◌, ℕ, ◌+◌, ◌<◌, List, [], ◌∷
 use Rattle.std.proofs.Common.{sym, append_assoc, arith}
 use Rattle.std.proofs.lemmas.List.{take_more}
 use Rattle.std.specs.Prelude.{codes}
-use Rattle.term_model.specs.declared.agent_state.Association.{Association}
-use Rattle.term_model.specs.Texts.{out_lines, placed_text, two_words}
+use Rattle.agent_model.specs.declared.agent_state.Association.{Association}
+use Rattle.term_model.specs.LineTexts.{two_words}
+use Rattle.agent_model.specs.Texts.{out_lines, placed_text}
 
 abbrev pub text : ℕ → Association → List ℕ
 text number a = two_words (codes "out ") number (placed_text a.placed)

@@ -2,4 +2,5 @@
 #![tactic(auto)]
 
 pub mod lengths;
+pub mod log_names;
 pub mod texts;

@@ -2,12 +2,16 @@
 
 ghost use Rattle.std.specs.Prelude.{◌≡◌, ◌∷◌, ◌++◌, IfOk, OnOk, codes, decimal};
 ghost use Rattle.hex.specs.Hex.{encode_upper};
-ghost use Rattle.term_model.specs.Texts.{cause_text, placed_text, line, line_feed, two_words, one_word, journal_text};
-ghost use Rattle.term_model.specs.Texts.{out_lines, objects_line, outs, separator};
+ghost use Rattle.term_model.specs.LineTexts.{line_feed, two_words, one_word};
+ghost use Rattle.agent_model.specs.Texts.{cause_text, placed_text, line, journal_text};
+ghost use Rattle.agent_model.specs.Texts.{out_lines, objects_line, outs, separator};
+ghost use Rattle.agent_model.specs.declared.entry.Entry.TheVariants as Entry;
 
+use crate::log_names::log_name;
+use agent_model::{AgentState, Association, Entry, Why};
 use itoa::Buffer;
 use std::alloc::{AllocError, Global};
-use term_model::{AgentState, Association, Entry, Why};
+use term_model::Name;
 
 /// The byte that ends each line.
 pub const LINE_FEED: u8 = 10;
@@ -100,6 +104,13 @@ fn write_closed(number: u64, cause: &Why, into: &mut Vec<u8>) -> Result<(), Allo
     Ok(())
 }
 
+fn write_begun(alloc: Global, number: u64, log: &Name, into: &mut Vec<u8>) -> Result<(), AllocError>
+    ensures { OnOk result (into.new.items ≡ into.old.items ++ line (Entry.Begun number log.now)) }
+{
+    let octets = log_name(alloc, log.parts.as_slice())?;
+    write_number_and_hex(alloc, b"begun ", number, octets.as_slice(), into)
+}
+
 /// Appends the line of an entry.
 pub fn write_entry(alloc: Global, entry: &Entry, into: &mut Vec<u8>) -> Result<(), AllocError>
     ensures { OnOk result (into.new.items ≡ into.old.items ++ line entry.now) }
@@ -119,8 +130,10 @@ pub fn write_entry(alloc: Global, entry: &Entry, into: &mut Vec<u8>) -> Result<(
             apdu.as_slice(),
             into,
         ),
+        Entry::Begun(number, log) => write_begun(alloc, *number, log, into),
         Entry::Granted(number, moment) => write_two_numbers(b"granted ", *number, *moment, into),
         Entry::Committed(number) => write_number(b"committed ", *number, into),
+        Entry::Starved(number) => write_number(b"starved ", *number, into),
         Entry::Taken(number, count) => write_two_numbers(b"taken ", *number, *count, into),
         Entry::Finished(number) => write_number(b"finished ", *number, into),
         Entry::Closed(number, cause) => write_closed(*number, cause, into),

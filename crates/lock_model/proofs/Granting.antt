@@ -35,7 +35,7 @@ one_more {A} (y ∷ ys) (suc k) x h = elim (first_or_later y (take (suc k) ys) x
   ]
 ]
 
-symmetric : (m n : Mode) → goes_with m n ≡ true → goes_with n m ≡ true
+pub symmetric : (m n : Mode) → goes_with m n ≡ true → goes_with n m ≡ true
 symmetric modes.IS modes.IS h = refl
 symmetric modes.IS modes.IX h = refl
 symmetric modes.IS modes.S h = refl

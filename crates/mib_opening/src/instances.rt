@@ -12,7 +12,8 @@ ghost use Rattle.mib_opening.specs.Refusals.{HasRefusal};
 use crate::instance_asking::asking_of;
 use crate::log_counts::count_logs;
 use crate::refusal::OpeningRefusal;
-use mo_list::ListMib;
+use mo_list::ListMib as Mib;
+use object_maps::ObjectMap;
 use op_life::{create_named, create_root};
 use std::alloc::{AllocError, Global};
 use term_model::{CmisError, InstRec, Name, Object, Set, StepLedger, Steps};
@@ -57,7 +58,7 @@ fn refused(index: u32, error: &CmisError) -> OpeningRefusal
 fn put_object<L: StepLedger>(
     alloc: Global,
     index: u32,
-    mib: &mut ListMib<L>,
+    mib: &mut Mib<L>,
     name: Name,
     object: Object,
     steps: &mut Steps<L>,
@@ -81,7 +82,7 @@ fn put_object<L: StepLedger>(
 fn place<L: StepLedger>(
     alloc: Global,
     index: u32,
-    mib: &mut ListMib<L>,
+    mib: &mut Mib<L>,
     name: &Name,
     made: Result<Object, CmisError>,
     steps: &mut Steps<L>,
@@ -102,7 +103,7 @@ fn place<L: StepLedger>(
 fn create_instance<L: StepLedger>(
     alloc: Global,
     schema: &Set,
-    mib: &ListMib<L>,
+    mib: &Mib<L>,
     instance: &InstRec,
     steps: &mut Steps<L>,
 ) -> Result<Result<Object, CmisError>, AllocError>
@@ -117,7 +118,7 @@ fn open_one<L: StepLedger>(
     alloc: Global,
     schema: &Set,
     index: u32,
-    mib: &mut ListMib<L>,
+    mib: &mut Mib<L>,
     instance: &InstRec,
     steps: &mut Steps<L>,
 ) -> Result<(), OpeningRefusal>
@@ -138,7 +139,7 @@ fn open_one<L: StepLedger>(
 fn open_others<L: StepLedger>(
     alloc: Global,
     schema: &Set,
-    mib: &mut ListMib<L>,
+    mib: &mut Mib<L>,
     others: &[InstRec],
     steps: &mut Steps<L>,
 ) -> Result<(), OpeningRefusal>
@@ -159,7 +160,7 @@ fn open_root<L: StepLedger>(
     schema: &Set,
     first: &InstRec,
     steps: &mut Steps<L>,
-) -> Result<ListMib<L>, OpeningRefusal>
+) -> Result<Mib<L>, OpeningRefusal>
     ensures opened { IfOk result (λ mib.
         placed 1 [] [] (create_root schema.now (asking_of schema.now first.now)) ≡ Ok mib) }
     ensures refused { IfErr result
@@ -167,7 +168,7 @@ fn open_root<L: StepLedger>(
 {
     let asking = asking_of(alloc, schema, first)?;
     let made = create_root(alloc, schema, &asking)?;
-    let mut mib = ListMib::empty();
+    let mut mib = Mib::empty();
     place(alloc, FIRST, &mut mib, &Name::root(alloc), made, steps)?;
     Ok(mib)
 }
@@ -193,7 +194,7 @@ fn open_instances<L: StepLedger>(
     schema: &Set,
     instances: &[InstRec],
     steps: &mut Steps<L>,
-) -> Result<ListMib<L>, OpeningRefusal>
+) -> Result<Mib<L>, OpeningRefusal>
     ensures opened { IfOk result (λ mib. opened_instances schema.now instances.now ≡ Ok mib) }
     ensures refused { IfErr result (HasRefusal (opened_instances schema.now instances.now)) }
 {
@@ -213,7 +214,7 @@ fn open_from_root<L: StepLedger>(
     first: &InstRec,
     others: &[InstRec],
     steps: &mut Steps<L>,
-) -> Result<ListMib<L>, OpeningRefusal>
+) -> Result<Mib<L>, OpeningRefusal>
     ensures opened { IfOk result (λ mib. opened_root schema.now first.now others.now ≡ Ok mib) }
     ensures refused { IfErr result (HasRefusal (opened_root schema.now first.now others.now)) }
 {
@@ -234,7 +235,7 @@ fn open_and_count<L: StepLedger>(
     alloc: Global,
     schema: &Set,
     steps: &mut Steps<L>,
-) -> Result<ListMib<L>, OpeningRefusal>
+) -> Result<Mib<L>, OpeningRefusal>
     ensures opened { IfOk result (λ objects. opened schema.now ≡ Ok objects) }
     ensures refused { IfErr result (HasRefusal (opened schema.now)) }
 {
@@ -249,7 +250,7 @@ pub fn opening<L: StepLedger>(
     alloc: Global,
     schema: &Set,
     steps: &mut Steps<L>,
-) -> Result<ListMib<L>, OpeningRefusal>
+) -> Result<Mib<L>, OpeningRefusal>
     // the objects are those of the instances, one after the other
     ensures opened { IfOk result (λ objects. opened schema.now ≡ Ok objects) }
 

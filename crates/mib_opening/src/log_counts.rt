@@ -15,7 +15,8 @@ ghost use Rattle.mib_opening.specs.Walks.{behind};
 use crate::log_records::{RecordSums, record_sums};
 use attribute_rules::is_bound_log;
 use attribute_rules::labels::is_labelled;
-use mo_list::ListMib;
+use mo_list::ListMib as Mib;
+use object_maps::ObjectMap;
 use std::alloc::{AllocError, Global};
 use term_model::ranged::Ranged;
 use term_model::{Attribute, Attrs, Name, Names, Object, Set, StepLedger, Steps};
@@ -129,7 +130,7 @@ fn counted_log(
 fn log_told<L: StepLedger>(
     alloc: Global,
     schema: &Set,
-    mib: &ListMib<L>,
+    mib: &Mib<L>,
     log: &Name,
     steps: &mut Steps<L>,
 ) -> Result<Option<Object>, AllocError>
@@ -148,7 +149,7 @@ fn log_told<L: StepLedger>(
 fn recount<L: StepLedger>(
     alloc: Global,
     schema: &Set,
-    mib: &mut ListMib<L>,
+    mib: &mut Mib<L>,
     log: &Name,
     steps: &mut Steps<L>,
 ) -> Result<(), AllocError>
@@ -225,7 +226,7 @@ fn log_names<L: StepLedger, M: Ranged<L>>(
 pub fn count_logs<L: StepLedger>(
     alloc: Global,
     schema: &Set,
-    mib: &mut ListMib<L>,
+    mib: &mut Mib<L>,
     steps: &mut Steps<L>,
 ) -> Result<(), AllocError>
     ensures { OnOk result (mib.new ≡ counted schema.now mib.old) }

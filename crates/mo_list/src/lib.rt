@@ -5,4 +5,4 @@ mod changes;
 mod list_mib;
 mod places;
 
-pub use list_mib::{Back, ListMib};
+pub use list_mib::ListMib;

@@ -7,22 +7,15 @@ ghost use Rattle.mo_list.specs.Entries.{objects_in, objects_of};
 
 use crate::changes::{add_entry, drop_entry};
 use crate::places::{has_name_at, place_of, subtree_in};
+use object_maps::{Back, ObjectMap};
 use scope_select::Subtrees;
 use std::alloc::{AllocError, Global};
 use std::marker::{Model, PhantomData};
 use std::sync::Arc;
 use term_model::{Name, NamedObject, Object, Ranged, StepLedger, Steps};
 
-/// The name and the object that weren't stored.
-#[derive(Drop)]
-pub struct Back {
-    /// The name under which it was to be put.
-    pub name: Name,
-    /// The object itself.
-    pub object: Object,
-}
-
-/// A finite map from names to objects. Copying it with [`ListMib::share`] copies one reference.
+/// A finite map from names to objects. Sharing it copies one reference. Where an object is put into a list that is shared,
+/// or taken out, the list of references is copied, and else the references behind the place are moved.
 #[derive(Drop)]
 pub struct ListMib<L: StepLedger> {
     entries: Option<Arc<Vec<Arc<NamedObject>>>>,
@@ -56,40 +49,25 @@ fn entries_of(list: &Option<Arc<Vec<Arc<NamedObject>>>>) -> &[Arc<NamedObject>]
     }
 }
 
-impl<L: StepLedger> ListMib<L> {
-    /// No objects.
-    pub fn empty() -> ListMib<L>
-        ensures { result ≡ [] }
-    {
+impl<L: StepLedger> ObjectMap<L> for ListMib<L> {
+    fn empty() -> ListMib<L> {
         ListMib {
             entries: None,
             ledger: PhantomData,
         }
     }
 
-    /// How many objects there are.
-    pub fn len(&self) -> u64
-        ensures { result ≡ length self.now }
-    {
+    fn len(&self) -> u64 {
         entries_of(&self.entries).len() as u64
     }
 
-    /// Puts an object under its name, in place of the one that had it, and answers whether the name was there. For want
-    /// of memory the map is as it was, and both are handed back. The list of references is copied where it is shared,
-    /// and else the references behind the place are moved.
-    pub fn put(
+    fn put(
         &mut self,
         alloc: Global,
         name: Name,
         object: Object,
         steps: &mut Steps<L>,
-    ) -> Result<bool, Back>
-        ensures stored { OnOk result (self.new ≡ stored (record { name = name; object = object }) self.old) }
-        ensures had { IfOk result (λ had. had ≡ is_some (object_at self.old name)) }
-        ensures kept { OnErr result (self.new ≡ self.old) }
-        ensures back { IfErr result (λ back. (back.name ≡ name) × (back.object ≡ object)) }
-        ensures visits { IsOneCall self.old steps.old steps.new }
-    {
+    ) -> Result<bool, Back> {
         let entries = entries_of(&self.entries);
         let at = place_of(entries, &name, steps);
         let had = has_name_at(entries, at, &name, steps);
@@ -106,19 +84,12 @@ impl<L: StepLedger> ListMib<L> {
         Ok(had)
     }
 
-    /// Takes the object of a name out, and answers whether the name was there. For want of memory, as it takes where
-    /// the list is shared, the map is as it was.
-    pub fn take_out(
+    fn take_out(
         &mut self,
         alloc: Global,
         name: &Name,
         steps: &mut Steps<L>,
-    ) -> Result<bool, AllocError>
-        ensures removed { OnOk result (self.new ≡ removed name.now self.old) }
-        ensures had { IfOk result (λ had. had ≡ is_some (object_at self.old name.now)) }
-        ensures kept { OnErr result (self.new ≡ self.old) }
-        ensures visits { IsOneCall self.old steps.old steps.new }
-    {
+    ) -> Result<bool, AllocError> {
         let entries = entries_of(&self.entries);
         let at = place_of(entries, name, steps);
         let had = has_name_at(entries, at, name, steps);
@@ -128,10 +99,7 @@ impl<L: StepLedger> ListMib<L> {
         Ok(had)
     }
 
-    /// The same map again. Both share their objects, and a change of one leaves the other as it is.
-    pub fn share(&self) -> Result<ListMib<L>, AllocError>
-        ensures { IfOk result (λ map. map ≡ self.now) }
-    {
+    fn share(&self) -> Result<ListMib<L>, AllocError> {
         let entries = match &self.entries {
             None => None,
             Some(list) => Some(Arc::try_clone(list)?),

@@ -3,6 +3,7 @@
 use crate::row_names::{add_name, class_of, name_of};
 use crate::row_scopes::answer_scope;
 use mo_list::ListMib;
+use object_maps::ObjectMap;
 use std::alloc::{AllocError, Global};
 use term_model::{Attrs, Name, Object, Oids, Ranged, StepLedger, Steps};
 

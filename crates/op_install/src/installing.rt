@@ -4,14 +4,15 @@ ghost use Rattle.std.specs.Prelude.{◌≡◌, OnOk};
 ghost use Rattle.term_model.specs.NamedObjects.{IsByName};
 ghost use Rattle.operation_model.specs.WholeOperation.{installed, installed_at};
 
-use mo_list::ListMib;
+use mo_list::ListMib as Mib;
+use object_maps::ObjectMap;
 use std::alloc::{AllocError, Global};
 use term_model::{Name, Object, Patch, Ranged, StepLedger, Steps};
 
 /// Lets this object stand under a name, or none.
 fn install_one<L: StepLedger>(
     alloc: Global,
-    mib: &mut ListMib<L>,
+    mib: &mut Mib<L>,
     name: Name,
     left: Option<Object>,
     steps: &mut Steps<L>,
@@ -33,7 +34,7 @@ fn install_one<L: StepLedger>(
 /// Installs changes, one after the other. That the names rise is told by each look into the map.
 pub(crate) fn install<L: StepLedger>(
     alloc: Global,
-    mib: &mut ListMib<L>,
+    mib: &mut Mib<L>,
     changes: Patch,
     steps: &mut Steps<L>,
 ) -> Result<(), AllocError>

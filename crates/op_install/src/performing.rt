@@ -7,7 +7,7 @@ ghost use Rattle.operation_model.specs.OperationConditions.{AreSmall, HasValidFi
 ghost use Rattle.operation_model.specs.WholeOperation.{Outcome, outcome};
 
 use crate::installing::install;
-use mo_list::ListMib;
+use mo_list::ListMib as Mib;
 use op_engine::{Replies, plan_request};
 use std::alloc::{AllocError, Global};
 use term_model::{Request, Set, StepLedger, Steps};
@@ -34,7 +34,7 @@ fn has_outcome(request: &Request) -> bool
 pub fn perform_request<L: StepLedger>(
     alloc: Global,
     schema: &Set,
-    mib: &mut ListMib<L>,
+    mib: &mut Mib<L>,
     request: &Request,
     moment: u64,
     steps: &mut Steps<L>,

@@ -42,8 +42,8 @@ fn write_rdn(rdn: &Rdn, into: &mut Vec<u8>) -> Result<(), AllocError>
     write_header_backwards(true, Tag::SET, size, into)
 }
 
-/// Appends the RDNs of a name, the last octet first.
-fn write_rdns(name: &[Rdn], into: &mut Vec<u8>) -> Result<(), AllocError>
+/// Appends the RDNs of a name, the last octet first. The refusal is that there is no memory.
+pub fn write_rdns(name: &[Rdn], into: &mut Vec<u8>) -> Result<(), AllocError>
     ensures written { OnOk result
         (into.new.items ≡ into.old.items ++ reverse (flat_map rdn_octets name.now)) }
     ensures begun { Extends into.old.items into.new.items }

@@ -1,4 +1,4 @@
-//! The arguments of rows that programs of tests answer, and how octets and identifiers are shown in answers.
+//! The arguments of rows that programs of tests answer, and how octets are shown in answers.
 #![tactic(auto)]
 
 pub mod reading;

@@ -52,7 +52,7 @@ pub fn id(text: &str) -> Result<i32, RowFault> {
 }
 
 /// A number below 2 ^ 32.
-pub fn arc(text: &str) -> Result<u32, RowFault> {
+fn arc(text: &str) -> Result<u32, RowFault> {
     match text.trim().parse::<u32>() {
         Ok(number) => Ok(number),
         Err(_) => Err(RowFault::Number),
@@ -113,7 +113,7 @@ pub fn bytes(alloc: Global, text: &str) -> Result<Bytes, RowFault> {
 }
 
 /// Arcs with points between them; `*` and a number behind an arc say how often it stands, and an empty part has none.
-pub fn arcs(alloc: Global, text: &str) -> Result<Vec<u32>, RowFault> {
+fn arcs(alloc: Global, text: &str) -> Result<Vec<u32>, RowFault> {
     let mut arcs = Vec::new(alloc);
     for part in text.split('.') {
         let (number, count) = part.split_once('*').unwrap_or((part, "1"));

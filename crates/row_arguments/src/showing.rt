@@ -1,7 +1,6 @@
-//! Octets and identifiers as an answer has them.
+//! Octets as an answer has them.
 
 use std::alloc::AllocError;
-use term_values::Oid;
 
 /// So many equal octets and more in a row are a word of their own.
 const LONG_RUN: usize = 16;
@@ -34,14 +33,4 @@ pub fn show_octets(octets: &[u8], out: &mut String) -> Result<(), AllocError> {
         count = count.saturating_add(1);
     }
     show_run(last, count, out)
-}
-
-/// Appends arcs with points between them.
-pub fn show_oid(oid: &Oid, out: &mut String) -> Result<(), AllocError> {
-    let mut between = "";
-    for arc in oid.arcs() {
-        write!(out, "{between}{arc}")?;
-        between = ".";
-    }
-    Ok(())
 }

@@ -6,20 +6,20 @@ use Rattle.std.proofs.lemmas.List.Elements.{All-cons, All-head, All-nil, All-tai
 use Rattle.std.specs.Prelude.{◌↔◌, IfErr, IsTrue}
 use Rattle.std.specs.List.{All}
 use Rattle.std.specs.Result.{IsErrAnd}
-use Rattle.term_model.specs.declared.agent_state.AgentState.{AgentState}
-use Rattle.term_model.specs.declared.entry.Entry.{Entry}
+use Rattle.agent_model.specs.declared.agent_state.AgentState.{AgentState}
+use Rattle.agent_model.specs.declared.entry.Entry.{Entry}
 use Rattle.term_model.specs.declared.objects.NamedObject.{NamedObject}
 use Rattle.term_model.specs.declared.schema.Set.{Set}
-use Rattle.term_model.specs.AgentLimits.{shipped}
-use Rattle.term_model.specs.History.{came}
+use Rattle.agent_model.specs.AgentLimits.{shipped}
+use Rattle.agent_model.specs.History.{came}
 use Rattle.term_model.specs.Opening.{opened}
-use Rattle.term_model.specs.Played.{Play}
-use Rattle.term_model.specs.Settled.{IsSettled}
-use Rattle.term_model.specs.TextLaws.{IsEntry}
-use Rattle.term_model.specs.Texts.{journal_text, outs, separator}
+use Rattle.agent_model.specs.Played.{Play}
+use Rattle.agent_model.specs.Settled.{IsSettled}
+use Rattle.agent_model.specs.TextLaws.{IsEntry}
+use Rattle.agent_model.specs.Texts.{journal_text, outs, separator}
 use Rattle.term_model.specs.WellFormedObjects.{AreGood}
 use Rattle.term_model.specs.WholeSet.{IsWhole}
-use Rattle.term_model.proofs.TextLaws.{print_tells_journal, texts_differ}
+use Rattle.agent_model.proofs.TextLaws.{print_tells_journal, texts_differ}
 use Rattle.agent_model.specs.declared.script_line.ScriptLine.{ScriptLine}
 use Rattle.agent_model.specs.JournalRoom.{HasRoom, IsFilled}
 use Rattle.agent_model.specs.Journals.{is_legal_journal, replayed}

@@ -5,12 +5,12 @@ use Rattle.document_parts.specs.declared.documents.Doc.{Doc}
 use Rattle.mib_opening.specs.declared.refusal.OpeningRefusal.TheVariants as O
 use Rattle.mib_opening.specs.Refusals.{HasRefusal}
 use Rattle.template_compile.specs.DocumentFaults.{IsTold}
-use Rattle.term_model.specs.declared.agent_state.AgentState.{AgentState}
+use Rattle.agent_model.specs.declared.agent_state.AgentState.{AgentState}
 use Rattle.term_model.specs.declared.objects.NamedObject.{NamedObject}
 use Rattle.term_model.specs.declared.schema.Set.{Set}
 use Rattle.term_model.specs.Opening.{opened}
-use Rattle.term_model.specs.Played.{Play}
-use Rattle.term_model.specs.Texts.{journal_text}
+use Rattle.agent_model.specs.Played.{Play}
+use Rattle.agent_model.specs.Texts.{journal_text}
 use Rattle.bound_classes.specs.Behaviour.{has_behaviour}
 use Rattle.agent_steps.specs.Asking.{has_unbuilt}
 use Rattle.run_command.specs.declared.refusal.RunRefusal.{RunRefusal}

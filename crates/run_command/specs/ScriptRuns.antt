@@ -9,16 +9,16 @@ use Rattle.mib_opening.specs.Refusals.{HasRefusal}
 use Rattle.opening_laws.specs.Encodable.{IsEncodable}
 use Rattle.template_compile.specs.declared.counts.Counts.{Counts}
 use Rattle.template_compile.specs.Counting.{IsCompiled}
-use Rattle.term_model.specs.declared.entry.Entry.{Entry}
+use Rattle.agent_model.specs.declared.entry.Entry.{Entry}
 use Rattle.term_model.specs.declared.objects.NamedObject.{NamedObject}
 use Rattle.term_model.specs.declared.schema.Set.{Set}
-use Rattle.term_model.specs.AgentLimits.{shipped}
-use Rattle.term_model.specs.History.{came}
+use Rattle.agent_model.specs.AgentLimits.{shipped}
+use Rattle.agent_model.specs.History.{came}
 use Rattle.term_model.specs.Opening.{opened}
-use Rattle.term_model.specs.Played.{Play}
-use Rattle.term_model.specs.Settled.{IsSettled}
-use Rattle.term_model.specs.TextLaws.{IsEntry}
-use Rattle.term_model.specs.Texts.{journal_text, outs, separator}
+use Rattle.agent_model.specs.Played.{Play}
+use Rattle.agent_model.specs.Settled.{IsSettled}
+use Rattle.agent_model.specs.TextLaws.{IsEntry}
+use Rattle.agent_model.specs.Texts.{journal_text, outs, separator}
 use Rattle.term_model.specs.WellFormedObjects.{AreGood}
 use Rattle.term_model.specs.WholeSet.{IsWhole}
 use Rattle.agent_model.specs.declared.script_line.ScriptLine.{ScriptLine}

@@ -9,16 +9,17 @@ ghost use Rattle.run_command.specs.RunCauses.{HasBehaviourCause, HasCause, HasCo
 ghost use Rattle.run_command.specs.RunCauses.{HasFullCause, HasOpeningCause, HasPlayCause, HasSchemaCause};
 ghost use Rattle.run_command.specs.ScriptRuns.{AreCompiled, IsPlayedOn, IsRun, IsRunOf};
 ghost use Rattle.term_model.specs.Opening.{opened};
-ghost use Rattle.term_model.specs.Texts.{journal_text, outs, separator};
+ghost use Rattle.agent_model.specs.Texts.{journal_text, outs, separator};
 ghost use Rattle.term_model.specs.WellFormedObjects.{AreGood};
 ghost use Rattle.term_model.specs.WholeSet.{IsWhole};
 
 use crate::refusal::{RunRefusal, of_compiling, of_opening};
+use agent_model::Limits;
 use agent_steps::Agent;
 use bound_classes::has_behaviour;
 use journal_text::texts::{text_of_run, write_journal};
 use mib_opening::opening;
-use mo_list::ListMib;
+use mo_list::ListMib as Mib;
 use opening_sizes::laws::opened_are_small;
 use script_lines::read_script_text;
 use script_playing::laws::objects_stay_good;
@@ -27,7 +28,7 @@ use std::alloc::{AllocError, Global};
 use std::marker::Brand;
 use std::sync::ledger::{Blank, Ledger};
 use template_compile::{Doc, compile_documents};
-use term_model::{Limits, Set, StepLedger, Steps, Tally};
+use term_model::{Set, StepLedger, Steps, Tally};
 
 /// The schema to which documents are compiled.
 fn compiled(alloc: Global, documents: &[Doc]) -> Result<Set, RunRefusal>
@@ -46,7 +47,7 @@ fn opened_objects<L: StepLedger>(
     alloc: Global,
     schema: &Set,
     steps: &mut Steps<L>,
-) -> Result<ListMib<L>, RunRefusal>
+) -> Result<Mib<L>, RunRefusal>
     ensures opened { IfOk result (λ objects. opened schema.now ≡ Ok objects) }
     ensures good { IfOk result (λ objects. IsWhole schema.now → IsEncodable schema.now → AreGood schema.now objects) }
     ensures cause { IfErr result (HasOpeningCause schema.now) }
@@ -158,7 +159,7 @@ fn refusal_of_full<L: StepLedger>(
 fn play_on<L: StepLedger + Drop>(
     alloc: Global,
     schema: Set,
-    objects: ListMib<L>,
+    objects: Mib<L>,
     script: &[u8],
     steps: &mut Steps<L>,
 ) -> Result<Vec<u8>, RunRefusal>

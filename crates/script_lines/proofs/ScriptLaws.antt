@@ -2,7 +2,7 @@
 use Rattle.std.proofs.Common.{◌≡◌, ℕ, List, [], ◌∷◌, ◌++◌, None, refl, sym, ap, ◌∙◌, subst, append_assoc}
 use Rattle.std.specs.Prelude.{flat_map}
 use Rattle.std.proofs.lemmas.List.Elements.{All-head, All-tail}
-use Rattle.term_model.specs.Texts.{line_feed}
+use Rattle.term_model.specs.LineTexts.{line_feed}
 use Rattle.agent_model.specs.declared.script_line.ScriptLine.{ScriptLine}
 use Rattle.script_lines.specs.ScriptText.{BeginsNoLine, FirstLinesAreOne, IsLine, line_text, words_of}
 use Rattle.script_lines.specs.LineParts.{IsLineIn, IsSplit, IsWithout}

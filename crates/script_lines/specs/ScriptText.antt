@@ -2,7 +2,7 @@
 use Rattle.std.specs.Prelude.{◌≡◌, ℕ, ◌<◌, ◌≤◌, ◌^◌, List, ◌++◌, codes, decimal, flat_map, length}
 use Rattle.std.specs.List.{All}
 use Rattle.hex.specs.Hex.{IsBytes, encode_upper}
-use Rattle.term_model.specs.Texts.{line_feed}
+use Rattle.term_model.specs.LineTexts.{line_feed}
 use Rattle.agent_model.specs.declared.script_line.ScriptLine.{ScriptLine}
 use Rattle.agent_model.specs.declared.script_line.ScriptLine.TheVariants as line
 

@@ -4,14 +4,14 @@ use Rattle.std.proofs.Common.{refl, sym, ap, ◌∙◌, arith, subst}
 use Rattle.std.specs.Option.{option_map_or}
 use Rattle.std.proofs.lemmas.Bool.{le-ltb, lt-ltb}
 use Rattle.std.proofs.lemmas.List.{length_push}
-use Rattle.term_model.specs.declared.agent_state.AgentState.{AgentState}
-use Rattle.term_model.specs.declared.agent_state.Association.{Association}
-use Rattle.term_model.specs.declared.entry.Entry.TheVariants as entry
+use Rattle.agent_model.specs.declared.agent_state.AgentState.{AgentState}
+use Rattle.agent_model.specs.declared.agent_state.Association.{Association}
+use Rattle.agent_model.specs.declared.entry.Entry.TheVariants as entry
 use Rattle.term_model.specs.declared.request.Invocation.{Invocation}
-use Rattle.term_model.specs.AgentState.{association_of, is_live_state, operation_of}
-use Rattle.term_model.specs.Played.{Play}
-use Rattle.term_model.specs.Step.{is_legal, last_moment, queued}
-use Rattle.term_model.proofs.StepLaws.{granted_stands}
+use Rattle.agent_model.specs.AgentState.{association_of, is_live_state, operation_of}
+use Rattle.agent_model.specs.Played.{Play}
+use Rattle.agent_model.specs.Step.{is_legal, last_moment, queued}
+use Rattle.agent_model.proofs.StandingLaws.{granted_stands}
 use Rattle.agent_model.specs.Playing.{answered, with_entry}
 use Rattle.agent_model.specs.Stepping.{step}
 use Rattle.agent_model.proofs.StepLaws.{commits_granted, granted_then}

@@ -5,15 +5,15 @@ use Rattle.std.specs.Prelude.{is_some, if◌then◌else◌}
 use Rattle.std.specs.Option.{option_map_or}
 use Rattle.std.proofs.lemmas.Bool.{cases_Bool, false≢true}
 use Rattle.std.proofs.lemmas.Option.{none-some, same_Some}
-use Rattle.term_model.specs.declared.agent_state.Association.{Association}
-use Rattle.term_model.specs.declared.agent_state.AssociationState.{AssociationState}
-use Rattle.term_model.specs.declared.agent_state.AssociationState.TheVariants as standing
-use Rattle.term_model.specs.declared.entry.Entry.TheVariants as entry
-use Rattle.term_model.specs.declared.entry.Why.TheVariants as why
-use Rattle.term_model.specs.AgentState.{association_of, is_closed_state, is_finished_state, is_live_state}
-use Rattle.term_model.specs.Played.{Play}
-use Rattle.term_model.specs.Step.{changed_association, counted, is_legal, may_close, with_state}
-use Rattle.term_model.proofs.StepLaws.{stands_from_some}
+use Rattle.agent_model.specs.declared.agent_state.Association.{Association}
+use Rattle.agent_model.specs.declared.agent_state.AssociationState.{AssociationState}
+use Rattle.agent_model.specs.declared.agent_state.AssociationState.TheVariants as standing
+use Rattle.agent_model.specs.declared.entry.Entry.TheVariants as entry
+use Rattle.agent_model.specs.declared.entry.Why.TheVariants as why
+use Rattle.agent_model.specs.AgentState.{association_of, is_closed_state, is_finished_state, is_live_state}
+use Rattle.agent_model.specs.Played.{Play}
+use Rattle.agent_model.specs.Step.{changed_association, counted, is_legal, may_close, with_state}
+use Rattle.agent_model.proofs.StandingLaws.{stands_from_some}
 use Rattle.agent_model.specs.Playing.{closed, closed_from, finished, taken_all, with_entry}
 use Rattle.agent_model.specs.Stepping.{step}
 use Rattle.agent_model.proofs.StepLaws.{closed_at_end, finished_at}

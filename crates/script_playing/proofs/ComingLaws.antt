@@ -4,14 +4,14 @@ use Rattle.std.proofs.Common.{None, refl, sym, ap, ◌∙◌, subst}
 use Rattle.std.specs.Prelude.{◌==◌, nat_lt, if◌then◌else◌}
 use Rattle.std.specs.Option.{option_map_or}
 use Rattle.std.proofs.lemmas.Bool.{eqb-false, ltb-true}
-use Rattle.term_model.specs.declared.agent_state.AgentState.{AgentState}
-use Rattle.term_model.specs.declared.agent_state.Association.{Association}
-use Rattle.term_model.specs.declared.entry.Entry.{Entry}
-use Rattle.term_model.specs.declared.entry.Entry.TheVariants as entry
-use Rattle.term_model.specs.declared.entry.Why.TheVariants as why
-use Rattle.term_model.specs.AgentState.{association_of, is_closed_state, is_live_state, left_to_take}
-use Rattle.term_model.specs.Played.{Play}
-use Rattle.term_model.specs.Step.{is_legal}
+use Rattle.agent_model.specs.declared.agent_state.AgentState.{AgentState}
+use Rattle.agent_model.specs.declared.agent_state.Association.{Association}
+use Rattle.agent_model.specs.declared.entry.Entry.{Entry}
+use Rattle.agent_model.specs.declared.entry.Entry.TheVariants as entry
+use Rattle.agent_model.specs.declared.entry.Why.TheVariants as why
+use Rattle.agent_model.specs.AgentState.{association_of, is_closed_state, is_live_state, left_to_take}
+use Rattle.agent_model.specs.Played.{Play}
+use Rattle.agent_model.specs.Step.{is_legal}
 use Rattle.agent_model.specs.Journals.{is_legal_journal, replayed}
 use Rattle.agent_model.specs.Playing.{all_taken, answered, beginning, closed, closed_from, finished, taken_all}
 use Rattle.agent_model.specs.Playing.{taken_from, with_entry}

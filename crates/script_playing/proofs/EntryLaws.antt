@@ -6,25 +6,25 @@ use Rattle.std.specs.Option.{option_map_or}
 use Rattle.std.proofs.lemmas.Bool.{cases_Bool, false≢true, le-leb}
 use Rattle.std.proofs.lemmas.List.Elements.{All-push}
 use Rattle.std.proofs.lemmas.Option.{same_Some}
-use Rattle.term_model.specs.declared.agent_state.AgentState.{AgentState}
-use Rattle.term_model.specs.declared.agent_state.Association.{Association}
-use Rattle.term_model.specs.declared.agent_state.AssociationState.{AssociationState}
-use Rattle.term_model.specs.declared.agent_state.AssociationState.TheVariants as standing
-use Rattle.term_model.specs.declared.agent_state.Operation.{Operation}
-use Rattle.term_model.specs.declared.agent_state.OperationState.TheVariants as operation
-use Rattle.term_model.specs.declared.agent_state.Work.TheVariants as work
-use Rattle.term_model.specs.declared.entry.Entry.TheVariants as entry
+use Rattle.agent_model.specs.declared.agent_state.AgentState.{AgentState}
+use Rattle.agent_model.specs.declared.agent_state.Association.{Association}
+use Rattle.agent_model.specs.declared.agent_state.AssociationState.{AssociationState}
+use Rattle.agent_model.specs.declared.agent_state.AssociationState.TheVariants as standing
+use Rattle.agent_model.specs.declared.agent_state.Operation.{Operation}
+use Rattle.agent_model.specs.declared.agent_state.OperationState.TheVariants as operation
+use Rattle.agent_model.specs.declared.agent_state.Work.TheVariants as work
+use Rattle.agent_model.specs.declared.entry.Entry.TheVariants as entry
 use Rattle.term_model.specs.declared.request.Invocation.{Invocation}
-use Rattle.term_model.specs.AgentState.{association_of, is_closed_state, is_ended_state}
-use Rattle.term_model.specs.AgentState.{is_live_state, numbered, operation_of, outstanding}
+use Rattle.agent_model.specs.AgentState.{association_of, is_closed_state, is_ended_state}
+use Rattle.agent_model.specs.AgentState.{is_live_state, numbered, operation_of, outstanding}
 use Rattle.term_model.specs.Arriving.{Arriving}
 use Rattle.term_model.specs.Arriving.Arriving.{Rejected, Cancels, NoEffect, Queued}
-use Rattle.term_model.specs.Bind.{bind_answer, title_in}
+use Rattle.agent_model.specs.Bind.{bind_answer, title_in}
 use Rattle.term_model.specs.RemoteOperation.{frame, integer}
 use Rattle.term_model.specs.SentApdus.{sent_reject}
-use Rattle.term_model.specs.Step.{changed_association, changed_operation, counted, ended, is_legal, last_moment}
-use Rattle.term_model.specs.Step.{no_such_invoke_id, queued}
-use Rattle.term_model.proofs.StepLaws.{changed_last, numbered_last}
+use Rattle.agent_model.specs.Step.{changed_association, changed_operation, counted, ended, is_legal, last_moment}
+use Rattle.agent_model.specs.Step.{no_such_invoke_id, queued}
+use Rattle.agent_model.proofs.StandingLaws.{changed_last, numbered_last}
 use Rattle.operation_model.specs.WholeOperation.{Outcome, outcome}
 use Rattle.agent_model.specs.Binding.{accepted, answer_to, associated}
 use Rattle.agent_model.specs.Performing.{frames_to, is_confirmed, with_own}

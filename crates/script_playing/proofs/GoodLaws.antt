@@ -2,19 +2,19 @@
 use Rattle.std.proofs.Common.{◌≡◌, ℕ, ℤ, Bool, true, false, List, [], ◌∷◌, Option, Some, None, refl, sym, ap, subst}
 use Rattle.std.specs.Prelude.{if◌then◌else◌}
 use Rattle.std.specs.Option.{option_map_or}
-use Rattle.term_model.specs.declared.agent_state.AgentState.{AgentState}
-use Rattle.term_model.specs.declared.agent_state.Association.{Association}
-use Rattle.term_model.specs.declared.agent_state.Operation.{Operation}
-use Rattle.term_model.specs.declared.agent_state.Work.{Work}
-use Rattle.term_model.specs.declared.agent_state.Work.TheVariants as work
-use Rattle.term_model.specs.declared.entry.Entry.{Entry}
-use Rattle.term_model.specs.declared.entry.Entry.TheVariants as entry
-use Rattle.term_model.specs.declared.limits.Limits.{Limits}
+use Rattle.agent_model.specs.declared.agent_state.AgentState.{AgentState}
+use Rattle.agent_model.specs.declared.agent_state.Association.{Association}
+use Rattle.agent_model.specs.declared.agent_state.Operation.{Operation}
+use Rattle.agent_model.specs.declared.agent_state.Work.{Work}
+use Rattle.agent_model.specs.declared.agent_state.Work.TheVariants as work
+use Rattle.agent_model.specs.declared.entry.Entry.{Entry}
+use Rattle.agent_model.specs.declared.entry.Entry.TheVariants as entry
+use Rattle.agent_model.specs.declared.limits.Limits.{Limits}
 use Rattle.term_model.specs.declared.reply.Reply.{Reply}
 use Rattle.term_model.specs.declared.request.Request.{Request}
 use Rattle.term_model.specs.declared.schema.Set.{Set}
-use Rattle.term_model.specs.AgentState.{association_of, granted_moment, operation_of}
-use Rattle.term_model.specs.Step.{is_legal}
+use Rattle.agent_model.specs.AgentState.{association_of, granted_moment, operation_of}
+use Rattle.agent_model.specs.Step.{is_legal}
 use Rattle.term_model.specs.WellFormedObjects.{AreGood}
 use Rattle.operation_model.specs.WholeOperation.{Outcome, outcome}
 use Rattle.op_install.proofs.Staying.{outcomes_stay_good}
@@ -87,8 +87,10 @@ step_good : (agent : AgentState) (next : Entry) → AreGood agent.schema agent.o
     → AreGood agent.schema (step agent next).objects
 step_good agent (entry.Opened number bind) = plain_good agent (entry.Opened number bind) tt
 step_good agent (entry.Arrived number apdu) = plain_good agent (entry.Arrived number apdu) tt
+step_good agent (entry.Begun number log) = plain_good agent (entry.Begun number log) tt
 step_good agent (entry.Granted number moment) = plain_good agent (entry.Granted number moment) tt
 step_good agent (entry.Committed number) = commit_good agent number
+step_good agent (entry.Starved number) = plain_good agent (entry.Starved number) tt
 step_good agent (entry.Taken number count) = plain_good agent (entry.Taken number count) tt
 step_good agent (entry.Finished number) = plain_good agent (entry.Finished number) tt
 step_good agent (entry.Closed number cause) = plain_good agent (entry.Closed number cause) tt

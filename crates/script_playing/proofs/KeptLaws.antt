@@ -2,13 +2,13 @@
 use Rattle.std.proofs.Common.{◌≡◌, ℕ, ◌+◌, ◌≤◌, true, List, [], ◌∷◌, ◌++◌, length, sym, ap, ◌∙◌, arith, subst}
 use Rattle.std.proofs.lemmas.List.{length_push}
 use Rattle.std.proofs.lemmas.List.Elements.{All-push}
-use Rattle.term_model.specs.declared.agent_state.AgentState.{AgentState}
-use Rattle.term_model.specs.declared.entry.Entry.{Entry}
-use Rattle.term_model.specs.declared.entry.Entry.TheVariants as entry
-use Rattle.term_model.specs.declared.limits.Limits.{Limits}
+use Rattle.agent_model.specs.declared.agent_state.AgentState.{AgentState}
+use Rattle.agent_model.specs.declared.entry.Entry.{Entry}
+use Rattle.agent_model.specs.declared.entry.Entry.TheVariants as entry
+use Rattle.agent_model.specs.declared.limits.Limits.{Limits}
 use Rattle.term_model.specs.declared.schema.Set.{Set}
-use Rattle.term_model.specs.Step.{is_legal}
-use Rattle.term_model.specs.TextLaws.{IsEntry}
+use Rattle.agent_model.specs.Step.{is_legal}
+use Rattle.agent_model.specs.TextLaws.{IsEntry}
 use Rattle.operation_model.specs.OperationConditions.{AreSmall}
 use Rattle.agent_model.specs.Stepping.{step}
 use Rattle.agent_model.proofs.FrameLaws.{opened_count, step_count}

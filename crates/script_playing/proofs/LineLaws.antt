@@ -3,16 +3,16 @@ use Rattle.std.proofs.Common.{◌≡◌, ℕ, ◌+◌, ◌<◌, ◌≤◌, true,
 use Rattle.std.proofs.Common.{refl, sym, ap, ◌∙◌, arith, subst}
 use Rattle.std.specs.Prelude.{Ok, Err, MatchOption}
 use Rattle.std.proofs.lemmas.List.Elements.{All-nil}
-use Rattle.term_model.specs.declared.agent_state.AgentState.{AgentState}
-use Rattle.term_model.specs.declared.agent_state.Association.{Association}
-use Rattle.term_model.specs.declared.agent_state.Operation.{Operation}
-use Rattle.term_model.specs.declared.entry.Entry.{Entry}
-use Rattle.term_model.specs.declared.entry.Entry.TheVariants as entry
-use Rattle.term_model.specs.AgentState.{is_ended_state, numbered}
-use Rattle.term_model.specs.Played.{Play}
-use Rattle.term_model.specs.Settled.{IsSettled}
-use Rattle.term_model.specs.Step.{is_legal, last_moment}
-use Rattle.term_model.proofs.StepLaws.{ground_of, stands_from_some}
+use Rattle.agent_model.specs.declared.agent_state.AgentState.{AgentState}
+use Rattle.agent_model.specs.declared.agent_state.Association.{Association}
+use Rattle.agent_model.specs.declared.agent_state.Operation.{Operation}
+use Rattle.agent_model.specs.declared.entry.Entry.{Entry}
+use Rattle.agent_model.specs.declared.entry.Entry.TheVariants as entry
+use Rattle.agent_model.specs.AgentState.{is_ended_state, numbered}
+use Rattle.agent_model.specs.Played.{Play}
+use Rattle.agent_model.specs.Settled.{IsSettled}
+use Rattle.agent_model.specs.Step.{is_legal, last_moment}
+use Rattle.agent_model.proofs.StandingLaws.{ground_of, stands_from_some}
 use Rattle.agent_model.specs.declared.script_line.ScriptLine.{ScriptLine}
 use Rattle.agent_model.specs.declared.script_line.ScriptLine.TheVariants as line
 use Rattle.agent_model.specs.Journals.{is_legal_journal, replayed}
@@ -161,8 +161,10 @@ script_comes agent script play f e =
 opens_none : (next : Entry) → BringsNone next → OpensNone next
 opens_none (entry.Opened number bind) none = none
 opens_none (entry.Arrived number apdu) none = tt
+opens_none (entry.Begun number log) none = tt
 opens_none (entry.Granted number moment) none = tt
 opens_none (entry.Committed number) none = tt
+opens_none (entry.Starved number) none = tt
 opens_none (entry.Taken number count) none = tt
 opens_none (entry.Finished number) none = tt
 opens_none (entry.Closed number cause) none = tt

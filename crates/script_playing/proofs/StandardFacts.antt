@@ -1,11 +1,11 @@
 -- Examples of docs/PROFILE.md, sections 5 and 7, computed from the definitions: an agent before any entry, scripts that
 -- have a line which can't be played, one without lines, and journals without room.
 use Rattle.std.proofs.Common.{◌≡◌, List, [], ◌∷◌, Some, None, refl, arith}
-use Rattle.term_model.specs.declared.agent_state.AgentState.{AgentState}
-use Rattle.term_model.specs.declared.entry.Entry.{Entry}
-use Rattle.term_model.specs.declared.entry.Entry.TheVariants as entry
+use Rattle.agent_model.specs.declared.agent_state.AgentState.{AgentState}
+use Rattle.agent_model.specs.declared.entry.Entry.{Entry}
+use Rattle.agent_model.specs.declared.entry.Entry.TheVariants as entry
 use Rattle.term_model.specs.declared.schema.Set.{Set}
-use Rattle.term_model.specs.AgentLimits.{shipped}
+use Rattle.agent_model.specs.AgentLimits.{shipped}
 use Rattle.agent_model.specs.declared.script_line.ScriptLine.TheVariants as line
 use Rattle.agent_model.specs.Playing.{beginning}
 use Rattle.agent_model.specs.Starting.{started}

@@ -6,10 +6,10 @@ use Rattle.std.specs.Prelude.{is_some, slice_get, slice_set}
 use Rattle.std.specs.Option.{option_map_or}
 use Rattle.std.proofs.lemmas.Bool.{ne_eqb}
 use Rattle.std.proofs.lemmas.Option.{none-some, same_Some}
-use Rattle.term_model.specs.declared.agent_state.Association.{Association}
-use Rattle.term_model.specs.AgentState.{numbered}
-use Rattle.term_model.specs.Step.{changed_association}
-use Rattle.term_model.proofs.StepLaws.{changed_association_at, numbered_set, stands_from_some}
+use Rattle.agent_model.specs.declared.agent_state.Association.{Association}
+use Rattle.agent_model.specs.AgentState.{numbered}
+use Rattle.agent_model.specs.Step.{changed_association}
+use Rattle.agent_model.proofs.StandingLaws.{changed_association_at, numbered_set, stands_from_some}
 
 numbered_get : {T : Type 0} (items : List T) (number i : ℕ) → number ≡ i + 1 → numbered items number ≡ slice_get items i
 numbered_get items number i e = let d : number - 1 ≡ i = omega arith in rw (ne_eqb number 0 (λ z. omega arith), d) refl

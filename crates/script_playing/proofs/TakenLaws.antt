@@ -9,15 +9,15 @@ use Rattle.std.proofs.lemmas.Bool.{cases_Bool, eqb-true, eqb-false, false≢true
 use Rattle.std.proofs.lemmas.List.Elements.{All-head, All-map, All-tail, All-weaker}
 use Rattle.std.proofs.lemmas.List.Sums.{sum_by-cons}
 use Rattle.std.proofs.lemmas.Option.{same_Some}
-use Rattle.term_model.specs.declared.agent_state.AgentState.{AgentState}
-use Rattle.term_model.specs.declared.agent_state.Association.{Association}
-use Rattle.term_model.specs.declared.agent_state.AssociationState.TheVariants as standing
-use Rattle.term_model.specs.declared.agent_state.Operation.{Operation}
-use Rattle.term_model.specs.AgentState.{association_of, is_asked_by, is_closed_state, is_ended_state, is_outstanding}
-use Rattle.term_model.specs.AgentState.{left_to_take, numbered}
-use Rattle.term_model.specs.Step.{changed_association, ended_with, is_asked_as, is_outstanding_as, with_placed}
-use Rattle.term_model.specs.Step.{with_state}
-use Rattle.term_model.proofs.StepLaws.{stands_from_some}
+use Rattle.agent_model.specs.declared.agent_state.AgentState.{AgentState}
+use Rattle.agent_model.specs.declared.agent_state.Association.{Association}
+use Rattle.agent_model.specs.declared.agent_state.AssociationState.TheVariants as standing
+use Rattle.agent_model.specs.declared.agent_state.Operation.{Operation}
+use Rattle.agent_model.specs.AgentState.{association_of, is_asked_by, is_closed_state, is_ended_state, is_outstanding}
+use Rattle.agent_model.specs.AgentState.{left_to_take, numbered}
+use Rattle.agent_model.specs.Step.{changed_association, ended_with, is_asked_as, is_outstanding_as, with_placed}
+use Rattle.agent_model.specs.Step.{with_state}
+use Rattle.agent_model.proofs.StandingLaws.{stands_from_some}
 use Rattle.agent_model.specs.Placing.{overrun, placed_for, placed_within}
 use Rattle.script_playing.specs.Ready.{AreTaken, HaveEnded, IsTaken}
 use Rattle.script_playing.proofs.Standing.{changed_other, changed_own, numbered_push}

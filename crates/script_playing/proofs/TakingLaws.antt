@@ -5,11 +5,11 @@ use Rattle.std.specs.Prelude.{◌==◌, nat_lt, if◌then◌else◌}
 use Rattle.std.specs.Option.{option_map_or}
 use Rattle.std.proofs.lemmas.Bool.{cases_Bool, eqb-true, eqb-false, ltb-false, ltb-true, ne_eqb}
 use Rattle.std.proofs.lemmas.Option.{none-some, same_Some, slice_get_past}
-use Rattle.term_model.specs.declared.agent_state.Association.{Association}
-use Rattle.term_model.specs.declared.entry.Entry.TheVariants as entry
-use Rattle.term_model.specs.AgentState.{association_of, is_closed_state, left_to_take}
-use Rattle.term_model.specs.Played.{Play}
-use Rattle.term_model.specs.Step.{changed_association, counted, with_taken}
+use Rattle.agent_model.specs.declared.agent_state.Association.{Association}
+use Rattle.agent_model.specs.declared.entry.Entry.TheVariants as entry
+use Rattle.agent_model.specs.AgentState.{association_of, is_closed_state, left_to_take}
+use Rattle.agent_model.specs.Played.{Play}
+use Rattle.agent_model.specs.Step.{changed_association, counted, with_taken}
 use Rattle.agent_model.specs.Playing.{all_taken, taken_all, taken_from, with_entry}
 use Rattle.agent_model.specs.Stepping.{step}
 use Rattle.agent_model.proofs.StepLaws.{taken_at}

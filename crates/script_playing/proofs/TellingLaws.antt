@@ -1,7 +1,7 @@
 -- What is told of a play to the end of a script.
 use Rattle.std.proofs.Common.{◌≡◌, List, Ok, sym, subst}
-use Rattle.term_model.specs.declared.agent_state.AgentState.{AgentState}
-use Rattle.term_model.specs.Played.{Play}
+use Rattle.agent_model.specs.declared.agent_state.AgentState.{AgentState}
+use Rattle.agent_model.specs.Played.{Play}
 use Rattle.agent_model.specs.declared.script_line.ScriptLine.{ScriptLine}
 use Rattle.agent_model.specs.Playing.{ended, played}
 use Rattle.script_playing.specs.declared.playing.Ending.{Ending}

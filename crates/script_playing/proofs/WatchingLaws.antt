@@ -7,13 +7,13 @@ use Rattle.std.proofs.lemmas.Bool.{false≢true}
 use Rattle.std.proofs.lemmas.List.{flat_map_more, length-append, length_push, take-append-le}
 use Rattle.std.proofs.lemmas.List.Elements.{All-head, All-tail}
 use Rattle.std.proofs.lemmas.List.Sums.{sum_by-cons}
-use Rattle.term_model.specs.declared.agent_state.AgentState.{AgentState}
-use Rattle.term_model.specs.declared.agent_state.Operation.{Operation}
-use Rattle.term_model.specs.declared.agent_state.OperationState.{OperationState}
-use Rattle.term_model.specs.declared.agent_state.OperationState.TheVariants as operation
-use Rattle.term_model.specs.declared.entry.Entry.{Entry}
-use Rattle.term_model.specs.AgentState.{is_ended_state}
-use Rattle.term_model.specs.Texts.{journal_text, line}
+use Rattle.agent_model.specs.declared.agent_state.AgentState.{AgentState}
+use Rattle.agent_model.specs.declared.agent_state.Operation.{Operation}
+use Rattle.agent_model.specs.declared.agent_state.OperationState.{OperationState}
+use Rattle.agent_model.specs.declared.agent_state.OperationState.TheVariants as operation
+use Rattle.agent_model.specs.declared.entry.Entry.{Entry}
+use Rattle.agent_model.specs.AgentState.{is_ended_state}
+use Rattle.agent_model.specs.Texts.{journal_text, line}
 use Rattle.agent_model.specs.JournalRoom.{HasRoom, IsFilled, is_refused, is_refused_behind, places_asked, reserved}
 use Rattle.agent_model.specs.JournalRoom.{reserved_by_associations, reserved_by_operation, reserved_by_operations}
 use Rattle.agent_model.specs.Stepping.{step}

@@ -2,14 +2,14 @@
 -- docs/PROFILE.md, section 7.
 use Rattle.std.specs.Prelude.{◌≡◌, ◌≤◌, ℕ, List, [], length, true, IsTrue, Some}
 use Rattle.std.specs.List.{All}
-use Rattle.term_model.specs.declared.agent_state.AgentState.{AgentState}
-use Rattle.term_model.specs.declared.agent_state.Association.{Association}
-use Rattle.term_model.specs.declared.agent_state.Operation.{Operation}
-use Rattle.term_model.specs.declared.entry.Entry.{Entry}
-use Rattle.term_model.specs.AgentState.{is_ended_state, numbered}
-use Rattle.term_model.specs.Played.{Play}
-use Rattle.term_model.specs.Step.{last_moment}
-use Rattle.term_model.specs.TextLaws.{IsEntry}
+use Rattle.agent_model.specs.declared.agent_state.AgentState.{AgentState}
+use Rattle.agent_model.specs.declared.agent_state.Association.{Association}
+use Rattle.agent_model.specs.declared.agent_state.Operation.{Operation}
+use Rattle.agent_model.specs.declared.entry.Entry.{Entry}
+use Rattle.agent_model.specs.AgentState.{is_ended_state, numbered}
+use Rattle.agent_model.specs.Played.{Play}
+use Rattle.agent_model.specs.Step.{last_moment}
+use Rattle.agent_model.specs.TextLaws.{IsEntry}
 use Rattle.operation_model.specs.OperationConditions.{AreSmall}
 use Rattle.agent_model.specs.Journals.{is_legal_journal, replayed}
 

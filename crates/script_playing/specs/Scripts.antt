@@ -1,8 +1,8 @@
 -- Scripts: what a script comes to, told by its play or by the number of its first line whose condition does not hold,
 -- and whether the journal of the play has room for all of its entries; docs/PROFILE.md, section 7.
 use Rattle.std.specs.Prelude.{◌≡◌, ℕ, Ok, Err, List}
-use Rattle.term_model.specs.declared.agent_state.AgentState.{AgentState}
-use Rattle.term_model.specs.Played.{Play}
+use Rattle.agent_model.specs.declared.agent_state.AgentState.{AgentState}
+use Rattle.agent_model.specs.Played.{Play}
 use Rattle.agent_model.specs.declared.script_line.ScriptLine.{ScriptLine}
 use Rattle.agent_model.specs.JournalRoom.{HasRoom}
 use Rattle.agent_model.specs.Playing.{ended, played}

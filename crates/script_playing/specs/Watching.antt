@@ -2,10 +2,10 @@
 -- stand in front of the first one that is refused; docs/PROFILE.md, section 7.
 use Rattle.std.specs.Prelude.{◌≡◌, ℕ, ◌-◌, ◌^◌, ◌<◌, List, length, min, take}
 use Rattle.std.specs.Prelude.{Option, Some, None, MatchOption, if◌then◌else◌}
-use Rattle.term_model.specs.declared.agent_state.AgentState.{AgentState}
-use Rattle.term_model.specs.declared.entry.Entry.{Entry}
-use Rattle.term_model.specs.Played.{Play}
-use Rattle.term_model.specs.Texts.{journal_text}
+use Rattle.agent_model.specs.declared.agent_state.AgentState.{AgentState}
+use Rattle.agent_model.specs.declared.entry.Entry.{Entry}
+use Rattle.agent_model.specs.Played.{Play}
+use Rattle.agent_model.specs.Texts.{journal_text}
 use Rattle.agent_model.specs.JournalRoom.{HasRoom, IsFilled, is_refused, reserved}
 use Rattle.agent_model.specs.Journals.{replayed}
 use Rattle.script_playing.specs.declared.watching.Places.{Places}

@@ -4,15 +4,16 @@ ghost use Rattle.std.specs.Prelude.{◌≡◌, ◌+◌, ◌^◌, ◌<◌, ◌++�
 ghost use Rattle.std.specs.Prelude.{OnOk, Some};
 ghost use Rattle.agent_model.specs.Playing.{answered, finished, taken_all, with_entry};
 ghost use Rattle.agent_steps.specs.States.{IsIdle, moment_of_grant};
-ghost use Rattle.term_model.specs.Step.{is_legal};
+ghost use Rattle.agent_model.specs.Step.{is_legal};
 ghost use Rattle.script_playing.specs.Ready.{HaveEnded, IsKept};
 ghost use Rattle.script_playing.specs.Watching.{IsWatchedOn};
 
 use crate::watching::{Places, Watch};
+use agent_model::{Entry, Why};
 use agent_steps::Agent;
 use std::alloc::{AllocError, Global};
 use std::marker::Model;
-use term_model::{Entry, StepLedger, Steps, Why};
+use term_model::{StepLedger, Steps};
 use term_values::Bytes;
 
 /// A script on its way: the agent, its journal, and the moment at which it grants operations, in seconds since 1970.
@@ -28,7 +29,7 @@ impl<L: StepLedger> Model for Run<L> {
     ghost use Rattle.term_values.specs.SyntaxCode.{syntax_code};
     ghost use Rattle.term_values.specs.Typed.{value_code};
     ghost use Rattle.term_model.specs.contracts.filter.Filter as filter;
-    ghost use Rattle.term_model.specs.Played.{Play};
+    ghost use Rattle.agent_model.specs.Played.{Play};
 
     ghost Value = { Play };
 
@@ -89,7 +90,7 @@ impl<L: StepLedger> Run<L> {
         let octets = bind.as_slice();
         self.agent.open(alloc, octets)?;
         let next = Entry::Opened(number, bind);
-        watch.ask(&places, &next);
+        watch.ask(alloc, &places, &next)?;
         write_down(&mut self.journal, next);
         Ok(())
     }
@@ -114,13 +115,13 @@ impl<L: StepLedger> Run<L> {
         let octets = apdu.as_slice();
         self.agent.arrive(alloc, number, octets)?;
         let next = Entry::Arrived(number, apdu);
-        watch.ask(&places, &next);
+        watch.ask(alloc, &places, &next)?;
         write_down(&mut self.journal, next);
         Ok(())
     }
 
     /// Grants the operation under this number.
-    fn grant(&mut self, number: u64, watch: &mut Watch) -> Result<(), AllocError>
+    fn grant(&mut self, alloc: Global, number: u64, watch: &mut Watch) -> Result<(), AllocError>
         requires kept { IsKept self.old.agent self.old.journal }
         requires legal { IsTrue (is_legal self.old.agent (Entry.Granted number self.old.moment)) }
         ensures entered { OnOk result (self.new ≡ with_entry self.old (Entry.Granted number self.old.moment)) }
@@ -130,7 +131,7 @@ impl<L: StepLedger> Run<L> {
         make_room(&mut self.journal)?;
         self.agent.grant(number, self.moment);
         let next = Entry::Granted(number, self.moment);
-        watch.count(&next);
+        watch.count(alloc, &next)?;
         write_down(&mut self.journal, next);
         Ok(())
     }
@@ -152,7 +153,7 @@ impl<L: StepLedger> Run<L> {
         make_room(&mut self.journal)?;
         self.agent.commit(alloc, number, self.moment, steps)?;
         let next = Entry::Committed(number);
-        watch.count(&next);
+        watch.count(alloc, &next)?;
         write_down(&mut self.journal, next);
         Ok(())
     }
@@ -176,12 +177,12 @@ impl<L: StepLedger> Run<L> {
         if number <= before {
             return Ok(());
         }
-        self.grant(number, watch)?;
+        self.grant(alloc, number, watch)?;
         self.commit(alloc, number, steps, watch)
     }
 
     /// Takes all that is left of an association, where something is left.
-    pub fn take(&mut self, number: u64, watch: &mut Watch) -> Result<(), AllocError>
+    pub fn take(&mut self, alloc: Global, number: u64, watch: &mut Watch) -> Result<(), AllocError>
         requires kept { IsKept self.old.agent self.old.journal }
         requires ended { HaveEnded self.old.agent.operations }
         ensures taken { OnOk result (self.new ≡ taken_all number self.old) }
@@ -195,13 +196,18 @@ impl<L: StepLedger> Run<L> {
             return Ok(());
         }
         let next = Entry::Taken(number, count);
-        watch.ask(&places, &next);
+        watch.ask(alloc, &places, &next)?;
         write_down(&mut self.journal, next);
         Ok(())
     }
 
     /// Finishes an association, where it is live.
-    pub fn finish(&mut self, number: u64, watch: &mut Watch) -> Result<(), AllocError>
+    pub fn finish(
+        &mut self,
+        alloc: Global,
+        number: u64,
+        watch: &mut Watch,
+    ) -> Result<(), AllocError>
         requires kept { IsKept self.old.agent self.old.journal }
         ensures finished { OnOk result (self.new ≡ finished number self.old) }
         ensures kept { OnOk result (IsKept self.new.agent self.new.journal) }
@@ -213,13 +219,18 @@ impl<L: StepLedger> Run<L> {
         make_room(&mut self.journal)?;
         self.agent.finish(number);
         let next = Entry::Finished(number);
-        watch.count(&next);
+        watch.count(alloc, &next)?;
         write_down(&mut self.journal, next);
         Ok(())
     }
 
     /// Closes an association at its end.
-    pub fn close_at_end(&mut self, number: u64, watch: &mut Watch) -> Result<(), AllocError>
+    pub fn close_at_end(
+        &mut self,
+        alloc: Global,
+        number: u64,
+        watch: &mut Watch,
+    ) -> Result<(), AllocError>
         requires kept { IsKept self.old.agent self.old.journal }
         requires legal { IsTrue (is_legal self.old.agent (Entry.Closed number Why.End)) }
         ensures entered { OnOk result (self.new ≡ with_entry self.old (Entry.Closed number Why.End)) }
@@ -229,7 +240,7 @@ impl<L: StepLedger> Run<L> {
         make_room(&mut self.journal)?;
         self.agent.close_at_end(number);
         let next = Entry::Closed(number, Why::End);
-        watch.count(&next);
+        watch.count(alloc, &next)?;
         write_down(&mut self.journal, next);
         Ok(())
     }

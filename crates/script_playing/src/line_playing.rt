@@ -3,7 +3,7 @@
 ghost use Rattle.std.specs.Prelude.{◌≡◌, ◌+◌, length, Err, IfOk, IsSome, IsTrue, MatchOption, Ok, OnOk};
 ghost use Rattle.agent_model.specs.declared.script_line.ScriptLine.TheVariants as line;
 ghost use Rattle.agent_model.specs.Playing.{closed, ended, line_played, lines_played, may_play};
-ghost use Rattle.term_model.specs.AgentState.{association_of};
+ghost use Rattle.agent_model.specs.AgentState.{association_of};
 ghost use Rattle.script_playing.specs.Ready.{IsKept, IsReady};
 ghost use Rattle.script_playing.specs.Watching.{IsWatchedOn};
 
@@ -55,7 +55,7 @@ impl<L: StepLedger> Run<L> {
     {
         let number = self.next_number();
         self.open(alloc, number, bind, watch)?;
-        self.take(number, watch)
+        self.take(alloc, number, watch)
     }
 
     /// Plays a line that sends an APDU of an association.
@@ -77,11 +77,11 @@ impl<L: StepLedger> Run<L> {
         let before = self.count_operations();
         self.arrive(alloc, number, apdu, watch)?;
         self.answer(alloc, before, steps, watch)?;
-        self.take(number, watch)
+        self.take(alloc, number, watch)
     }
 
     /// Finishes an association that was opened, takes what is left of it and closes it, where it isn't closed.
-    fn close(&mut self, number: u64, watch: &mut Watch) -> Result<(), AllocError>
+    fn close(&mut self, alloc: Global, number: u64, watch: &mut Watch) -> Result<(), AllocError>
         requires kept { IsKept self.old.agent self.old.journal }
         requires ready { IsReady self.old }
         requires opened { IsSome (association_of self.old.agent number) }
@@ -92,9 +92,9 @@ impl<L: StepLedger> Run<L> {
         if self.agent.is_closed(number) {
             return Ok(());
         }
-        self.finish(number, watch)?;
-        self.take(number, watch)?;
-        self.close_at_end(number, watch)
+        self.finish(alloc, number, watch)?;
+        self.take(alloc, number, watch)?;
+        self.close_at_end(alloc, number, watch)
     }
 
     /// Plays a line whose condition holds.
@@ -120,7 +120,7 @@ impl<L: StepLedger> Run<L> {
             }
             ScriptLine::Open(bind) => self.play_open(alloc, bind, watch),
             ScriptLine::Send(number, apdu) => self.play_send(alloc, number, apdu, steps, watch),
-            ScriptLine::End(number) => self.close(number, watch),
+            ScriptLine::End(number) => self.close(alloc, number, watch),
         }
     }
 
@@ -152,7 +152,7 @@ impl<L: StepLedger> Run<L> {
     }
 
     /// Closes all associations that aren't closed, by rising number.
-    pub fn end(&mut self, watch: &mut Watch) -> Result<(), AllocError>
+    pub fn end(&mut self, alloc: Global, watch: &mut Watch) -> Result<(), AllocError>
         requires kept { IsKept self.old.agent self.old.journal }
         requires ready { IsReady self.old }
         ensures ended { OnOk result (self.new ≡ ended self.old) }
@@ -161,7 +161,7 @@ impl<L: StepLedger> Run<L> {
     {
         let count = self.count_associations();
         for before in 0..count {
-            self.close(before + 1, watch)?;
+            self.close(alloc, before + 1, watch)?;
         }
         Ok(())
     }

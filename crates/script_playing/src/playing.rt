@@ -2,10 +2,10 @@
 
 ghost use Rattle.std.specs.Prelude.{◌≡◌, ℕ, IfOk, IsTrue, MatchOption};
 ghost use Rattle.std.specs.List.{All};
-ghost use Rattle.term_model.specs.declared.agent_state.AgentState.{AgentState};
-ghost use Rattle.term_model.specs.History.{came};
-ghost use Rattle.term_model.specs.Settled.{IsSettled};
-ghost use Rattle.term_model.specs.TextLaws.{IsEntry};
+ghost use Rattle.agent_model.specs.declared.agent_state.AgentState.{AgentState};
+ghost use Rattle.agent_model.specs.History.{came};
+ghost use Rattle.agent_model.specs.Settled.{IsSettled};
+ghost use Rattle.agent_model.specs.TextLaws.{IsEntry};
 ghost use Rattle.operation_model.specs.OperationConditions.{AreSmall};
 ghost use Rattle.agent_model.specs.JournalRoom.{HasRoom};
 ghost use Rattle.agent_model.specs.Journals.{is_legal_journal, replayed};
@@ -16,11 +16,11 @@ ghost use Rattle.script_playing.specs.Watching.{IsFilledAt};
 
 use crate::entering::Run;
 use crate::watching::Watch;
-use agent_model::ScriptLines;
+use agent_model::{Entry, ScriptLines};
 use agent_steps::Agent;
 use std::alloc::{AllocError, Global};
 use std::marker::Model;
-use term_model::{Entry, StepLedger, Steps};
+use term_model::{StepLedger, Steps};
 
 /// The moment at which a script begins, in seconds since 1970.
 const SCRIPT_START: u64 = 0;
@@ -39,7 +39,7 @@ impl<L: StepLedger> Model for Play<L> {
     ghost use Rattle.term_values.specs.SyntaxCode.{syntax_code};
     ghost use Rattle.term_values.specs.Typed.{value_code};
     ghost use Rattle.term_model.specs.contracts.filter.Filter as filter;
-    ghost use Rattle.term_model.specs.Played.{Play};
+    ghost use Rattle.agent_model.specs.Played.{Play};
     ghost use Rattle.script_playing.specs.Ready.{IsJournaled};
 
     ghost Value = { Play };
@@ -155,7 +155,7 @@ pub fn play_script<L: StepLedger + Drop>(
         drop(run);
         return Ok(Ending::Bad(number));
     }
-    run.end(&mut watch)?;
+    run.end(alloc, &mut watch)?;
     let play = Play {
         agent: run.agent,
         journal: run.journal,

@@ -1,16 +1,18 @@
 //! A watch on the room of a journal while it is written: docs/PROFILE.md, section 7.
 
-ghost use Rattle.std.specs.Prelude.{◌≡◌, ◌+◌, ◌-◌, ◌*◌, ◌^◌, ◌<◌, ◌≤◌, ◌++◌, [], ◌∷◌, ℕ, List, length, min, nat_lt};
-ghost use Rattle.term_model.specs.declared.agent_state.AgentState.{AgentState};
-ghost use Rattle.term_model.specs.Texts.{line};
+ghost use Rattle.std.specs.Prelude.{◌≡◌, ◌+◌, ◌-◌, ◌*◌, ◌^◌, ◌<◌, ◌≤◌, ◌++◌, [], ◌∷◌, ℕ, List, OnOk, length, min, nat_lt};
+ghost use Rattle.agent_model.specs.declared.agent_state.AgentState.{AgentState};
+ghost use Rattle.agent_model.specs.Texts.{line};
 ghost use Rattle.agent_model.specs.JournalRoom.{is_refused, places_asked};
 ghost use Rattle.agent_model.specs.Stepping.{step};
 ghost use Rattle.script_playing.specs.Ready.{HaveEnded};
 ghost use Rattle.script_playing.specs.Watching.{AreOf, IsCounted, IsWatched, refused_then};
 
+use agent_model::{Entry, Limits};
 use agent_steps::Agent;
 use journal_text::lengths::line_length;
-use term_model::{Entry, Limits, StepLedger};
+use std::alloc::{AllocError, Global};
+use term_model::StepLedger;
 
 /// Octets of the text that are reserved for the line of a place without an entry.
 const OCTETS_OF_PLACE: u128 = 64;
@@ -41,9 +43,10 @@ fn places_asked(entry: &Entry) -> u128
     ensures few { result ≤ 3 }
 {
     match entry {
-        Entry::Opened(_, _) | Entry::Arrived(_, _) => 3,
+        Entry::Opened(_, _) | Entry::Arrived(_, _) | Entry::Begun(_, _) => 3,
         Entry::Taken(_, _) => 1,
-        Entry::Granted(_, _) | Entry::Committed(_) | Entry::Finished(_) | Entry::Closed(_, _) => 0,
+        Entry::Granted(_, _) | Entry::Committed(_) | Entry::Starved(_) => 0,
+        Entry::Finished(_) | Entry::Closed(_, _) => 0,
     }
 }
 
@@ -95,9 +98,11 @@ impl Watch {
         }
     }
 
-    /// Whether an entry is refused by an agent that has these places.
-    fn is_refused(&self, places: &Places, next: &Entry) -> bool
+    /// Whether an entry, whose line has so many octets, is refused by an agent that has these places.
+    fn is_refused(&self, places: &Places, next: &Entry, octets: u128) -> bool
         requires few { places.now.reserved < 2 ^ 65 }
+        requires told { octets ≡ length (line next.now) }
+        requires short { octets < 2 ^ 66 }
         ensures { (agent : AgentState) (count : ℕ) → AreOf agent places.now → IsCounted count self.now.octets
             → result ≡ is_refused agent count next.now }
     {
@@ -108,43 +113,60 @@ impl Watch {
         if places.passes_entries(asked) {
             return true;
         }
-        places.passes_text(self.octets, line_length(next), asked - 1)
+        places.passes_text(self.octets, octets, asked - 1)
     }
 
     /// How many entries stand in front of the first one that is refused, where this one is written down as well.
-    fn refused_then(&self, places: &Places, next: &Entry) -> Option<u64>
+    fn refused_then(&self, places: &Places, next: &Entry, octets: u128) -> Option<u64>
         requires few { places.now.reserved < 2 ^ 65 }
+        requires told { octets ≡ length (line next.now) }
+        requires short { octets < 2 ^ 66 }
         ensures { (agent : AgentState) (count : ℕ) → AreOf agent places.now → IsCounted count self.now.octets
             → result ≡ refused_then agent count self.now.refused next.now }
     {
         if self.refused.is_some() {
             return self.refused;
         }
-        if self.is_refused(places, next) {
+        if self.is_refused(places, next, octets) {
             return Some(places.entries);
         }
         None
     }
 
-    /// An entry that asks for no place is written down.
-    pub fn count(&mut self, next: &Entry)
+    /// An entry is written down whose line has so many octets.
+    fn add(&mut self, next: &Entry, octets: u128)
+        requires told { octets ≡ length (line next.now) }
         ensures octets { self.new.octets ≡ min (self.old.octets + length (line next.now)) (2 ^ 128 - 1) }
         ensures refused { self.new.refused ≡ self.old.refused }
         ensures watched { (first agent : AgentState) (journal : List Entry) → agent.entries ≡ length journal
             → places_asked next.now ≡ 0 → IsWatched first agent journal self.old
             → IsWatched first (step agent next.now) (journal ++ next.now ∷ []) self.new }
     {
-        self.octets = self.octets.saturating_add(line_length(next));
+        self.octets = self.octets.saturating_add(octets);
     }
 
-    /// An entry is written down that an agent takes which has these places before it.
-    pub fn ask(&mut self, places: &Places, next: &Entry)
-        requires few { places.now.reserved < 2 ^ 65 }
-        ensures { (first agent : AgentState) (journal : List Entry) → agent.entries ≡ length journal
-            → AreOf agent places.now → IsWatched first agent journal self.old
-            → IsWatched first (step agent next.now) (journal ++ next.now ∷ []) self.new }
+    /// An entry that asks for no place is written down. Where there is no memory to tell its line, nothing changes.
+    pub fn count(&mut self, alloc: Global, next: &Entry) -> Result<(), AllocError>
+        ensures watched { OnOk result ((first agent : AgentState) (journal : List Entry) → agent.entries ≡ length journal
+            → places_asked next.now ≡ 0 → IsWatched first agent journal self.old
+            → IsWatched first (step agent next.now) (journal ++ next.now ∷ []) self.new) }
     {
-        self.refused = self.refused_then(places, next);
-        self.count(next);
+        let octets = line_length(alloc, next)?;
+        self.add(next, octets);
+        Ok(())
+    }
+
+    /// An entry is written down that an agent takes which has these places before it. Where there is no memory to tell its
+    /// line, nothing changes.
+    pub fn ask(&mut self, alloc: Global, places: &Places, next: &Entry) -> Result<(), AllocError>
+        requires few { places.now.reserved < 2 ^ 65 }
+        ensures { OnOk result ((first agent : AgentState) (journal : List Entry) → agent.entries ≡ length journal
+            → AreOf agent places.now → IsWatched first agent journal self.old
+            → IsWatched first (step agent next.now) (journal ++ next.now ∷ []) self.new) }
+    {
+        let octets = line_length(alloc, next)?;
+        self.refused = self.refused_then(places, next, octets);
+        self.add(next, octets);
+        Ok(())
     }
 }

@@ -1,7 +1,7 @@
 -- CountLines: the lines that `check` prints of documents: how many documents there are, templates of each kind, types
 -- and objects at the opening; docs/OPERATING.md, Commands.
 use Rattle.std.specs.Prelude.{ℕ, List, ◌++◌, codes}
-use Rattle.term_model.specs.Texts.{one_word}
+use Rattle.term_model.specs.LineTexts.{one_word}
 use Rattle.template_compile.specs.declared.counts.Counts.{Counts}
 
 abbrev pub class_lines : Counts → List ℕ

@@ -10,6 +10,7 @@ ghost use Rattle.template_compile.specs.Counting.{IsCompiled};
 use crate::count_lines::write_count_lines;
 use crate::refusal::{SetRefusal, of_compiling, of_opening};
 use mib_opening::opening;
+use object_maps::ObjectMap;
 use set_report::report_text;
 use std::alloc::{AllocError, Global};
 use std::marker::Brand;

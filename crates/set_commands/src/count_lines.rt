@@ -2,7 +2,7 @@
 //! (docs/OPERATING.md, Commands).
 
 ghost use Rattle.std.specs.Prelude.{◌≡◌, ◌++◌, OnOk, codes};
-ghost use Rattle.term_model.specs.Texts.{one_word};
+ghost use Rattle.term_model.specs.LineTexts.{one_word};
 ghost use Rattle.set_commands.specs.CountLines.{class_lines, count_lines, event_lines, first_lines, last_lines};
 ghost use Rattle.set_commands.specs.CountLines.{member_lines, rest_lines};
 

@@ -3,7 +3,7 @@
 use Rattle.std.specs.Prelude.{ℕ, List, [], ◌∷◌, ◌++◌, Bool, Option, codes, decimal, flat_map, if◌then◌else◌}
 use Rattle.std.specs.Option.{option_map_or}
 use Rattle.term_model.specs.declared.packages.Property.{Property}
-use Rattle.term_model.specs.Texts.{line_feed}
+use Rattle.term_model.specs.LineTexts.{line_feed}
 
 -- an identifier
 abbrev pub dotted : List ℕ → List ℕ

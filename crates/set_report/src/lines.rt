@@ -2,7 +2,7 @@
 
 ghost use Rattle.std.specs.Prelude.{◌≡◌, ◌++◌, ℕ, [], OnOk, codes, decimal, flat_map};
 ghost use Rattle.std.specs.Option.{option_copied, option_map_or};
-ghost use Rattle.term_model.specs.Texts.{line_feed};
+ghost use Rattle.term_model.specs.LineTexts.{line_feed};
 ghost use Rattle.set_report.specs.Labels.{label_in};
 ghost use Rattle.set_report.specs.ReportLines.{attribute_line, bound_line, dotted, entry_line, entry_lines};
 ghost use Rattle.set_report.specs.ReportLines.{letter, operations};

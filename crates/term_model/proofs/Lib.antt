@@ -20,11 +20,7 @@ mod ReplyFacts
 mod RequestFacts
 mod ScopeFacts
 mod SelectionFacts
-mod StandardFacts
-mod StepFacts
-pub mod StepLaws
 pub mod StoringLaws
-pub mod TextLaws
 mod ValueFacts
 mod WholeFacts
 mod WholeRecordFacts

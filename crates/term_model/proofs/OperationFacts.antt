@@ -4,11 +4,7 @@ use Rattle.std.specs.Prelude.{◌≡◌, pos, true, false, List, [], ◌∷◌, 
 use Rattle.term_values.specs.Der.{identifier_octets, length_octets}
 use Rattle.term_values.specs.Octets.{integer_contents}
 use Rattle.term_values.specs.Oid.{subidentifier}
-use Rattle.term_model.specs.declared.entry.Entry.{Entry}
-use Rattle.term_model.specs.declared.entry.Entry.TheVariants as entry
-use Rattle.term_model.specs.declared.entry.Why.TheVariants as why
 use Rattle.term_model.specs.declared.reply.Reply.TheVariants as reply
-use Rattle.term_model.specs.History.{came}
 use Rattle.term_model.specs.ObjectOperation.{attribute_octets, is_readable, object_octets, readable, value_octets}
 use Rattle.term_model.specs.SentApdus.{sent_reply}
 use Rattle.term_model.specs.Operation.{own_after, own_behind, replied}
@@ -66,10 +62,3 @@ replied_example : replied (pos 1) (pos 3) (pos 5) (reply.Linked 1 [] ∷ reply.E
     }
 unfolding sent_reply identifier_octets length_octets integer_contents
 replied_example = refl
-
--- a manager binds with octets that are no BIND, its answer of 12 octets is taken, and it is closed: only the BIND came
-abbrev turned_away : List Entry
-turned_away = entry.Opened 1 (1 ∷ []) ∷ entry.Taken 1 12 ∷ entry.Closed 1 why.End ∷ []
-
-came_example : came 1 turned_away ≡ (1 ∷ []) ∷ []
-came_example = refl

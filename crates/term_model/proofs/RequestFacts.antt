@@ -1,4 +1,4 @@
--- Examples of the parts of APDUs, of BINDs and of APDUs that the agent sends, computed: X.229, section 9; X.711,
+-- Examples of the parts of APDUs and of APDUs that the agent sends, computed: X.229, section 9; X.711,
 -- section 7.4; docs/PROFILE.md, section 4.
 use Rattle.std.proofs.Common.{inl}
 use Rattle.std.specs.Prelude.{◌≡◌, ℕ, pos, List, [], ◌∷◌, None, Some, refl}
@@ -11,7 +11,6 @@ use Rattle.term_values.specs.Tree.{TreeValue}
 use Rattle.term_values.specs.Tree.TreeValue.{Constructed, Primitive}
 use Rattle.term_values.specs.Tree.TreeValues.{Nothing, Then}
 use Rattle.term_model.specs.ApduReading.{id_under}
-use Rattle.term_model.specs.Bind.{IsBind, bind_answer, title_in}
 use Rattle.term_model.specs.GetRequest.{instance_octets}
 use Rattle.term_model.specs.Parts.{contents_under, inside_under, integer_under, oid_under, one_under, two_under}
 use Rattle.term_model.specs.RemoteOperation.{empty_result_apdu, error_apdu, frame, linked_apdu, reject_apdu}
@@ -60,31 +59,6 @@ greatest_id = refl
 id_too_great : id_under (universal 2) (Primitive (universal 2) (0 ∷ 0x80 ∷ 0 ∷ 0 ∷ 0 ∷ [])) ≡ None
 unfolding integer_in
 id_too_great = refl
-
--- the BIND of the title 2.999.11.1, a SEQUENCE without a title, and the answers accepted(0) and badBind(2)
-abbrev bind_octets : List ℕ
-bind_octets = 0x30 ∷ 0x06 ∷ 0x06 ∷ 0x04 ∷ 0x88 ∷ 0x37 ∷ 0x0B ∷ 0x01 ∷ []
-
-title_example : title_in bind_octets ≡ Some (2 ∷ 999 ∷ 11 ∷ 1 ∷ [])
-unfolding oid_in subidentifier identifier_of length_at front_of
-title_example = refl
-
-no_title : title_in (0x30 ∷ 0x00 ∷ []) ≡ None
-unfolding oid_in subidentifier identifier_of length_at front_of
-no_title = refl
-
--- SEQUENCE { OBJECT IDENTIFIER 2.999.3.1 } is the BIND of that title
-bind_denoted : IsBind (Constructed (universal 16) (Then class Nothing)) element_oid
-unfolding subidentifier
-bind_denoted = (class ∷ [], _, refl, inl ((element_oid, (refl, refl, refl), refl), (refl, refl)), refl)
-
-answer_example : bind_answer 0 1 ≡ 0x30 ∷ 0x06 ∷ 0x0A ∷ 0x01 ∷ 0x00 ∷ 0x02 ∷ 0x01 ∷ 0x01 ∷ []
-unfolding identifier_octets length_octets integer_contents
-answer_example = refl
-
-bad_example : bind_answer 2 1 ≡ 0x30 ∷ 0x06 ∷ 0x0A ∷ 0x01 ∷ 0x02 ∷ 0x02 ∷ 0x01 ∷ 0x01 ∷ []
-unfolding identifier_octets length_octets integer_contents
-bad_example = refl
 
 -- the instance elementId = 5, an RDNSequence of one part
 instance_example : instance_octets (record { attribute = id_oid; value = 0x02 ∷ 0x01 ∷ 0x05 ∷ [] } ∷ [])

@@ -1,6 +1,4 @@
 -- The definitions that the contracts of this crate cite.
-pub mod AgentLimits
-pub mod AgentState
 pub mod AgentWritten
 pub mod AlikeSyntaxes
 pub mod Apdu
@@ -9,7 +7,6 @@ pub mod ApduWriting
 pub mod ArgumentRows
 pub mod Arriving
 pub mod Assertions
-pub mod Bind
 pub mod BoundClasses
 pub mod ClassAttributes
 pub mod CmisErrors
@@ -35,11 +32,11 @@ pub mod FilterView
 pub mod FiltersDepth
 pub mod Following
 pub mod GetRequest
-pub mod History
 pub mod Inheritance
 pub mod InstanceNames
 pub mod JoinedProperties
 pub mod Licensing
+pub mod LineTexts
 pub mod LogRecords
 pub mod MapLaws
 pub mod MatchTests
@@ -55,7 +52,6 @@ pub mod Opening
 pub mod Operation
 pub mod Parts
 pub mod Places
-pub mod Played
 pub mod PresentPackages
 pub mod RemoteOperation
 pub mod Replies
@@ -68,12 +64,8 @@ pub mod ResultValues
 pub mod Scope
 pub mod Selection
 pub mod SentApdus
-pub mod Settled
-pub mod Step
 pub mod StepCounts
 pub mod Superiors
-pub mod TextLaws
-pub mod Texts
 pub mod ObjectAttributes
 pub mod WellFormedObjects
 pub mod WholeRecords

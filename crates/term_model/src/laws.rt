@@ -1,18 +1,7 @@
-//! Laws of the texts of journals and of the map of objects, each as the contract of a function that does nothing.
+//! Laws of the map of objects, each as the contract of a function that does nothing.
 
 ghost use Rattle.term_model.specs.MapLaws.{EqualMaps, NamesRise, NextIsLeast, NoneIsGreater, OthersAreLeft, OthersStay};
 ghost use Rattle.term_model.specs.MapLaws.{RemovedIsGone, StoredIsFound};
-ghost use Rattle.term_model.specs.TextLaws.{PrintTellsJournal, TextsDiffer};
-
-/// Different journals have different texts.
-pub fn texts_differ()
-    ensures { TextsDiffer }
-{}
-
-/// What stands in front of the line of two dashes is the text of one journal alone, whatever stands behind it.
-pub fn print_tells_journal()
-    ensures { PrintTellsJournal }
-{}
 
 /// Under its name stands the object that was stored last.
 pub fn stored_is_found()

@@ -1,6 +1,6 @@
 use Rattle.std.proofs.Common.{rules, ◌++◌}
 use Rattle.std.specs.Prelude.{codes}
-use Rattle.term_model.specs.Texts.{line_feed}
+use Rattle.term_model.specs.LineTexts.{line_feed}
 use Rattle.agent_run.specs.Refusing.{kind_name, two_numbers}
 use Rattle.agent_run.proofs.LineLaws.{two_behind}
 use Rattle.agent_run.proofs.refusal.write_document_line.Goals as goal

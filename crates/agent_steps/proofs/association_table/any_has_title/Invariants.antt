@@ -1,7 +1,7 @@
 use Rattle.std.proofs.Common.{◌≡◌, false, take}
 use Rattle.std.specs.List.{list_any}
 use Rattle.std.specs.Option.{option_map_or}
-use Rattle.term_model.specs.AgentState.{numbered}
+use Rattle.agent_model.specs.AgentState.{numbered}
 use Rattle.agent_model.specs.Binding.{has_title}
 use Rattle.agent_steps.proofs.association_table.any_has_title.Given as goal
 

@@ -1,6 +1,6 @@
 use Rattle.std.proofs.Common.{◌≡◌, ◌<◌, length, get_or, arith, rules, ap, ◌∙◌, set, sym}
 use Rattle.std.proofs.lemmas.List.Edits.{map_over_more}
-use Rattle.term_model.specs.Step.{ended_with}
+use Rattle.agent_model.specs.Step.{ended_with}
 use Rattle.agent_steps.proofs.operation_changes.end_each.Goals as goal
 
 pub loop-operation-preserved : goal.loop-operation-preserved

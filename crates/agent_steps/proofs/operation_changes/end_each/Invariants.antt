@@ -1,6 +1,6 @@
 use Rattle.std.proofs.Common.{◌≡◌, ◌++◌, take, drop}
 use Rattle.std.specs.Prelude.{map}
-use Rattle.term_model.specs.Step.{ended_with}
+use Rattle.agent_model.specs.Step.{ended_with}
 use Rattle.agent_steps.proofs.operation_changes.end_each.Given as goal
 
 -- those so far are ended

@@ -1,6 +1,6 @@
 -- The answer in its frame, turned round.
 use Rattle.std.proofs.Common.{[], ◌++◌, reverse, refl, ap, ◌∙◌}
-use Rattle.term_model.specs.Bind.{bind_answer}
+use Rattle.agent_model.specs.Bind.{bind_answer}
 use Rattle.term_model.specs.RemoteOperation.{frame}
 use Rattle.ber_tree.proofs.Backwards.{turned}
 use Rattle.bind_apdus.proofs.bind_writing.bind_answer_frame.Goals as goal

@@ -1,5 +1,5 @@
 use Rattle.std.proofs.Common.{◌≡◌, take, count_by}
-use Rattle.term_model.specs.AgentState.{is_outstanding}
+use Rattle.agent_model.specs.AgentState.{is_outstanding}
 use Rattle.entry_legality.proofs.legality.count_outstanding.Given as goal
 
 -- those that were looked at are counted

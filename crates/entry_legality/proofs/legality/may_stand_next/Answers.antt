@@ -1,5 +1,5 @@
 use Rattle.std.proofs.Common.{ap, sym, ◌∙◌}
-use Rattle.term_model.specs.Step.{is_legal}
+use Rattle.agent_model.specs.Step.{is_legal}
 use Rattle.entry_legality.proofs.legality.may_stand_next.Goals as goal
 
 -- an entry of this kind is legal where an APDU may arrive of the association, whatever it holds

@@ -1,6 +1,6 @@
 use Rattle.std.proofs.Common.{◌≡◌, ◌++◌, take}
 use Rattle.std.specs.List.{flat_map}
-use Rattle.term_model.specs.Texts.{line}
+use Rattle.agent_model.specs.Texts.{line}
 use Rattle.journal_text.proofs.texts.write_journal.Given as goal
 
 -- the lines of the entries so far were appended

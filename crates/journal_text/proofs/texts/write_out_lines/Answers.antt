@@ -1,5 +1,5 @@
 use Rattle.std.proofs.Common.{◌≡◌, ◌+◌, ◌<◌, length, take, append_assoc, arith}
-use Rattle.term_model.specs.Texts.{out_lines}
+use Rattle.agent_model.specs.Texts.{out_lines}
 use Rattle.journal_text.proofs.OutLines.{out_lines-more, text}
 use Rattle.journal_text.proofs.texts.write_out_lines.Goals as goal
 

@@ -1,5 +1,5 @@
 use Rattle.std.proofs.Common.{◌≡◌, ◌++◌, take}
-use Rattle.term_model.specs.Texts.{out_lines}
+use Rattle.agent_model.specs.Texts.{out_lines}
 use Rattle.journal_text.proofs.texts.write_out_lines.Given as goal
 
 -- the lines of the associations so far were appended

@@ -2,7 +2,7 @@ use Rattle.std.proofs.Common.{◌≡◌, ◌∙◌, length, ap, sym}
 use Rattle.std.proofs.Math.Path.{subst}
 use Rattle.std.proofs.lemmas.Result.{IfOk-weaker}
 use Rattle.std.specs.Prelude.{false}
-use Rattle.term_model.specs.declared.limits.Limits.{Limits}
+use Rattle.agent_model.specs.declared.limits.Limits.{Limits}
 use Rattle.agent_model.specs.Starting.{started}
 use Rattle.agent_steps.specs.Asking.{has_unbuilt}
 use Rattle.script_lines.specs.declared.script_text.ScriptText.{ScriptText}

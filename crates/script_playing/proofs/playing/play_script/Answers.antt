@@ -1,11 +1,11 @@
 use Rattle.std.proofs.Common.{◌≡◌, ℕ, true, sym, ap, ◌∙◌, subst}
 use Rattle.std.specs.List.{All}
-use Rattle.term_model.specs.declared.limits.Limits.{Limits}
+use Rattle.agent_model.specs.declared.limits.Limits.{Limits}
 use Rattle.term_model.specs.declared.schema.Set.{Set}
-use Rattle.term_model.specs.History.{came}
-use Rattle.term_model.specs.Played.{Play}
-use Rattle.term_model.specs.Settled.{IsSettled}
-use Rattle.term_model.specs.TextLaws.{IsEntry}
+use Rattle.agent_model.specs.History.{came}
+use Rattle.agent_model.specs.Played.{Play}
+use Rattle.agent_model.specs.Settled.{IsSettled}
+use Rattle.agent_model.specs.TextLaws.{IsEntry}
 use Rattle.agent_model.specs.Journals.{is_legal_journal, replayed}
 use Rattle.agent_model.specs.Playing.{ended, frames_of}
 use Rattle.agent_model.proofs.FrameLaws.{script_frames}

@@ -1,9 +1,9 @@
 use Rattle.std.proofs.Common.{◌≡◌, sym, ap, ◌∙◌, rules, to_z, of_z, w32, w64}
 use Rattle.std.proofs.Math.Facts.{to_z-of_z}
-use Rattle.term_model.specs.declared.agent_state.AgentState.{AgentState}
-use Rattle.term_model.specs.AgentState.{association_of}
+use Rattle.agent_model.specs.declared.agent_state.AgentState.{AgentState}
+use Rattle.agent_model.specs.AgentState.{association_of}
 use Rattle.term_model.specs.Operation.{Replied, replied}
-use Rattle.term_model.specs.Step.{changed_association}
+use Rattle.agent_model.specs.Step.{changed_association}
 use Rattle.agent_model.specs.Performing.{with_own}
 use Rattle.agent_steps.specs.States.{agent_of}
 use Rattle.agent_steps.proofs.PerformingLaws.{answered_at}

@@ -1,5 +1,5 @@
 use Rattle.std.proofs.Common.{[], ap, ◌∙◌}
-use Rattle.term_model.specs.declared.agent_state.AgentState.{AgentState}
+use Rattle.agent_model.specs.declared.agent_state.AgentState.{AgentState}
 use Rattle.agent_model.specs.Receiving.{received_where}
 use Rattle.apdu_receiving.specs.Arrivals.{arriving_of, is_listed}
 use Rattle.agent_steps.proofs.EntryLaws.{arrive_steps}

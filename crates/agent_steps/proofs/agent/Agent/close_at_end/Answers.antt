@@ -1,8 +1,8 @@
 use Rattle.std.proofs.Common.{◌+◌, sym, ap, ◌∙◌}
-use Rattle.term_model.specs.declared.agent_state.AgentState.{AgentState}
-use Rattle.term_model.specs.declared.agent_state.AssociationState.TheVariants.{Closed}
-use Rattle.term_model.specs.declared.entry.Why.TheVariants.{End}
-use Rattle.term_model.specs.Step.{changed_association, counted, with_state}
+use Rattle.agent_model.specs.declared.agent_state.AgentState.{AgentState}
+use Rattle.agent_model.specs.declared.agent_state.AssociationState.TheVariants.{Closed}
+use Rattle.agent_model.specs.declared.entry.Why.TheVariants.{End}
+use Rattle.agent_model.specs.Step.{changed_association, counted, with_state}
 use Rattle.agent_model.proofs.StepLaws.{closed_at_end}
 use Rattle.agent_steps.specs.States.{agent_of}
 use Rattle.agent_steps.proofs.agent.Agent.close_at_end.Goals as goal

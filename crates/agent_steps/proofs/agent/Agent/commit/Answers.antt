@@ -1,6 +1,6 @@
 use Rattle.std.proofs.Common.{◌≡◌, sym, ap, ◌∙◌, subst}
-use Rattle.term_model.specs.declared.agent_state.AgentState.{AgentState}
-use Rattle.term_model.specs.Step.{counted}
+use Rattle.agent_model.specs.declared.agent_state.AgentState.{AgentState}
+use Rattle.agent_model.specs.Step.{counted}
 use Rattle.operation_model.specs.OperationConditions.{AreSmall}
 use Rattle.agent_model.specs.Placing.{placed}
 use Rattle.agent_model.proofs.PlacingLaws.{placed_keeps}

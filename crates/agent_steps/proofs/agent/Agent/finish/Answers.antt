@@ -1,7 +1,7 @@
 use Rattle.std.proofs.Common.{◌+◌, sym, ap, ◌∙◌}
-use Rattle.term_model.specs.declared.agent_state.AgentState.{AgentState}
-use Rattle.term_model.specs.declared.agent_state.AssociationState.TheVariants.{Finished}
-use Rattle.term_model.specs.Step.{changed_association, counted, with_state}
+use Rattle.agent_model.specs.declared.agent_state.AgentState.{AgentState}
+use Rattle.agent_model.specs.declared.agent_state.AssociationState.TheVariants.{Finished}
+use Rattle.agent_model.specs.Step.{changed_association, counted, with_state}
 use Rattle.agent_model.proofs.StepLaws.{finished_at}
 use Rattle.agent_steps.specs.States.{agent_of}
 use Rattle.agent_steps.proofs.agent.Agent.finish.Goals as goal

@@ -1,7 +1,7 @@
 use Rattle.std.proofs.Common.{◌+◌, sym, ap, ◌∙◌}
-use Rattle.term_model.specs.declared.agent_state.AgentState.{AgentState}
-use Rattle.term_model.specs.declared.agent_state.OperationState.TheVariants.{Granted}
-use Rattle.term_model.specs.Step.{changed_operation, counted}
+use Rattle.agent_model.specs.declared.agent_state.AgentState.{AgentState}
+use Rattle.agent_model.specs.declared.agent_state.OperationState.TheVariants.{Granted}
+use Rattle.agent_model.specs.Step.{changed_operation, counted}
 use Rattle.agent_model.proofs.StepLaws.{granted_at}
 use Rattle.agent_steps.specs.States.{agent_of}
 use Rattle.agent_steps.proofs.agent.Agent.grant.Goals as goal

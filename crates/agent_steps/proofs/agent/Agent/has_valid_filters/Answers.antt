@@ -1,5 +1,5 @@
 use Rattle.std.proofs.Common.{subst}
-use Rattle.term_model.specs.declared.agent_state.AgentState.{AgentState}
+use Rattle.agent_model.specs.declared.agent_state.AgentState.{AgentState}
 use Rattle.agent_steps.specs.Asking.{AreAskable}
 use Rattle.agent_steps.proofs.agent.Agent.has_valid_filters.Goals as goal
 

@@ -1,5 +1,5 @@
 use Rattle.std.proofs.Common.{◌+◌, ◌++◌, ◌∷◌, [], ap, ◌∙◌}
-use Rattle.term_model.specs.declared.agent_state.AgentState.{AgentState}
+use Rattle.agent_model.specs.declared.agent_state.AgentState.{AgentState}
 use Rattle.agent_steps.specs.States.{agent_of}
 use Rattle.agent_steps.proofs.EntryLaws.{open_steps}
 use Rattle.agent_steps.proofs.agent.Agent.open.Goals as goal

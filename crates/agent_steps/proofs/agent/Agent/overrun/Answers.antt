@@ -1,7 +1,7 @@
 use Rattle.std.proofs.Common.{ap, ◌∙◌}
-use Rattle.term_model.specs.declared.agent_state.AgentState.{AgentState}
-use Rattle.term_model.specs.declared.agent_state.AssociationState.TheVariants.{Overrun}
-use Rattle.term_model.specs.Step.{changed_association, with_state}
+use Rattle.agent_model.specs.declared.agent_state.AgentState.{AgentState}
+use Rattle.agent_model.specs.declared.agent_state.AssociationState.TheVariants.{Overrun}
+use Rattle.agent_model.specs.Step.{changed_association, with_state}
 use Rattle.agent_model.specs.Placing.{overrun}
 use Rattle.agent_steps.specs.States.{agent_of}
 use Rattle.agent_steps.proofs.AskingLaws.{ended_askable}

@@ -1,9 +1,9 @@
 use Rattle.std.proofs.Common.{◌≡◌, ◌+◌, arith, sym, ap, ◌∙◌}
 use Rattle.std.proofs.lemmas.Bool.{ne_eqb}
-use Rattle.term_model.specs.declared.agent_state.AgentState.{AgentState}
-use Rattle.term_model.specs.AgentState.{association_of}
-use Rattle.term_model.specs.Step.{changed_association, counted}
-use Rattle.term_model.proofs.StepLaws.{left_stands, stands_from_some, taken_wholly}
+use Rattle.agent_model.specs.declared.agent_state.AgentState.{AgentState}
+use Rattle.agent_model.specs.AgentState.{association_of}
+use Rattle.agent_model.specs.Step.{changed_association, counted}
+use Rattle.agent_model.proofs.StandingLaws.{left_stands, stands_from_some, taken_wholly}
 use Rattle.agent_model.proofs.StepLaws.{taken_at}
 use Rattle.agent_steps.specs.Admitting.{with_all_taken}
 use Rattle.agent_steps.specs.States.{agent_of}

@@ -1,9 +1,9 @@
 use Rattle.std.proofs.Common.{◌≡◌, Some, refl, sym, ap, ◌∙◌, subst, rules, to_z, of_z, w32, w64}
 use Rattle.std.proofs.Math.Facts.{to_z-of_z}
 use Rattle.term_model.specs.RemoteOperation.{integer}
-use Rattle.term_model.specs.Step.{no_such_invoke_id}
+use Rattle.agent_model.specs.Step.{no_such_invoke_id}
 use Rattle.agent_model.specs.Stepping.{sending_to, sent_error, taken_in}
-use Rattle.term_model.specs.declared.agent_state.AgentState.{AgentState}
+use Rattle.agent_model.specs.declared.agent_state.AgentState.{AgentState}
 use Rattle.apdu_receiving.specs.Arrivals.{HasValidRequest, arriving_of}
 use Rattle.agent_steps.proofs.AskingLaws.{queued_askable}
 use Rattle.agent_steps.proofs.EntryLaws.{cancels_none}

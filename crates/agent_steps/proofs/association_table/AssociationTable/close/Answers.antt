@@ -1,7 +1,7 @@
 use Rattle.std.proofs.Common.{◌≡◌, ◌≤◌, length, sym, subst, rules}
 use Rattle.std.specs.Prelude.{Some, false, true}
-use Rattle.term_model.specs.declared.agent_state.Association.{Association}
-use Rattle.term_model.specs.AgentState.{is_closed_state, numbered}
+use Rattle.agent_model.specs.declared.agent_state.Association.{Association}
+use Rattle.agent_model.specs.AgentState.{is_closed_state, numbered}
 use Rattle.agent_steps.proofs.AdmittingLaws.{counted_anew, counted_shut, counted_less}
 use Rattle.agent_steps.proofs.association_table.AssociationTable.close.Goals as goal
 

@@ -1,7 +1,7 @@
 use Rattle.std.proofs.Common.{◌≡◌, ◌≤◌, length, sym, subst}
 use Rattle.std.specs.Prelude.{Some, true}
-use Rattle.term_model.specs.declared.agent_state.Association.{Association}
-use Rattle.term_model.specs.AgentState.{numbered}
+use Rattle.agent_model.specs.declared.agent_state.Association.{Association}
+use Rattle.agent_model.specs.AgentState.{numbered}
 use Rattle.agent_model.specs.Binding.{is_open}
 use Rattle.agent_steps.proofs.AdmittingLaws.{counted_finished}
 use Rattle.agent_steps.proofs.association_table.AssociationTable.finish.Goals as goal

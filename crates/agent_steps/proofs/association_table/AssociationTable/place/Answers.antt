@@ -1,5 +1,5 @@
 use Rattle.std.proofs.Common.{◌≤◌, length, refl, subst, sym}
-use Rattle.term_model.specs.Step.{with_placed}
+use Rattle.agent_model.specs.Step.{with_placed}
 use Rattle.agent_steps.proofs.AdmittingLaws.{counted_changed}
 use Rattle.agent_steps.proofs.association_table.AssociationTable.place.Goals as goal
 

@@ -1,7 +1,7 @@
 use Rattle.std.proofs.Common.{◌≤◌, length, refl, sym, ap, ◌∙◌, subst, rules, to_z, of_z, w32}
 use Rattle.std.proofs.Math.Facts.{to_z-of_z}
 use Rattle.agent_model.specs.Performing.{with_own}
-use Rattle.term_model.specs.Step.{changed_association}
+use Rattle.agent_model.specs.Step.{changed_association}
 use Rattle.agent_steps.specs.Admitting.{AreCounted}
 use Rattle.agent_steps.proofs.AdmittingLaws.{counted_changed}
 use Rattle.agent_steps.proofs.association_table.AssociationTable.set_own.Goals as goal

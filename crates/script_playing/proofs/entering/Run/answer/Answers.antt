@@ -1,7 +1,7 @@
 use Rattle.std.proofs.Common.{◌≡◌, ◌<◌, Some, true, length, sym, ap, ◌∙◌, rules, arith, subst}
-use Rattle.term_model.specs.declared.entry.Entry.TheVariants.{Granted}
-use Rattle.term_model.specs.Played.{Play}
-use Rattle.term_model.specs.Step.{is_legal}
+use Rattle.agent_model.specs.declared.entry.Entry.TheVariants.{Granted}
+use Rattle.agent_model.specs.Played.{Play}
+use Rattle.agent_model.specs.Step.{is_legal}
 use Rattle.agent_model.specs.Playing.{with_entry}
 use Rattle.agent_model.proofs.StepLaws.{granted_then}
 use Rattle.agent_steps.specs.States.{moment_of_grant}

@@ -1,8 +1,8 @@
 use Rattle.std.proofs.Common.{◌≡◌, ◌<◌, ◌++◌, [], ◌∷◌, ℕ, List, Fits, w8, get_or, slice_index, rules, arith}
 use Rattle.std.proofs.Common.{sym, ap, ◌∙◌, subst}
-use Rattle.term_model.specs.declared.entry.Entry.TheVariants.{Arrived}
-use Rattle.term_model.specs.Played.{Play}
-use Rattle.term_model.specs.Step.{is_legal}
+use Rattle.agent_model.specs.declared.entry.Entry.TheVariants.{Arrived}
+use Rattle.agent_model.specs.Played.{Play}
+use Rattle.agent_model.specs.Step.{is_legal}
 use Rattle.agent_model.specs.Stepping.{step}
 use Rattle.script_playing.specs.Ready.{IsKept}
 use Rattle.script_playing.proofs.KeptLaws.{kept_more}
@@ -37,5 +37,5 @@ returns-clause-watched g c first w =
     let stepped : c.arrive.new.self ≡ step agent next =
     c.in_ok-arrive.ensures.stepped ∙ ap (λ bs. step agent (Arrived c.args.number bs)) c.as_slice-octets.ensures in
     watched_at first (step agent next) c.arrive.new.self (journal ++ next ∷ []) c.write_down.new.journal.items
-    c.ask.new.self (c.ask.ensures first agent journal kept.counted c.before-places.ensures.places known) stepped
+    c.ask.new.self (c.in_ok-ask.ensures first agent journal kept.counted c.before-places.ensures.places known) stepped
     (c.write_down.ensures ∙ ap (λ xs. xs ++ next ∷ []) c.in_ok-make_room.ensures.kept)

@@ -1,11 +1,11 @@
 use Rattle.std.proofs.Common.{◌≡◌, ℕ, false, true, sym, ap, ◌∙◌, subst}
 use Rattle.std.specs.Prelude.{is_some}
 use Rattle.std.proofs.lemmas.Result.{on_ok_weaker}
-use Rattle.term_model.specs.declared.entry.Entry.TheVariants.{Closed}
-use Rattle.term_model.specs.declared.entry.Why.TheVariants.{End}
-use Rattle.term_model.specs.AgentState.{association_of, is_closed_state}
-use Rattle.term_model.specs.Played.{Play}
-use Rattle.term_model.specs.Step.{is_legal}
+use Rattle.agent_model.specs.declared.entry.Entry.TheVariants.{Closed}
+use Rattle.agent_model.specs.declared.entry.Why.TheVariants.{End}
+use Rattle.agent_model.specs.AgentState.{association_of, is_closed_state}
+use Rattle.agent_model.specs.Played.{Play}
+use Rattle.agent_model.specs.Step.{is_legal}
 use Rattle.agent_model.specs.Playing.{finished, taken_all}
 use Rattle.agent_steps.specs.States.{has_state}
 use Rattle.script_playing.specs.Ready.{HaveEnded, IsReady}

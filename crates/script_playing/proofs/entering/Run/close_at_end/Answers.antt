@@ -1,12 +1,12 @@
 use Rattle.std.proofs.Common.{refl, ◌++◌, [], ◌∷◌, rules}
 use Rattle.std.proofs.Common.{sym, ap, ◌∙◌, subst}
-use Rattle.term_model.specs.declared.entry.Entry.TheVariants.{Closed}
-use Rattle.term_model.specs.Played.{Play}
-use Rattle.term_model.specs.Step.{is_legal}
+use Rattle.agent_model.specs.declared.entry.Entry.TheVariants.{Closed}
+use Rattle.agent_model.specs.Played.{Play}
+use Rattle.agent_model.specs.Step.{is_legal}
 use Rattle.agent_model.specs.Stepping.{step}
 use Rattle.script_playing.specs.Ready.{IsKept}
 use Rattle.script_playing.proofs.KeptLaws.{kept_more}
-use Rattle.term_model.specs.declared.entry.Why.TheVariants.{End}
+use Rattle.agent_model.specs.declared.entry.Why.TheVariants.{End}
 use Rattle.script_playing.specs.Watching.{IsWatched}
 use Rattle.script_playing.proofs.WatchingLaws.{watched_at}
 use Rattle.script_playing.proofs.entering.Run.close_at_end.Goals as goal
@@ -29,5 +29,5 @@ returns-clause-watched g c first w =
     let known =
     subst (λ (p : Play). IsWatched first p.agent p.journal c.args.watch.now) (sym c.self.view_is) w in
     watched_at first (step agent next) c.close_at_end.new.self (journal ++ next ∷ []) c.write_down.new.journal.items
-    c.count.new.self (c.count.ensures.watched first agent journal kept.counted refl known) c.close_at_end.ensures
+    c.count.new.self (c.in_ok-count.ensures first agent journal kept.counted refl known) c.close_at_end.ensures
     (c.write_down.ensures ∙ ap (λ xs. xs ++ next ∷ []) c.in_ok-make_room.ensures.kept)

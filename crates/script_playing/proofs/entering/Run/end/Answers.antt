@@ -1,5 +1,5 @@
 use Rattle.std.proofs.Common.{◌+◌, ◌-◌, ◌<◌, length, rules, arith, sym, ap, ◌∙◌, subst}
-use Rattle.term_model.specs.Played.{Play}
+use Rattle.agent_model.specs.Played.{Play}
 use Rattle.agent_model.specs.Playing.{closed_from}
 use Rattle.script_playing.specs.Ready.{IsReady}
 use Rattle.script_playing.proofs.ClosingLaws.{closed_step}

@@ -1,8 +1,8 @@
 use Rattle.std.proofs.Common.{◌≡◌, ◌+◌, ◌<◌, ◌++◌, [], ◌∷◌, ℕ, List, Fits}
 use Rattle.std.proofs.Common.{w8, get_or, length, slice_index, rules, arith}
 use Rattle.std.proofs.Common.{sym, ap, ◌∙◌, subst}
-use Rattle.term_model.specs.declared.entry.Entry.TheVariants.{Opened}
-use Rattle.term_model.specs.Played.{Play}
+use Rattle.agent_model.specs.declared.entry.Entry.TheVariants.{Opened}
+use Rattle.agent_model.specs.Played.{Play}
 use Rattle.agent_model.specs.Stepping.{step}
 use Rattle.script_playing.specs.Ready.{IsKept}
 use Rattle.script_playing.proofs.KeptLaws.{kept_opened}
@@ -44,5 +44,5 @@ returns-clause-watched g c first w =
     ∙ (ap (λ bs. step agent (Opened last bs)) c.as_slice-octets.ensures
     ∙ ap (λ n. step agent (Opened n c.args.bind)) (sym number_is)) in
     watched_at first (step agent next) c.open.new.self (journal ++ next ∷ []) c.write_down.new.journal.items
-    c.ask.new.self (c.ask.ensures first agent journal kept.counted c.before-places.ensures.places known) stepped
+    c.ask.new.self (c.in_ok-ask.ensures first agent journal kept.counted c.before-places.ensures.places known) stepped
     (c.write_down.ensures ∙ ap (λ xs. xs ++ next ∷ []) c.in_ok-make_room.ensures.kept)

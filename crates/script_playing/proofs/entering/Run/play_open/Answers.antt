@@ -1,9 +1,9 @@
 use Rattle.std.proofs.Common.{sym, ap, ◌∙◌, subst}
 use Rattle.std.proofs.lemmas.Result.{on_ok_weaker}
-use Rattle.term_model.specs.declared.entry.Entry.TheVariants.{Opened}
+use Rattle.agent_model.specs.declared.entry.Entry.TheVariants.{Opened}
 use Rattle.agent_model.specs.Playing.{taken_all, with_entry}
 use Rattle.script_playing.proofs.LineLaws.{open_line, opening_midway}
-use Rattle.term_model.specs.Played.{Play}
+use Rattle.agent_model.specs.Played.{Play}
 use Rattle.script_playing.specs.Ready.{HaveEnded}
 use Rattle.script_playing.proofs.entering.Run.play_open.Goals as goal
 

@@ -1,13 +1,13 @@
 use Rattle.std.proofs.Common.{◌≡◌, ◌++◌, [], ◌∷◌, rules}
 use Rattle.std.proofs.Common.{sym, ap, ◌∙◌, subst}
-use Rattle.term_model.specs.declared.entry.Entry.TheVariants.{Taken}
-use Rattle.term_model.specs.Played.{Play}
+use Rattle.agent_model.specs.declared.entry.Entry.TheVariants.{Taken}
+use Rattle.agent_model.specs.Played.{Play}
 use Rattle.agent_model.specs.Stepping.{step}
 use Rattle.script_playing.specs.Ready.{IsKept}
 use Rattle.script_playing.proofs.KeptLaws.{kept_more}
 use Rattle.std.proofs.lemmas.Bool.{ne_eqb}
-use Rattle.term_model.specs.AgentState.{association_of}
-use Rattle.term_model.proofs.StepLaws.{left_stands}
+use Rattle.agent_model.specs.AgentState.{association_of}
+use Rattle.agent_model.proofs.StandingLaws.{left_stands}
 use Rattle.agent_model.proofs.StepLaws.{takes_what_is_left}
 use Rattle.script_playing.specs.Watching.{IsWatched}
 use Rattle.script_playing.proofs.WatchingLaws.{watched_at}
@@ -40,5 +40,5 @@ returns-clause-watched g c first w =
     let stepped : c.take_all-count.new.self ≡ step agent next =
     rw (ne_eqb c.take_all-count.result 0 some) at c.take_all-count.ensures.taken in
     watched_at first (step agent next) c.take_all-count.new.self (journal ++ next ∷ []) c.write_down.new.journal.items
-    c.ask.new.self (c.ask.ensures first agent journal kept.counted c.before-places.ensures.places known) stepped
+    c.ask.new.self (c.in_ok-ask.ensures first agent journal kept.counted c.before-places.ensures.places known) stepped
     (c.write_down.ensures ∙ ap (λ xs. xs ++ next ∷ []) c.in_ok-make_room.ensures.kept)

@@ -1,5 +1,0 @@
-use Rattle.term_model.proofs.MapLaws.{none_rise}
-use Rattle.mo_list.proofs.list_mib.ListMib.empty.Goals as goal
-
-pub invariant_of-result : goal.invariant_of-result
-invariant_of-result g c = none_rise

@@ -1,4 +1,0 @@
-use Rattle.opening_rows.proofs.main.Given as goal
-
-abbrev pub ghosts-answer_lines : goal.ghosts-answer_lines
-ghosts-answer_lines a = record { name = a.blank.name; parts = a.blank.parts }

@@ -1,5 +1,0 @@
-use Rattle.term_model.proofs.TextLaws.{texts_differ}
-use Rattle.term_model.proofs.laws.texts_differ.Goals as goal
-
-pub returns : goal.returns
-returns c = texts_differ
