@@ -1,0 +1,25 @@
+pub mod Names
+pub mod Maps
+pub mod Folding
+pub mod Reading
+pub mod Keeping
+pub mod OneObject
+pub mod Covering
+pub mod Framing
+pub mod Paths
+pub mod WholeLaws
+pub mod Plans
+pub mod Ways
+pub mod Disjoint
+pub mod Depths
+pub mod Standing
+pub mod Waiting
+pub mod Plain
+pub mod Sound
+pub mod Granting
+pub mod Creations
+pub mod Endings
+pub mod Short
+pub mod Effects
+pub mod FoldingR
+mod StandardFacts
