@@ -12,6 +12,7 @@ use Rattle.term_model.specs.declared.name.Rdn.{Rdn}
 use Rattle.term_model.specs.declared.object.Object.{Object}
 use Rattle.term_model.specs.declared.reply.CmisError.{CmisError}
 use Rattle.term_model.specs.declared.reply.Reply.{Reply}
+use Rattle.term_model.specs.declared.results.ActionReply.{ActionReply}
 use Rattle.term_model.specs.declared.request.IdRef.{IdRef}
 use Rattle.term_model.specs.declared.request.IdRef.TheVariants as ids
 use Rattle.term_model.specs.declared.results.FailureReason.TheVariants as reasons
@@ -27,11 +28,14 @@ use Rattle.action_model.specs.Arguments.{argument_of}
 use Rattle.action_model.specs.OfferedTypes.{action_named}
 use Rattle.action_model.specs.RuleSteps.{Acted, stepped_all, unacted}
 
--- the ActionResult, with the reply where a step replied
+-- what the action replied, where a step did
+abbrev pub replied : ActRec → Option (List ℕ) → Option ActionReply
+replied action info = option_map (λ octets. record { action = action.id; info = octets }) info
+
+-- the ActionResult
 abbrev pub action_reply : List ℕ → List Rdn → List ℕ → ActRec → Option (List ℕ) → Reply
 action_reply class name time action info =
-    single action_result (action_value class name time
-    (option_map (λ octets. record { action = action.id; info = octets }) info))
+    single action_result (action_value class name time (replied action info))
 
 -- what the object emitted
 abbrev pub emitted_by : List Rdn → List ℕ → What → Source
