@@ -1,6 +1,6 @@
 -- Discriminators, computed: which associations a report goes to, and how often: X.734, section 8. An element {5}
 -- reports trouble; two discriminators send every event to the title of association 1.
-use Rattle.std.specs.Prelude.{◌≡◌, ℕ, pos, None, Some, List, [], ◌∷◌, refl}
+use Rattle.std.specs.Prelude.{◌≡◌, ℕ, None, Some, List, [], ◌∷◌, refl}
 use Rattle.term_values.specs.BerReading.{front_of, identifier_of, length_at}
 use Rattle.term_values.specs.Der.{identifier_octets, length_octets}
 use Rattle.term_values.specs.Moment.{date_from, date_in_year, moment_text}
@@ -8,9 +8,6 @@ use Rattle.term_values.specs.Octets.{integer_contents, integer_in}
 use Rattle.term_values.specs.Oid.{oid_in, subidentifier}
 use Rattle.term_values.specs.Typed.{listed}
 use Rattle.term_values.specs.Typed.TypedValue.{Identifier, Many, Pick}
-use Rattle.term_model.specs.declared.agent_state.Association.{Association}
-use Rattle.term_model.specs.declared.agent_state.AssociationState.{AssociationState}
-use Rattle.term_model.specs.declared.agent_state.AssociationState.TheVariants as states
 use Rattle.term_model.specs.declared.effect.Effect.{Effect}
 use Rattle.term_model.specs.declared.effect.Source.{Source}
 use Rattle.term_model.specs.declared.effect.What.{What}
@@ -19,7 +16,7 @@ use Rattle.term_model.specs.declared.event.Event.{Event}
 use Rattle.term_model.specs.declared.objects.NamedObject.{NamedObject}
 use Rattle.term_model.specs.declared.reply.Reply.TheVariants.{Empty}
 use Rattle.term_model.proofs.ExampleNetwork.{element_oid}
-use Rattle.event_model.specs.Discriminators.{Target, event_targets, open_titles}
+use Rattle.event_model.specs.Discriminators.{Target, Titled, event_targets}
 use Rattle.event_model.specs.LogSelection.{event_logs}
 use Rattle.event_model.specs.SourceEvents.{events_of, granted_at}
 use Rattle.event_model.proofs.ExampleEvents.{class_id, discriminator, discriminator_part, discriminator_with}
@@ -29,16 +26,8 @@ use Rattle.event_model.proofs.ExampleEvents.{title, trouble}
 
 -- ---- associations
 
-abbrev association : ℕ → AssociationState → Association
-association n state = record { title = Some (title n); state = state; next_own = pos 1; placed = []; taken = 0 }
-
-abbrev associations : List Association
-associations = association 1 states.Live ∷ association 2 states.Live ∷ []
-
--- one that has finished, or was turned away, has no part in it
-titles_are_open : open_titles (association 1 states.Finished ∷ record (association 2 states.Live) { title = None }
-    ∷ association 3 states.Live ∷ association 4 states.Overrun ∷ []) ≡ (3, title 3) ∷ []
-titles_are_open = refl
+abbrev associations : List Titled
+associations = (1, title 1) ∷ (2, title 2) ∷ []
 
 -- ---- what happened, and its event
 

@@ -1,14 +1,11 @@
 -- To which associations an event is reported, and by which discriminators: X.734, section 8; docs/PROFILE.md, section
 -- 20. Each pair of a discriminator that passes the event and an association whose title is in its destination is one
 -- report.
-use Rattle.std.specs.Prelude.{ℕ, zero, suc, ◌+◌, List, [], ◌∷◌, ◌++◌, Bool, true, false, codes}
+use Rattle.std.specs.Prelude.{ℕ, zero, suc, List, [], Bool, true, false, codes}
 use Rattle.std.specs.Prelude.{filter, flat_map, map, if◌then◌else◌}
 use Rattle.std.specs.Option.{option_map_or}
 use Rattle.term_values.specs.Typed.{TypedValue}
 use Rattle.term_values.specs.Typed.TypedValue.{Identifier, Many, Pick}
-use Rattle.term_model.specs.declared.agent_state.Association.{Association}
-use Rattle.term_model.specs.declared.agent_state.AssociationState.{AssociationState}
-use Rattle.term_model.specs.declared.agent_state.AssociationState.TheVariants as states
 use Rattle.term_model.specs.declared.event.Event.{Event}
 use Rattle.term_model.specs.declared.name.Rdn.{Rdn}
 use Rattle.term_model.specs.declared.object.Attribute.{Attribute}
@@ -64,26 +61,7 @@ abbrev pub targets : Set → List NamedObject → List Titled → List Attribute
 targets schema objects titles attributes =
     flat_map (targets_by schema attributes titles) (discriminators schema objects)
 
--- the associations that were admitted and are neither finished nor closed, the first of which has this number
-abbrev pub is_live : AssociationState → Bool
-is_live states.Live = true
-is_live states.Finished = false
-is_live (states.Closed why) = false
-is_live states.Overrun = false
-
-abbrev pub titled : ℕ → Association → List Titled
-titled number association =
-    if is_live association.state then option_map_or (λ title. (number, title) ∷ []) association.title [] else []
-
-abbrev pub titles_from : ℕ → List Association → List Titled
-titles_from number [] = []
-titles_from number (association ∷ associations) =
-    titled number association ++ titles_from (number + 1) associations
-
-abbrev pub open_titles : List Association → List Titled
-open_titles associations = titles_from 1 associations
-
--- the targets of an event on the objects and the associations as they are
-abbrev pub event_targets : Set → List NamedObject → List Association → Event → List Target
-event_targets schema objects associations event =
-    targets schema objects (open_titles associations) (report_attributes schema event)
+-- the targets of an event on the objects as they are; the associations are those that were admitted and are neither
+-- finished nor closed, by rising number
+abbrev pub event_targets : Set → List NamedObject → List Titled → Event → List Target
+event_targets schema objects associations event = targets schema objects associations (report_attributes schema event)
