@@ -125,13 +125,27 @@ fn an_address_in_use_or_none_is_refused_and_counted(rt: HostRuntime) -> Result<(
     let (_post, address) = acceptor(&rt, alloc, 1, PATIENCE)?;
     let used = format!(in alloc; "{address}")?;
     let mut yard = TcpYard::new(&rt);
-    let mut faults = 0;
-    for text in [used.as_str(), "127.0.0.1", "127.0.0.1:65536", "no address"] {
-        let answer = yard.listen(alloc, text, 1, 1);
-        assert!(rt; matches!(answer, Err(YardRefusal::Failed)), "at {text}");
-        faults += 1;
-        assert_eq!(rt; yard.faults(), faults);
-    }
+    let in_use = yard.listen(alloc, used.as_str(), 1, 1);
+    assert!(rt;
+        matches!(in_use, Err(YardRefusal::Failed)),
+        "an address in use"
+    );
+    assert_eq!(rt; yard.faults(), 1);
+    let no_port = yard.listen(alloc, "127.0.0.1", 1, 1);
+    assert!(rt; matches!(no_port, Err(YardRefusal::Failed)), "no port");
+    assert_eq!(rt; yard.faults(), 2);
+    let great_port = yard.listen(alloc, "127.0.0.1:65536", 1, 1);
+    assert!(rt;
+        matches!(great_port, Err(YardRefusal::Failed)),
+        "a port past the last one"
+    );
+    assert_eq!(rt; yard.faults(), 3);
+    let no_address = yard.listen(alloc, "no address", 1, 1);
+    assert!(rt;
+        matches!(no_address, Err(YardRefusal::Failed)),
+        "no address"
+    );
+    assert_eq!(rt; yard.faults(), 4);
     Ok(())
 }
 
