@@ -32,6 +32,6 @@ returns-clause-watched g c first w =
     let known =
     subst (λ (p : Play). IsWatched first p.agent p.journal c.args.watch.now) (sym c.self.view_is) w in
     watched_at first (step agent next) c.commit.new.self (journal ++ next ∷ []) c.write_down.new.journal.items
-    c.count.new.self (c.in_ok-count.ensures first agent journal kept.counted refl known)
+    c.count.new.self (c.in_ok-count.ensures.watched first agent journal kept.counted refl known)
     c.in_ok-commit.ensures.stepped
     (c.write_down.ensures ∙ ap (λ xs. xs ++ next ∷ []) c.in_ok-make_room.ensures.kept)
