@@ -1,0 +1,3 @@
+pub mod JournalMaps
+pub mod JournalSound
+mod StandardFacts

@@ -1,0 +1,3 @@
+-- Locks along the agent's journal.
+pub mod JournalMaps
+pub mod JournalSound
