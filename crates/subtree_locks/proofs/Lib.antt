@@ -1,0 +1,4 @@
+pub mod Ends
+pub mod Tables
+pub mod Barring
+mod StandardFacts

@@ -1,0 +1,3 @@
+-- The lock table.
+pub mod LockRows
+pub mod Grants
