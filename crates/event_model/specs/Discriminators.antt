@@ -1,7 +1,7 @@
 -- To which associations an event is reported, and by which discriminators: X.734, section 8; docs/PROFILE.md, section
 -- 21. Each pair of a discriminator that passes the event and an association whose title is in its destination is one
 -- report.
-use Rattle.std.specs.Prelude.{ℕ, zero, suc, List, [], Bool, true, false, codes}
+use Rattle.std.specs.Prelude.{ℕ, zero, suc, List, [], Bool, false, codes}
 use Rattle.std.specs.Prelude.{filter, flat_map, map, if◌then◌else◌}
 use Rattle.std.specs.Option.{option_map_or}
 use Rattle.term_values.specs.Typed.{TypedValue}
