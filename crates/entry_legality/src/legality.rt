@@ -265,8 +265,8 @@ fn may_close_at(agent: &AgentState, number: u64, cause: Why) -> bool
 }
 
 /// Whether the entry may stand next in the journal of this agent, which is only read: the condition `legal` of the
-/// agent's steps can be tested by it. It takes no memory, and goes over the operations once at the most.
-/// Source: docs/PROFILE.md, section 7.
+/// agent's steps can be tested by it. It takes no memory, and goes over the operations once at the most, for an append
+/// that begins once for each record that waits. Source: docs/PROFILE.md, section 7.
 pub fn may_stand_next(agent: &AgentState, entry: &Entry) -> bool
     ensures { result ≡ is_legal agent.now entry.now }
 {
